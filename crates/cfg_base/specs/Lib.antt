@@ -1,0 +1,3 @@
+pub mod Order
+pub mod Kind
+pub mod Sound

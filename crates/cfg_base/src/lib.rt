@@ -1,0 +1,34 @@
+//! The words of the configuration service: bounded words, ordered paths, commands, users and moments.
+//!
+//! Guarantees: a word has at most 255 bytes and a path at most 16 steps; words, steps and paths have
+//! one total order, by bytes; a copy equals its source.
+//! Leaves to others: what a word means (`cfg_values`, `cfg_schema`), and what a command does
+//! (`config_core`).
+#![tactic(auto)]
+
+mod bytes;
+mod command;
+mod fault;
+mod kind;
+mod limits;
+mod moment;
+mod path;
+mod user;
+mod value;
+mod word;
+mod words;
+
+pub use bytes::Bytes;
+pub use command::{Command, Mode, Op};
+pub use fault::NoMemory;
+pub use kind::{Choice, Kind, Shape};
+pub use limits::Limits;
+pub use moment::{MOMENT_MAX, Moment};
+pub use path::{MAX_STEPS, Path, PathFault, Step};
+pub use user::{UserName, Users};
+pub use value::Value;
+pub use word::{MAX_BYTES, Word, WordFault};
+pub use words::Words;
+
+#[cfg(test)]
+mod tests;
