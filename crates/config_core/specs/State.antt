@@ -1,0 +1,27 @@
+-- The state of the machine between two events.
+use Rattle.std.specs.Prelude.{ℕ, List, map, Option, None}
+use Rattle.config_core.specs.declared.caller.Caller.{Caller}
+use Rattle.config_core.specs.Kept.{Kept, active_of}
+
+pub record State : Type 0 where
+  -- what the list of entries leaves
+  pub kept : Kept
+  -- the map that the sessions edit
+  pub candidate : Option (List ℕ)
+  -- the sessions, numbered from 1
+  pub callers : List Caller
+  -- the greatest moment of an event
+  pub greatest : ℕ
+
+-- a session that has not begun to edit
+abbrev pub operational : List ℕ → Caller
+operational user = record { user = user; mode = None }
+
+-- how the service starts over a kept value: everyone in operational mode, the candidate as the active map
+abbrev pub opening_of : Kept → List (List ℕ) → State
+opening_of kept users = record {
+  kept = kept;
+  candidate = active_of kept;
+  callers = map operational users;
+  greatest = kept.last.moment;
+}
