@@ -1,0 +1,5 @@
+use Rattle.std.proofs.Common.{length}
+use Rattle.shell_words.proofs.reader.+misfit.Given as goal
+
+abbrev pub decreases-misfit : goal.decreases-misfit
+decreases-misfit l = l.count
