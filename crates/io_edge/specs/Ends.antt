@@ -1,6 +1,6 @@
 -- What the ends of a session hold, have left and answer. The words are this project's own.
 -- Whether an end tells that is its own matter: a list in memory tells it, a file doesn't.
-use Rattle.std.specs.Prelude.{◌≡◌, ◌≤◌, ◌+◌, ◌-◌, ◌^◌, ℕ, List, [], ◌++◌, min, Option, None, Some, option_map}
+use Rattle.std.specs.Prelude.{◌≡◌, ◌≤◌, ◌<◌, length, ◌+◌, ◌-◌, ◌^◌, ℕ, List, [], ◌++◌, min, Option, None, Some, option_map}
 
 -- these bytes, and then what is told
 abbrev pub onto : List ℕ → Option (List ℕ) → Option (List ℕ)
@@ -14,6 +14,11 @@ behind told bytes = option_map (λ held. held ++ bytes) told
 abbrev pub IsUsedUp : Option (List ℕ) → Type 0
 IsUsedUp None = Unit {0}
 IsUsedUp (Some left) = left ≡ []
+
+-- a byte is left, where that is told
+abbrev pub HasMore : Option (List ℕ) → Type 0
+HasMore None = Unit {0}
+HasMore (Some left) = 0 < length left
 
 -- the last value of a count, at which it stands still
 abbrev pub last_count : ℕ
