@@ -1,0 +1,24 @@
+-- Bytes before and behind what is told, once and twice.
+use Rattle.std.proofs.Common.{◌≡◌, ◌≤◌, ◌+◌, ℕ, List, [], ◌++◌, take, drop, refl, ap, sym, ◌∙◌, append_assoc, Option, None, Some}
+use Rattle.std.proofs.lemmas.List.{append-nil}
+use Rattle.io_edge.specs.Ends.{onto, behind}
+
+-- no bytes before what is told
+pub onto-nothing : (told : Option (List ℕ)) → onto [] told ≡ told
+onto-nothing None = refl
+onto-nothing (Some left) = refl
+
+-- bytes before bytes before what is told
+pub onto-onto : (a b : List ℕ) (told : Option (List ℕ)) → onto a (onto b told) ≡ onto (a ++ b) told
+onto-onto a b None = refl
+onto-onto a b (Some left) = ap Some (sym (append_assoc a b left))
+
+-- no bytes behind what is told
+pub behind-nothing : (told : Option (List ℕ)) → behind told [] ≡ told
+behind-nothing None = refl
+behind-nothing (Some held) = ap Some (append-nil held)
+
+-- bytes behind bytes behind what is told
+pub behind-behind : (told : Option (List ℕ)) (a b : List ℕ) → behind (behind told a) b ≡ behind told (a ++ b)
+behind-behind None a b = refl
+behind-behind (Some held) a b = ap Some (append_assoc held a b)

@@ -1,0 +1,13 @@
+use Rattle.std.proofs.Common.{◌≡◌, ◌≤◌, ◌-◌, length, take}
+use Rattle.io_edge.specs.Ends.{behind}
+use Rattle.io_edge.proofs.writing.put_all.Given as goal
+
+abbrev pub invariant-pieces : goal.invariant-pieces
+invariant-pieces g l = record {
+  within : l.at ≤ length l.bytes;
+  written : g.K.Sink.held l.sink ≡ behind (g.K.Sink.held l.fn.sink) (take l.at l.bytes);
+  later : g.K.Sink.faults l.fn.sink ≤ g.K.Sink.faults l.sink;
+}
+
+abbrev pub decreases-pieces : goal.decreases-pieces
+decreases-pieces g l = length l.bytes - l.at

@@ -1,0 +1,10 @@
+pub mod Ends
+pub mod Taken
+pub mod Written
+pub mod Wrote
+pub mod Calls
+pub mod Forms
+pub mod Places
+pub mod Feed
+pub mod Line
+pub mod Reader

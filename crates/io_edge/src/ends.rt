@@ -1,0 +1,79 @@
+ghost use Rattle.std.specs.Prelude.{◌≡◌, ◌<◌, ◌≤◌, ℕ, List, Bool, Option, length};
+ghost use Rattle.io_edge.specs.Ends.{onto, behind, IsUsedUp, Rose, TakesAnswer};
+ghost use Rattle.io_edge.specs.Taken.{taken, TakesAtMost};
+ghost use Rattle.io_edge.specs.Written.{written, GivesAtMost};
+
+use cfg_base::Moment;
+
+/// What a read gave.
+#[derive(Clone, Copy, Debug, PartialEq, Eq)]
+pub enum Got {
+    /// So many bytes.
+    Bytes(usize),
+    /// Nothing is left.
+    End,
+    Failed,
+}
+
+/// What a write took.
+#[derive(Clone, Copy, Debug, PartialEq, Eq)]
+pub enum Put {
+    /// So many bytes.
+    Took(usize),
+    Failed,
+}
+
+/// What bytes are read from.
+pub trait Source {
+    // the bytes that are left, where they are told
+    ghost left: { Self → Option (List ℕ) };
+
+    // how many calls failed
+    ghost faults: { Self → ℕ };
+
+    /// Takes the next bytes, from one up to as many as fit.
+    fn read(&mut self, into: &mut [u8]) -> Got
+        requires { 0 < length into.old }
+        ensures count { TakesAtMost result (length into.old) }
+        // What was left is what was taken and what is left now: whether it is told is changed by no call.
+        ensures bytes { left self.old ≡ onto (taken result into.new) (left self.new) }
+        ensures end { result ≡ Got.End → IsUsedUp (left self.new) }
+        ensures later { faults self.old ≤ faults self.new }
+        ensures failed { result ≡ Got.Failed → Rose (faults self.old) (faults self.new) };
+}
+
+/// What bytes are written to.
+pub trait Sink {
+    // the bytes that it holds, where they are told
+    ghost held: { Self → Option (List ℕ) };
+
+    // how many calls failed
+    ghost faults: { Self → ℕ };
+
+    /// Appends the first bytes of the piece, one at least.
+    fn write(&mut self, piece: &[u8]) -> Put
+        requires { 0 < length piece.now }
+        ensures count { GivesAtMost result (length piece.now) }
+        // What it holds now is what it held and what was written.
+        ensures bytes { held self.new ≡ behind (held self.old) (written result piece.now) }
+        ensures later { faults self.old ≤ faults self.new }
+        ensures failed { result ≡ Put.Failed → Rose (faults self.old) (faults self.new) };
+}
+
+/// What tells the time.
+pub trait Clock {
+    // the answers to come, by their number from 0, where they are told
+    ghost coming: { Self → Option (ℕ → ℕ) };
+
+    fn now(&mut self) -> Moment
+        ensures { TakesAnswer (coming self.old) (coming self.new) result };
+}
+
+/// What tells whether another tick is due.
+pub trait Beat {
+    // the answers to come, by their number from 0, where they are told
+    ghost coming: { Self → Option (ℕ → Bool) };
+
+    fn beat(&mut self) -> bool
+        ensures { TakesAnswer (coming self.old) (coming self.new) result };
+}

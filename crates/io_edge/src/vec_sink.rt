@@ -1,0 +1,77 @@
+ghost use Rattle.std.specs.Prelude.{Some, ◌≡◌, ◌<◌, ◌≤◌, ◌^◌, [], length, IfOk};
+ghost use Rattle.io_edge.specs.Ends.{behind, Rose};
+ghost use Rattle.io_edge.specs.Written.{written, GivesAtMost};
+
+use crate::calls::Calls;
+use crate::ends::{Put, Sink};
+use cfg_base::NoMemory;
+use std::alloc::Global;
+use std::marker::Model;
+
+/// A sink in memory, of a stated room. A write takes what fits.
+#[derive(Debug, Drop)]
+pub struct VecSink {
+    bytes: Vec<u8>,
+    room: usize,
+    calls: Calls,
+}
+
+impl Model for VecSink {
+    ghost use Rattle.std.specs.Prelude.{◌+◌, ◌≤◌, vec_len};
+    ghost use Rattle.std.specs.Vec.{vec_capacity};
+    ghost use Rattle.io_edge.specs.Forms.{KeptSink};
+
+    ghost Value = { KeptSink };
+
+    ghost view = { λ s. record { held = s.bytes.items; room = s.room; calls = s.calls } };
+
+    ghost invariant = { λ s. vec_len s.bytes + s.room ≤ vec_capacity s.bytes };
+}
+
+impl VecSink {
+    /// A sink with room for so many bytes, of whose writes those of these numbers, counted from 1, fail.
+    pub fn new(alloc: Global, room: u64, failing: Vec<u64>) -> Result<VecSink, NoMemory>
+        ensures held { IfOk result (λ sink. sink.held ≡ []) }
+        ensures room { IfOk result (λ sink. sink.room ≡ room) }
+        ensures calls { IfOk result (λ sink. sink.calls ≡ record { failing = failing.items; made = 0; faults = 0 }) }
+    {
+        let room = room as usize;
+        Ok(VecSink {
+            bytes: Vec::with_capacity(alloc, room)?,
+            room,
+            calls: Calls::new(failing),
+        })
+    }
+
+    /// The bytes that were written.
+    pub fn contents(&self) -> &[u8]
+        ensures { result.now ≡ self.now.held }
+    {
+        &self.bytes
+    }
+}
+
+impl Sink for VecSink {
+    ghost held = { λ s. Some s.held };
+
+    ghost faults = { λ s. s.calls.faults };
+
+    fn write(&mut self, piece: &[u8]) -> Put {
+        if self.calls.fails() {
+            return Put::Failed;
+        }
+        if self.room == 0 {
+            self.calls.fault();
+            return Put::Failed;
+        }
+        let count = self.room.min(piece.len());
+        let (fits, _) = piece.split_at(count);
+        match self.bytes.extend_from_slice(fits) {
+            Ok(()) => {
+                self.room -= count;
+                Put::Took(count)
+            }
+            Err(_) => unreachable!(),
+        }
+    }
+}
