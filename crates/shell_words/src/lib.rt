@@ -5,7 +5,9 @@
 //! Leaves to others: how input is cut into lines (`io_edge`), and what a command does (`config_core`).
 #![tactic(auto)]
 
+mod plain;
 mod reader;
 mod token;
 
+pub use plain::is_plain;
 pub use reader::{ReadFault, read_line};

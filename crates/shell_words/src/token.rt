@@ -19,7 +19,7 @@ fn is_blank(byte: u8) -> bool
 }
 
 #[tactic(auto, unfolding(crate::specs::Line::is_bare))]
-fn is_bare(byte: u8) -> bool
+pub(crate) fn is_bare(byte: u8) -> bool
     ensures { result ≡ is_bare byte }
 {
     matches!(byte, 0x21..=0x7E)

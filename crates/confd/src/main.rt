@@ -1,0 +1,6 @@
+//! The configuration service.
+#![tactic(auto)]
+
+mod writing;
+
+fn main(_rt: HostRuntime) {}

@@ -1,0 +1,43 @@
+-- The items of an input: what its lines ask, each line read in the mode in which the replies before it leave the session.
+use Rattle.std.specs.Prelude.{◌≡◌, ℕ, List, [], ◌∷◌, ◌++◌, map, Bool, true, false, Option, None, Some, Result, Ok, Err}
+use Rattle.cfg_base.specs.declared.command.Command.{Command}
+use Rattle.io_edge.specs.declared.lines.Line.{Line}
+use Rattle.io_edge.specs.declared.lines.Line.TheVariants.{Text, TooLong, End, Failed, InputFull}
+use Rattle.shell_words.specs.Reading.{reading}
+use Rattle.session_history.specs.declared.turn.ShellFault.TheVariants.{Syntax, LineTooLong}
+use Rattle.session_history.specs.declared.turn.Stance.{Stance}
+use Rattle.session_history.specs.declared.turn.Stance.TheVariants.{Operational, Configuring, Out}
+use Rattle.session_history.specs.Told.{Item, Ask, Wrong, Told, item_of, stance_after}
+
+abbrev pub is_configuring : Stance → Bool
+is_configuring Operational = false
+is_configuring Configuring = true
+is_configuring Out = false
+
+-- what was read of a line as an item: a line that asks nothing is none
+abbrev pub item_read : Result (Option Command) ℕ → Option Item
+item_read (Ok None) = None
+item_read (Ok (Some command)) = Some (Ask command)
+item_read (Err place) = Some (Wrong (Syntax place))
+
+-- the item that a line is for a session that stands so
+abbrev pub item_at : Stance → Line → Option Item
+item_at stance (Text line) = item_read (reading (is_configuring stance) line)
+item_at stance TooLong = Some (Wrong LineTooLong)
+item_at stance End = None
+item_at stance Failed = None
+item_at stance InputFull = None
+
+-- a line that is an item came to the first of what is told, and the session goes on after it; one that is none came to nothing
+abbrev pub GoesOn : (Stance → List Told → Type 0) → Stance → Option Item → List Told → Type 0
+GoesOn Rest stance None told = Rest stance told
+GoesOn Rest stance (Some item) [] = ⊥
+GoesOn Rest stance (Some item) (first ∷ told) = (item_of first ≡ item) × Rest (stance_after stance first) told
+
+-- these lines are the items of what is told, in order, and lead a session from the first stance to the last; nothing is read
+-- after the `exit` that logs out
+abbrev pub ReadsAs : List Line → Stance → List Told → Stance → Type 0
+ReadsAs [] stance told last = (told ≡ []) × (last ≡ stance)
+ReadsAs (line ∷ lines) Operational told last = GoesOn (λ next rest. ReadsAs lines next rest last) Operational (item_at Operational line) told
+ReadsAs (line ∷ lines) Configuring told last = GoesOn (λ next rest. ReadsAs lines next rest last) Configuring (item_at Configuring line) told
+ReadsAs (line ∷ lines) Out told last = ⊥

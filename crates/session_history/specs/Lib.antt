@@ -1,0 +1,5 @@
+pub mod Events
+pub mod Texts
+pub mod Told
+pub mod Items
+pub mod Session

@@ -1,0 +1,33 @@
+use cfg_base::{Moment, Users};
+use config_core::{Event, Ledger, Outcome};
+
+/// How often each of the two disks was called to write or to sync.
+#[derive(Clone, Copy, Debug, PartialEq, Eq)]
+pub struct Calls {
+    pub a: u64,
+    pub b: u64,
+}
+
+/// One event as the machine took it.
+#[derive(Clone, Debug, Drop, PartialEq, Eq)]
+pub struct Happened {
+    /// Whose event it is; sessions are numbered from 1.
+    pub caller: u32,
+    pub moment: Moment,
+    pub event: Event,
+    pub outcome: Outcome,
+    /// The calls that were made of the disks up to this event.
+    pub calls: Calls,
+}
+
+/// All that happened in a run, in order.
+#[derive(Debug, Drop)]
+pub struct History {
+    /// The list of entries over which the run began; none where it did not begin.
+    pub opening: Option<Ledger>,
+    /// The users of callers 1, 2 and so on.
+    pub users: Users,
+    /// The calls that were made of the disks in all.
+    pub made: Calls,
+    pub events: Vec<Happened>,
+}

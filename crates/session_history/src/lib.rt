@@ -1,0 +1,12 @@
+//! What happened in a run: the events, the turns of each session, and the texts that stand for them.
+//!
+//! Guarantees: none of its own: it holds the types and the definitions that the theorem of a run is stated in.
+//! In order of reading: specs/Events.antt, specs/Texts.antt, specs/Told.antt, specs/Items.antt, specs/Session.antt.
+//! Leaves to others: that they hold of a run (`confd`).
+#![tactic(auto)]
+
+mod history;
+mod turn;
+
+pub use history::{Calls, Happened, History};
+pub use turn::{How, ShellFault, Stance, Turn, TurnList};

@@ -1,0 +1,75 @@
+ghost use Rattle.std.specs.Prelude.{◌≡◌};
+
+use std::marker::Model;
+
+/// Why a line was refused without a turn of the machine.
+#[derive(Clone, Copy, Debug, PartialEq, Eq)]
+pub enum ShellFault {
+    /// It is no command: its first token that doesn't fit stands at that byte, or it ends there too early.
+    Syntax(u32),
+    /// It has more than 4,096 bytes.
+    LineTooLong,
+}
+
+/// What one item of a session's input came to.
+#[derive(Clone, Copy, Debug, PartialEq, Eq)]
+pub enum Turn {
+    /// The event at that place of the history, counted from 0.
+    Kept(u64),
+    /// The line was refused.
+    Local(ShellFault),
+    /// Memory was wanting, and nothing happened.
+    NoMemory,
+}
+
+/// How a session ended.
+#[derive(Clone, Copy, Debug, PartialEq, Eq)]
+pub enum How {
+    /// Its input was read to its end, or to the `exit` that logs out.
+    Clean,
+    SourceFault,
+    SinkFault,
+    /// Its input has more bytes than it may have.
+    InputFull,
+    NoMemory,
+}
+
+/// Where a session stands: in operational mode, in configuration mode, or logged out.
+#[derive(Clone, Copy, Debug, PartialEq, Eq)]
+pub enum Stance {
+    Operational,
+    Configuring,
+    Out,
+}
+
+/// The turns of a session, in order.
+#[derive(Debug, Drop)]
+pub struct TurnList {
+    turns: Vec<Turn>,
+}
+
+impl Model for TurnList {
+    ghost use Rattle.std.specs.Prelude.{List};
+    ghost use Rattle.session_history.specs.declared.turn.Turn.{Turn};
+
+    ghost Value = { List Turn };
+
+    ghost view = { λ t. t.turns.items };
+}
+
+impl TurnList {
+    /// The turns, in order.
+    pub fn as_slice(&self) -> &[Turn]
+        ensures { result.now ≡ self.now }
+    {
+        &self.turns
+    }
+}
+
+impl From<Vec<Turn>> for TurnList {
+    ghost from_gives = { λ source turns. turns ≡ source.items };
+
+    fn from(turns: Vec<Turn>) -> TurnList {
+        TurnList { turns }
+    }
+}
