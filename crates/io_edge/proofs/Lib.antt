@@ -1,3 +1,5 @@
 pub mod EndLemmas
 pub mod WroteLemmas
 mod PlaceLemmas
+pub mod LineLemmas
+mod ReaderLemmas
