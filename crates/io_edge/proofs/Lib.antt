@@ -3,3 +3,4 @@ pub mod WroteLemmas
 mod PlaceLemmas
 pub mod LineLemmas
 mod ReaderLemmas
+pub mod UniqueLemmas

@@ -72,21 +72,40 @@ fn lines_end_at_lf_or_at_the_end_within_the_limit(rt: HostRuntime) -> Result<(),
     Ok(())
 }
 
+/// A reader of this line and its end gives the line.
+fn keeps(rt: &impl Abort, alloc: Global, line: &[u8], end: &[u8]) -> Result<(), Fail> {
+    gives(
+        rt,
+        alloc,
+        source(alloc, &[line, end], &[])?,
+        5000,
+        &[line],
+        &Line::End,
+    )
+}
+
+/// A reader of this line and its end tells that it is too long.
+fn skips(rt: &impl Abort, alloc: Global, line: &[u8], end: &[u8]) -> Result<(), Fail> {
+    gives(
+        rt,
+        alloc,
+        source(alloc, &[line, end], &[])?,
+        5000,
+        &[],
+        &Line::TooLong,
+    )
+}
+
 #[test]
 fn line_of_4097_bytes_is_too_long(rt: HostRuntime) -> Result<(), Fail> {
     let alloc = rt.alloc();
     let long = vec![in alloc; b'x'; 4097]?;
-    let kept: [(usize, &[u8]); 3] = [(4096, b"\n"), (4095, b"\r\n"), (4096, b"")];
-    for (count, end) in kept {
-        let source = source(alloc, &[&long[..count], end], &[])?;
-        gives(&rt, alloc, source, 5000, &[&long[..count]], &Line::End)?;
-    }
-    let skipped: [(usize, &[u8]); 3] = [(4097, b"\n"), (4096, b"\r\n"), (4097, b"")];
-    for (count, end) in skipped {
-        let source = source(alloc, &[&long[..count], end], &[])?;
-        gives(&rt, alloc, source, 5000, &[], &Line::TooLong)?;
-    }
-    Ok(())
+    keeps(&rt, alloc, &long[..4096], b"\n")?;
+    skips(&rt, alloc, &long, b"\n")?;
+    keeps(&rt, alloc, &long[..4095], b"\r\n")?;
+    skips(&rt, alloc, &long[..4096], b"\r\n")?;
+    keeps(&rt, alloc, &long[..4096], b"")?;
+    skips(&rt, alloc, &long, b"")
 }
 
 #[test]
