@@ -1,6 +1,6 @@
 -- The ends in memory. Their forms are this project's own.
-use Rattle.std.specs.Prelude.{◌≡◌, ◌+◌, ◌-◌, ℕ, List, min, length, slice_index, slice_index_or, Bool, false}
-use Rattle.io_edge.specs.Calls.{Calls}
+use Rattle.std.specs.Prelude.{◌≡◌, ◌+◌, ◌-◌, ℕ, List, min, length, slice_index, slice_index_or, Bool, false, true, ◌⊎◌}
+use Rattle.io_edge.specs.Calls.{Calls, is_next_failing}
 
 -- a source in memory: the bytes that are left, and its calls
 pub record ListedSource : Type 0 where
@@ -12,6 +12,10 @@ pub record KeptSink : Type 0 where
   pub held : List ℕ
   pub room : ℕ
   pub calls : Calls
+
+-- the next write to it fails: its number is one of those that are to fail, or there is no room
+abbrev pub IsRefused : KeptSink → Type 0
+IsRefused sink = (is_next_failing sink.calls ≡ true) ⊎ (sink.room ≡ 0)
 
 -- the answer of a clock at a place of its list: past the list the last one, and 0 of an empty list
 abbrev pub moment_at : List ℕ → ℕ → ℕ

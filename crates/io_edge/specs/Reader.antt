@@ -1,11 +1,11 @@
 -- How a line reader goes over its bytes, step by step.
-use Rattle.std.specs.Prelude.{◌≡◌, ◌≢◌, ◌<◌, ◌≤◌, ◌+◌, ℕ, List, [], ◌∷◌, length, take, nat_lt, if◌then◌else◌}
+use Rattle.std.specs.Prelude.{◌≡◌, ◌≢◌, ◌<◌, ◌≤◌, ◌+◌, ℕ, List, [], ◌∷◌, length, take, ◌==◌, if◌then◌else◌}
 use Rattle.io_edge.specs.Ends.{onto, IsUsedUp, HasMore, Rose}
 use Rattle.io_edge.specs.Feed.{Feed}
-use Rattle.io_edge.specs.Line.{HasNoLf, without_cr}
-use Rattle.io_edge.specs.declared.lines.TheConstants.{MAX_LINE}
+use Rattle.io_edge.specs.Line.{HasNoLf, line_of, last_line_of}
 use Rattle.io_edge.specs.declared.lines.Line.{Line}
-use Rattle.io_edge.specs.declared.lines.Line.TheVariants.{Text, TooLong}
+use Rattle.io_edge.specs.declared.lines.Line.TheVariants.{InputFull, End as AtEnd, Failed as AtFault}
+use Rattle.io_edge.specs.declared.lines.TheConstants.{MAX_LINE}
 use Rattle.io_edge.specs.declared.lines.Filled.{Filled}
 use Rattle.io_edge.specs.declared.lines.Filled.TheVariants.{Ready, Out, Broken}
 use Rattle.io_edge.specs.declared.lines.Taken.{Taken}
@@ -42,27 +42,37 @@ abbrev pub Takes : Taken → Feed → Feed → Type 0
 Takes (Byte byte) old now = (byte ≢ 10) × TakesByte byte old now
 Takes (stop_of stop) old now = Stops stop old now
 
--- a part of a line was taken: its first bytes are kept, and all are counted
-pub record Gathered (kept : List ℕ) (count : ℕ) (old now : Feed) : Type 0 where
+-- what a byte is that was taken: one of the line, or its LF
+abbrev pub IsTakenAs : Taken → ℕ → Type 0
+IsTakenAs (Byte taken) byte = (taken ≡ byte) × (byte ≢ 10)
+IsTakenAs (stop_of Lf) byte = byte ≡ 10
+IsTakenAs (stop_of End) byte = ⊥
+IsTakenAs (stop_of Full) byte = ⊥
+IsTakenAs (stop_of Failed) byte = ⊥
+
+-- a part of a line was taken, of which the first bytes are kept: one more than a line may have
+pub record Gathered (kept : List ℕ) (old now : Feed) : Type 0 where
   pub part : List ℕ
   pub no_lf : HasNoLf part
   pub bytes : old.left ≡ onto part now.left
   pub room : old.room ≡ length part + now.room
-  pub is_kept : kept ≡ take MAX_LINE part
-  pub is_count : count ≡ length part
+  pub is_kept : kept ≡ take (MAX_LINE + 1) part
   pub later : old.faults ≤ now.faults
 
 -- a line, or a part of one, was taken up to its stop
-pub record GathersTo (stop : Stop) (kept : List ℕ) (count : ℕ) (old now : Feed) : Type 0 where
+pub record GathersTo (stop : Stop) (kept : List ℕ) (old now : Feed) : Type 0 where
   pub mid : Feed
-  pub gathered : Gathered kept count old mid
+  pub gathered : Gathered kept old mid
   pub stops : Stops stop mid now
   pub later : mid.faults ≤ now.faults
 
--- the answer for a line of so many bytes that an LF ends, by its first bytes
-abbrev pub line_of_kept : List ℕ → ℕ → Line
-line_of_kept kept count = if nat_lt MAX_LINE count then TooLong else Text (without_cr kept)
+-- the answer at the end of the input, after these bytes
+abbrev pub end_of : List ℕ → Line
+end_of line = if length line == 0 then AtEnd else last_line_of line
 
--- the answer for a line of so many bytes that the end of the input ends, by its first bytes
-abbrev pub last_line_of_kept : List ℕ → ℕ → Line
-last_line_of_kept kept count = if nat_lt MAX_LINE count then TooLong else Text kept
+-- the answer for the bytes of a line up to its stop
+abbrev pub answer_of : Stop → List ℕ → Line
+answer_of Lf line = line_of line
+answer_of End line = end_of line
+answer_of Full line = InputFull
+answer_of Failed line = AtFault

@@ -19,7 +19,8 @@ pub struct StdSource<R: Read + Drop> {
 impl<R: Read + Drop> StdSource<R> {
     /// A source of what the reader gives.
     pub fn new(reader: R) -> StdSource<R>
-        ensures { ⟦<StdSource<R> as Source>⟧.faults result ≡ 0 }
+        ensures left { ⟦<StdSource<R> as Source>⟧.left result ≡ None }
+        ensures faults { ⟦<StdSource<R> as Source>⟧.faults result ≡ 0 }
     {
         StdSource { reader, faults: 0 }
     }
@@ -57,7 +58,8 @@ pub struct StdSink<W: Write + Drop> {
 impl<W: Write + Drop> StdSink<W> {
     /// A sink into the writer.
     pub fn new(writer: W) -> StdSink<W>
-        ensures { ⟦<StdSink<W> as Sink>⟧.faults result ≡ 0 }
+        ensures held { ⟦<StdSink<W> as Sink>⟧.held result ≡ None }
+        ensures faults { ⟦<StdSink<W> as Sink>⟧.faults result ≡ 0 }
     {
         StdSink { writer, faults: 0 }
     }
@@ -122,7 +124,9 @@ pub struct StdClock<R: std::rt::Clock + Drop> {
 
 impl<R: std::rt::Clock + Drop> StdClock<R> {
     /// A clock that asks this one.
-    pub fn new(clock: R) -> StdClock<R> {
+    pub fn new(clock: R) -> StdClock<R>
+        ensures { ⟦<StdClock<R> as Clock>⟧.coming result ≡ None }
+    {
         StdClock {
             clock,
             last: Moment::of(0),
@@ -155,7 +159,9 @@ pub struct SleepBeat<R: std::rt::Clock + Drop> {
 
 impl<R: std::rt::Clock + Drop> SleepBeat<R> {
     /// A beat that sleeps by this clock.
-    pub fn new(clock: R) -> SleepBeat<R> {
+    pub fn new(clock: R) -> SleepBeat<R>
+        ensures { ⟦<SleepBeat<R> as Beat>⟧.coming result ≡ None }
+    {
         SleepBeat { clock }
     }
 }

@@ -25,3 +25,6 @@ pub use lines::{Line, Lines, MAX_LINE};
 pub use list_source::ListSource;
 pub use vec_sink::VecSink;
 pub use writing::{PutFailed, put_all};
+
+#[cfg(test)]
+mod tests;

@@ -1,9 +1,9 @@
 ghost use Rattle.std.specs.Prelude.{◌≡◌, ◌<◌, ◌≤◌, ◌↔◌, ℕ, List, ◌-◌, ◌+◌, [], ◌∷◌, min, max, length, take, drop, IfOk, OnErr, Ok, ◌++◌, vec_len, vec_capacity};
 ghost use Rattle.io_edge.specs.Ends.{onto, IsUsedUp, Rose};
 ghost use Rattle.io_edge.specs.Taken.{taken, TakesAtMost};
-ghost use Rattle.io_edge.specs.Reader.{IsFilled, Takes, GathersTo, line_of_kept, last_line_of_kept};
-ghost use Rattle.io_edge.specs.declared.lines.TheConstants.{MAX_LINE};
-ghost use Rattle.io_edge.specs.Line.{GivesLine, Falls, without_cr};
+ghost use Rattle.io_edge.specs.Reader.{IsFilled, IsTakenAs, Takes, GathersTo, end_of, answer_of};
+ghost use Rattle.io_edge.specs.declared.lines.TheConstants.{MAX_LINE, KEPT};
+ghost use Rattle.io_edge.specs.Line.{GivesLine, Falls, without_cr, line_of, last_line_of};
 
 use crate::ends::{Got, Source};
 use cfg_base::{Bytes, Limits, NoMemory};
@@ -12,6 +12,9 @@ use std::marker::Model;
 
 /// The most bytes that a line has without its LF.
 pub const MAX_LINE: usize = 4096;
+
+/// How many bytes of a line are kept: as many as it may have, and one that tells that it is too long.
+const KEPT: usize = MAX_LINE + 1;
 
 const LF: u8 = b'\n';
 
@@ -58,12 +61,6 @@ enum Taken {
     Stop(Stop),
 }
 
-/// How many bytes a line has before its stop.
-struct Gathered {
-    count: u64,
-    stop: Stop,
-}
-
 /// The lines of a source, of which no more bytes are taken than the limit.
 #[derive(Debug, Drop)]
 pub struct Lines<S: Source> {
@@ -76,18 +73,12 @@ pub struct Lines<S: Source> {
 }
 
 impl<S: Source> Model for Lines<S> {
-    ghost use Rattle.std.specs.Prelude.{◌≤◌, ◌-◌, take, drop, max};
-    ghost use Rattle.io_edge.specs.Ends.{onto};
-    ghost use Rattle.io_edge.specs.Feed.{Feed};
+    ghost use Rattle.std.specs.Prelude.{◌≤◌, ◌-◌, max};
+    ghost use Rattle.io_edge.specs.Feed.{Feed, feed_of};
 
     ghost Value = { Feed };
 
-    ghost view = { λ l. record {
-      left = onto (take (l.to - l.from) (drop l.from l.chunk)) (S.left l.source);
-      room = l.room;
-      ahead = l.to - l.from;
-      faults = S.faults l.source;
-    } };
+    ghost view = { λ l. feed_of l.chunk l.from l.to l.room (S.left l.source) (S.faults l.source) };
 
     ghost invariant = { λ l. (l.from ≤ l.to) × (l.to ≤ 256) × (l.to - l.from ≤ max l.room 1) };
 }
@@ -112,15 +103,15 @@ fn ask_size(room: u64) -> usize
     (room.min(256) as usize).max(1)
 }
 
-/// Puts a byte behind those that are kept, where fewer than `MAX_LINE` are.
+/// Puts a byte behind those that are kept, where there is room for it.
 fn keep(kept: &mut Vec<u8>, byte: u8)
-    requires within { vec_len kept.old ≤ MAX_LINE }
-    requires room { MAX_LINE ≤ vec_capacity kept.old }
-    ensures items { kept.new.items ≡ take MAX_LINE (kept.old.items ++ byte ∷ []) }
-    ensures within { vec_len kept.new ≤ MAX_LINE }
-    ensures room { MAX_LINE ≤ vec_capacity kept.new }
+    requires within { vec_len kept.old ≤ KEPT }
+    requires room { KEPT ≤ vec_capacity kept.old }
+    ensures items { kept.new.items ≡ take KEPT (kept.old.items ++ byte ∷ []) }
+    ensures within { vec_len kept.new ≤ KEPT }
+    ensures room { KEPT ≤ vec_capacity kept.new }
 {
-    if kept.len() < MAX_LINE {
+    if kept.len() < KEPT {
         kept.push_reserved(byte);
     }
 }
@@ -135,25 +126,59 @@ fn without_cr(mut line: Vec<u8>) -> Bytes
     Bytes::from(line)
 }
 
-/// The answer for a line of so many bytes that an LF ends, by its first bytes.
-fn line_of(kept: Vec<u8>, count: u64) -> Line
-    ensures { result ≡ line_of_kept kept.items count }
+/// The answer for a line that an LF ends.
+fn line_of(line: Vec<u8>) -> Line
+    ensures { result ≡ line_of line.items }
 {
-    if count > MAX_LINE as u64 {
+    if line.len() > MAX_LINE {
         Line::TooLong
     } else {
-        Line::Text(without_cr(kept))
+        Line::Text(without_cr(line))
     }
 }
 
-/// The answer for a line of so many bytes that the end of the input ends, by its first bytes.
-fn last_line_of(kept: Vec<u8>, count: u64) -> Line
-    ensures { result ≡ last_line_of_kept kept.items count }
+/// The answer for a line that the end of the input ends.
+fn last_line_of(line: Vec<u8>) -> Line
+    ensures { result ≡ last_line_of line.items }
 {
-    if count > MAX_LINE as u64 {
+    if line.len() > MAX_LINE {
         Line::TooLong
     } else {
-        Line::Text(Bytes::from(kept))
+        Line::Text(Bytes::from(line))
+    }
+}
+
+/// The answer at the end of the input, after these bytes.
+fn end_of(line: Vec<u8>) -> Line
+    ensures { result ≡ end_of line.items }
+{
+    if line.is_empty() {
+        Line::End
+    } else {
+        last_line_of(line)
+    }
+}
+
+/// The answer for the bytes of a line up to its stop.
+fn answer_of(stop: Stop, line: Vec<u8>) -> Line
+    ensures { result ≡ answer_of stop line.items }
+{
+    match stop {
+        Stop::Lf => line_of(line),
+        Stop::End => end_of(line),
+        Stop::Full => Line::InputFull,
+        Stop::Failed => Line::Failed,
+    }
+}
+
+/// What a byte is that was taken: one of the line, or its LF.
+fn taken_as(byte: u8) -> Taken
+    ensures { IsTakenAs result byte }
+{
+    if byte == LF {
+        Taken::Stop(Stop::Lf)
+    } else {
+        Taken::Byte(byte)
     }
 }
 
@@ -193,31 +218,21 @@ impl<S: Source> Lines<S> {
         ensures later { self.old.faults ≤ self.new.faults }
         ensures failed { result ≡ Ok Line.Failed → Rose self.old.faults self.new.faults }
     {
-        let mut kept = Vec::with_capacity(self.alloc, MAX_LINE)?;
-        let Gathered { count, stop } = self.gather(&mut kept);
-        Ok(match stop {
-            Stop::Lf => line_of(kept, count),
-            Stop::End if count == 0 => Line::End,
-            Stop::End => last_line_of(kept, count),
-            Stop::Full => Line::InputFull,
-            Stop::Failed => Line::Failed,
-        })
+        let mut kept = Vec::with_capacity(self.alloc, KEPT)?;
+        let stop = self.gather(&mut kept);
+        Ok(answer_of(stop, kept))
     }
 
-    /// Takes the bytes of a line up to its stop, keeps its first ones and counts them all.
-    fn gather(&mut self, kept: &mut Vec<u8>) -> Gathered
+    /// Takes the bytes of a line up to its stop, and keeps as many as a line may have and one more.
+    fn gather(&mut self, kept: &mut Vec<u8>) -> Stop
         requires empty { kept.old.items ≡ [] }
-        requires room { MAX_LINE ≤ vec_capacity kept.old }
-        ensures { GathersTo result.stop kept.new.items result.count self.old self.new }
+        requires room { KEPT ≤ vec_capacity kept.old }
+        ensures { GathersTo result kept.new.items self.old self.new }
     {
-        let mut count = 0;
         'bytes: loop {
             match self.take_byte() {
-                Taken::Byte(byte) => {
-                    keep(kept, byte);
-                    count += 1;
-                }
-                Taken::Stop(stop) => return Gathered { count, stop },
+                Taken::Byte(byte) => keep(kept, byte),
+                Taken::Stop(stop) => return stop,
             }
         }
     }
@@ -246,11 +261,7 @@ impl<S: Source> Lines<S> {
         let byte = self.chunk[self.from];
         self.from += 1;
         self.room -= 1;
-        if byte == LF {
-            Taken::Stop(Stop::Lf)
-        } else {
-            Taken::Byte(byte)
-        }
+        taken_as(byte)
     }
 
     /// Reads ahead where no byte is ahead.

@@ -1,4 +1,4 @@
-ghost use Rattle.std.specs.Prelude.{Some, ◌≡◌, ◌<◌, ◌≤◌, ◌↔◌, [], length, take, drop, min, slice_index_or, IsTrue};
+ghost use Rattle.std.specs.Prelude.{Some, ◌≡◌, ◌<◌, ◌≤◌, ◌↔◌, [], length, take, drop, min, slice_index_or, true};
 ghost use Rattle.std.specs.List.{concat};
 ghost use Rattle.io_edge.specs.Ends.{onto, IsUsedUp, Rose};
 ghost use Rattle.io_edge.specs.Taken.{taken, TakesAtMost};
@@ -86,7 +86,17 @@ impl Source for ListSource {
 
     ghost faults = { λ s. s.calls.faults };
 
-    fn read(&mut self, into: &mut [u8]) -> Got {
+    fn read(&mut self, into: &mut [u8]) -> Got
+        requires { 0 < length into.old }
+        ensures count { TakesAtMost result (length into.old) }
+        ensures bytes { Some self.old.left ≡ onto (taken result into.new) (Some self.new.left) }
+        ensures end { result ≡ Got.End → IsUsedUp (Some self.new.left) }
+        ensures later { self.old.calls.faults ≤ self.new.calls.faults }
+        ensures failed { result ≡ Got.Failed → Rose self.old.calls.faults self.new.calls.faults }
+        // Only the calls of the stated numbers fail.
+        ensures fails { result ≡ Got.Failed ↔ (is_next_failing self.old.calls ≡ true) }
+        ensures calls { self.new.calls ≡ with_call self.old.calls }
+    {
         if self.calls.fails() {
             return Got::Failed;
         }

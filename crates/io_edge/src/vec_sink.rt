@@ -1,6 +1,8 @@
-ghost use Rattle.std.specs.Prelude.{Some, ◌≡◌, ◌<◌, ◌≤◌, ◌^◌, [], length, IfOk};
+ghost use Rattle.std.specs.Prelude.{Some, ◌≡◌, ◌<◌, ◌≤◌, ◌↔◌, ◌+◌, [], length, IfOk};
 ghost use Rattle.io_edge.specs.Ends.{behind, Rose};
-ghost use Rattle.io_edge.specs.Written.{written, GivesAtMost};
+ghost use Rattle.io_edge.specs.Written.{written, GivesAtMost, TakesWhatFits};
+ghost use Rattle.io_edge.specs.Calls.{next_count};
+ghost use Rattle.io_edge.specs.Forms.{IsRefused};
 
 use crate::calls::Calls;
 use crate::ends::{Put, Sink};
@@ -56,7 +58,19 @@ impl Sink for VecSink {
 
     ghost faults = { λ s. s.calls.faults };
 
-    fn write(&mut self, piece: &[u8]) -> Put {
+    fn write(&mut self, piece: &[u8]) -> Put
+        requires { 0 < length piece.now }
+        ensures count { GivesAtMost result (length piece.now) }
+        ensures bytes { Some self.new.held ≡ behind (Some self.old.held) (written result piece.now) }
+        ensures later { self.old.calls.faults ≤ self.new.calls.faults }
+        ensures failed { result ≡ Put.Failed → Rose self.old.calls.faults self.new.calls.faults }
+        // Only the calls of the stated numbers fail, and those for which there is no room.
+        ensures fails { result ≡ Put.Failed ↔ IsRefused self.old }
+        ensures fits { TakesWhatFits result self.old.room (length piece.now) }
+        ensures room { self.old.room ≡ length (written result piece.now) + self.new.room }
+        ensures made { self.new.calls.made ≡ next_count self.old.calls.made }
+        ensures failing { self.new.calls.failing ≡ self.old.calls.failing }
+    {
         if self.calls.fails() {
             return Put::Failed;
         }
