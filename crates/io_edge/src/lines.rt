@@ -217,6 +217,8 @@ impl<S: Source> Lines<S> {
         ensures falls { IfOk result (λ line. Falls line self.old.room self.new.room) }
         ensures later { self.old.faults ≤ self.new.faults }
         ensures failed { result ≡ Ok Line.Failed → Rose self.old.faults self.new.faults }
+        // A source that failed left nothing that was read and not yet taken.
+        ensures none_ahead { result ≡ Ok Line.Failed → self.new.ahead ≡ 0 }
     {
         let mut kept = Vec::with_capacity(self.alloc, KEPT)?;
         let stop = self.gather(&mut kept);
