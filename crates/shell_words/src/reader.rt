@@ -1,5 +1,6 @@
-ghost use Rattle.std.specs.Prelude.{◌≡◌, map, IfOk};
+ghost use Rattle.std.specs.Prelude.{◌≡◌, None, length, map, IfOk, IfSome};
 ghost use Rattle.std.specs.List.{list_any};
+ghost use Rattle.cfg_base.specs.Sound.{IsSound};
 ghost use Rattle.shell_words.specs.declared.reader.ReadFault.TheVariants.{NoMemory};
 ghost use Rattle.shell_words.specs.Reading.{Reads, bytes_of, capped, first_of, given, has_second, is_unserved_configuring, is_unserved_operational, is_word, misfit, misfit_word, read_command, read_configuring, read_operational, reading};
 
@@ -125,7 +126,8 @@ fn is_unserved_configuring(first: &[u8], second: &[u8]) -> bool
 
 /// Where the tokens stop being just so many words.
 fn misfit(tokens: &[Token], count: usize, end: usize) -> Option<usize>
-    ensures { result ≡ misfit tokens.now count end }
+    ensures place { result ≡ misfit tokens.now count end }
+    ensures fits { result ≡ None → length tokens.now ≡ count }
 {
     match tokens {
         [] if count == 0 => None,
@@ -156,7 +158,8 @@ fn misfit_word(keyword: &[u8], tokens: &[Token], end: usize) -> Option<usize>
 }
 
 fn given(place: Option<usize>, command: Command) -> Result<Command, ReadFault>
-    ensures { Reads result (given place command) }
+    ensures reads { Reads result (given place command) }
+    ensures same { IfOk result (λ read. read ≡ command) }
 {
     match place {
         None => Ok(command),
@@ -184,7 +187,8 @@ fn word_of(alloc: Global, token: &Token) -> Result<Word, NoMemory>
 }
 
 fn read_operational(token: &Token, rest: &[Token], end: usize) -> Result<Command, ReadFault>
-    ensures { Reads result (read_operational token.now.place (bytes_of token.now) rest.now end) }
+    ensures reads { Reads result (read_operational token.now.place (bytes_of token.now) rest.now end) }
+    ensures sound { IfOk result IsSound }
 {
     let first = bytes_of(token);
     if is_word(first, b"configure") {
@@ -208,7 +212,8 @@ fn read_configuring(
     rest: &[Token],
     end: usize,
 ) -> Result<Command, ReadFault>
-    ensures { Reads result (read_configuring token.now.place (bytes_of token.now) rest.now end) }
+    ensures reads { Reads result (read_configuring token.now.place (bytes_of token.now) rest.now end) }
+    ensures sound { IfOk result IsSound }
 {
     let first = bytes_of(token);
     if is_word(first, b"set") {
@@ -233,7 +238,8 @@ fn read_command(
     rest: &[Token],
     end: usize,
 ) -> Result<Command, ReadFault>
-    ensures { Reads result (read_command configuring token.now rest.now end) }
+    ensures reads { Reads result (read_command configuring token.now rest.now end) }
+    ensures sound { IfOk result IsSound }
 {
     if configuring {
         if is_unserved_configuring(bytes_of(token), first_of(rest)) {
@@ -254,7 +260,8 @@ pub fn read_line(
     configuring: bool,
     line: &[u8],
 ) -> Result<Option<Command>, ReadFault>
-    ensures { Reads result (reading configuring line.now) }
+    ensures reads { Reads result (reading configuring line.now) }
+    ensures sound { IfOk result (λ asked. IfSome asked IsSound) }
 {
     let tokens = tokens(alloc, line)?;
     match tokens.as_slice() {
