@@ -1,2 +1,3 @@
 pub mod SliceLemmas
 pub mod LogLemmas
+pub mod StepLemmas

@@ -2,6 +2,7 @@
 #![tactic(auto)]
 
 mod book;
+mod session;
 mod writing;
 
 fn main(_rt: HostRuntime) {}
