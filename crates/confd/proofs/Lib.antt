@@ -1,3 +1,4 @@
 pub mod SliceLemmas
 pub mod LogLemmas
 pub mod StepLemmas
+pub mod GoingLemmas

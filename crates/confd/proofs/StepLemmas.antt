@@ -1,21 +1,24 @@
 -- What a session's steps add to its sides.
-use Rattle.std.proofs.Common.{◌≡◌, ℕ, ◌+◌, ◌<◌, ◌≤◌, List, [], ◌∷◌, ◌++◌, length, take, max, Bool, true, false, refl, sym, ap, subst, ◌∙◌, arith, zero-add, Option, None, Some, Result, Ok, Err, inl, inr}
+use Rattle.std.proofs.Common.{◌≡◌, ℕ, ◌+◌, ◌<◌, ◌≤◌, List, [], ◌∷◌, ◌++◌, length, take, max, Bool, true, false, refl, sym, ap, subst, ◌∙◌, arith, zero-add, Option, None, Some, Result, Ok, Err, is_ok, inl, inr}
 use Rattle.std.proofs.lemmas.List.{append-nil, length-append}
 use Rattle.std.proofs.Math.Seq.{take-append_seam}
 use Rattle.cfg_base.specs.declared.command.Command.{Command}
 use Rattle.config_core.specs.declared.reply.Reply.{Reply}
 use Rattle.config_core.specs.State.{State}
 use Rattle.io_edge.specs.Ends.{TakesAnswer, behind}
+use Rattle.io_edge.specs.Wrote.{Wrote}
 use Rattle.session_history.specs.declared.history.Happened.{Happened}
 use Rattle.session_history.specs.declared.turn.ShellFault.{ShellFault}
+use Rattle.session_history.specs.declared.turn.Stance.{Stance}
+use Rattle.confd.specs.declared.session.Next.{Next}
 use Rattle.session_history.specs.declared.turn.Turn.{Turn}
 use Rattle.session_history.specs.declared.turn.Turn.TheVariants.{Kept, Local, NoMemory}
 use Rattle.session_history.specs.Events.{IsAt, asked_event, state_after, state_before, places_from, places_of}
-use Rattle.session_history.specs.Told.{Told, Answered, Refuses, Unanswered, text_of, answer_of, turn_of, places_told, IsTrueOf}
+use Rattle.session_history.specs.Told.{Told, Item, item_of, stance_after, Answered, Refuses, Unanswered, text_of, answer_of, turn_of, places_told, IsTrueOf}
 use Rattle.session_history.specs.Session.{Sides, Served, Delivers, TakesAnswers, AnswersAre}
 use Rattle.session_history.proofs.EventLemmas.{places_from-push}
 use Rattle.confd.specs.Log.{Log, Adds, opened, state_of}
-use Rattle.confd.specs.Steps.{Asks, TakesTurn}
+use Rattle.confd.specs.Steps.{Asks, TakesTurn, ServesItem, how_next}
 
 -- a command that was answered
 pub asks_reply : (caller answer : ℕ) (command : Command) (place : ℕ) (reply : Reply) (old new : Log) (coming coming' : Option (ℕ → ℕ)) (turns turns' : List Turn) → Adds caller answer command place reply old new → TakesAnswer coming coming' answer → turns' ≡ turns ++ Kept place ∷ [] → Asks (opened old) caller command (Some reply) coming coming' turns turns' old.events new.events
@@ -87,4 +90,24 @@ Served-one opening caller whole told coming coming' held held' turns turns' even
   own = takes.own;
   places = takes.places ∙ ap (λ p. places_of caller events ++ p) (sym (append-nil _));
   text = subst (λ t. Delivers whole t held held') (sym (append-nil (text_of told))) text;
+}
+
+-- a text that was written, or a part of it
+delivers_of : {T E : Type 0} → (put : Result T E) (text : List ℕ) (old now : Option (List ℕ)) → Wrote put text old now → Delivers (is_ok put) text old now
+delivers_of (Ok done) text old now wrote = wrote
+delivers_of (Err failed) text old now wrote = wrote
+
+-- an item that took its turn and whose text was written
+pub ServesItem-of : {T E : Type 0} → (opening : State) (caller : ℕ) (stance : Stance) (item : Item) (next : Next) (told : Told) (put : Result T E) (text : List ℕ) (coming coming' : Option (ℕ → ℕ)) (held held' : Option (List ℕ)) (turns turns' : List Turn) (events events' : List Happened) →
+    item_of told ≡ item → next.stance ≡ stance_after stance told → next.how ≡ how_next next.stance (is_ok put) → text_of told ≡ text →
+    TakesTurn opening caller told coming coming' turns turns' events events' → Wrote put text held held' →
+    ServesItem opening caller stance item next (record { coming = coming; held = held; turns = turns; events = events }) (record { coming = coming'; held = held'; turns = turns'; events = events' })
+ServesItem-of opening caller stance item next told put text coming coming' held held' turns turns' events events' is_item is_stance is_how is_text takes wrote = record {
+  told = told;
+  whole = is_ok put;
+  is_item = is_item;
+  is_stance = is_stance;
+  is_how = is_how;
+  served = Served-one opening caller (is_ok put) told coming coming' held held' turns turns' events events' takes
+      (subst (λ t. Delivers (is_ok put) t held held') (sym is_text) (delivers_of put text held held' wrote));
 }

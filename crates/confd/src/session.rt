@@ -6,6 +6,7 @@ ghost use Rattle.io_edge.specs.Ends.{Rose};
 ghost use Rattle.io_edge.specs.Wrote.{Wrote};
 ghost use Rattle.session_history.specs.declared.turn.How.TheVariants.{SinkFault, SourceFault};
 ghost use Rattle.session_history.specs.declared.turn.Stance.TheVariants.{Out};
+ghost use Rattle.session_history.specs.Items.{is_configuring};
 ghost use Rattle.session_history.specs.Told.{Ask, Wrong};
 ghost use Rattle.confd.specs.Log.{opened};
 ghost use Rattle.confd.specs.Steps.{Asks, MovesOn, ReadsLine, ServesItem, Unread, after_answer, how_next, text_of_answer};
@@ -64,4 +65,100 @@ fn tell<K: Sink>(sink: &mut K, answer: &Option<Reply>) -> Result<(), PutFailed>
         Some(reply) => put_reply(sink, reply),
         None => put_no_memory(sink),
     }
+}
+
+fn after_answer(stance: Stance, answer: &Option<Reply>) -> Stance
+    ensures { result ≡ after_answer stance answer.now }
+{
+    match answer {
+        None => stance,
+        Some(Reply::LoggedOut) => Stance::Out,
+        Some(Reply::Entered(_)) => Stance::Configuring,
+        Some(Reply::Left) => Stance::Operational,
+        Some(Reply::Done | Reply::Text(_) | Reply::Committed | Reply::Refused(_)) => stance,
+    }
+}
+
+/// Where a session goes on, after a text that was written or not.
+fn next_of(stance: Stance, put: Result<(), PutFailed>) -> Next
+    ensures stance { result.stance ≡ stance }
+    ensures how { result.how ≡ how_next stance (is_ok put) }
+{
+    let how = match (put, stance) {
+        (Err(PutFailed), _) => Some(How::SinkFault),
+        (Ok(()), Stance::Out) => Some(How::Clean),
+        (Ok(()), Stance::Operational | Stance::Configuring) => None,
+    };
+    Next { stance, how }
+}
+
+fn stop(stance: Stance, how: How) -> Next
+    ensures stance { result.stance ≡ stance }
+    ensures how { result.how ≡ Some how }
+{
+    Next {
+        stance,
+        how: Some(how),
+    }
+}
+
+fn is_configuring(stance: Stance) -> bool
+    ensures { result ≡ is_configuring stance }
+{
+    match stance {
+        Stance::Configuring => true,
+        Stance::Operational | Stance::Out => false,
+    }
+}
+
+/// Asks a command and writes its answer.
+fn take_command<K: Sink, C: Clock>(
+    book: &mut Book,
+    sink: &mut K,
+    clock: &mut C,
+    turns: &mut Vec<Turn>,
+    caller: u32,
+    stance: Stance,
+    command: Command,
+) -> Next
+    requires sound { IsSound command }
+    requires caller { (0 < caller) × (caller ≤ length book.old.users) }
+    requires room { vec_len turns.old < vec_capacity turns.old }
+    ensures serves { ServesItem (opened book.old) caller stance (Ask command) result
+        (record { coming = C.coming clock.old; held = K.held sink.old; turns = turns.old.items; events = book.old.events })
+        (record { coming = C.coming clock.new; held = K.held sink.new; turns = turns.new.items; events = book.new.events }) }
+    ensures kept { book.new.kept ≡ book.old.kept }
+    ensures users { book.new.users ≡ book.old.users }
+    ensures room { vec_capacity turns.new ≡ vec_capacity turns.old }
+    ensures cause { result.how ≡ Some SinkFault → Rose (K.faults sink.old) (K.faults sink.new) }
+    ensures later { K.faults sink.old ≤ K.faults sink.new }
+{
+    let answer = ask(book, clock, turns, caller, command);
+    let put = tell(sink, &answer);
+    next_of(after_answer(stance, &answer), put)
+}
+
+/// Refuses a line, and writes why.
+fn take_fault<K: Sink, C: Clock>(
+    book: &Book,
+    sink: &mut K,
+    clock: &mut C,
+    turns: &mut Vec<Turn>,
+    caller: u32,
+    stance: Stance,
+    fault: ShellFault,
+) -> Next
+    requires going { stance ≡ Out → ⊥ }
+    requires room { vec_len turns.old < vec_capacity turns.old }
+    ensures serves { ServesItem (opened book.now) caller stance (Wrong fault) result
+        (record { coming = C.coming clock.old; held = K.held sink.old; turns = turns.old.items; events = book.now.events })
+        (record { coming = C.coming clock.new; held = K.held sink.new; turns = turns.new.items; events = book.now.events }) }
+    ensures room { vec_capacity turns.new ≡ vec_capacity turns.old }
+    ensures cause { result.how ≡ Some SinkFault → Rose (K.faults sink.old) (K.faults sink.new) }
+    ensures later { K.faults sink.old ≤ K.faults sink.new }
+{
+    let _answer = clock.now();
+    turns.push_reserved(Turn::Local(fault));
+    let put = put_fault(sink, fault);
+    next_of(stance, put)
 }
