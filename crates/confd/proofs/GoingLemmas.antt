@@ -1,6 +1,6 @@
 -- A session that goes on line by line, and stops.
 use Rattle.std.proofs.Common.{◌≡◌, ℕ, ◌+◌, ◌<◌, ◌≤◌, ◌↔◌, ◌⊎◌, List, [], ◌∷◌, ◌++◌, length, take, Bool, true, false, refl, sym, ap, subst, ◌∙◌, arith, Option, None, Some, Result, Ok, Err, inl, inr}
-use Rattle.std.specs.List.{AllByRecursion}
+use Rattle.std.specs.List.{AllByRecursion, flat_map}
 use Rattle.std.proofs.lemmas.List.{append-nil, length-append}
 use Rattle.std.proofs.Math.Seq.{take-append_seam}
 use Rattle.config_core.specs.State.{State}
@@ -15,7 +15,7 @@ use Rattle.session_history.specs.declared.turn.How.TheVariants.{Clean, SourceFau
 use Rattle.session_history.specs.declared.turn.Stance.{Stance}
 use Rattle.session_history.specs.declared.turn.Stance.TheVariants.{Operational, Configuring, Out}
 use Rattle.session_history.specs.Events.{places_of}
-use Rattle.session_history.specs.Told.{Told, Item, item_of, stance_after, places_told}
+use Rattle.session_history.specs.Told.{Told, Item, item_of, stance_after, places_told, text_of}
 use Rattle.session_history.specs.Items.{GoesOn, ReadsAs, item_at}
 use Rattle.session_history.specs.Session.{Sides, Served, TakesAnswers, IsCut, IsInput, StopsBy, is_whole}
 use Rattle.session_history.proofs.ServedLemmas.{Served-then}
@@ -123,3 +123,138 @@ SoFar-more opening caller limit stance next left feed feed' old mid new so_far t
       within = takes.within;
       going = not_out next.stance line.whole next.how goes line.is_how;
     }
+
+-- a session that ends by a line was written whole, but for a sink that failed
+ends_whole : (stance : Stance) (whole : Bool) (how : How) (given : Option How) → given ≡ Some how → given ≡ how_next stance whole → whole ≡ is_whole how
+ends_whole stance false Clean given is by = cc
+ends_whole stance false SourceFault given is by = cc
+ends_whole stance false SinkFault given is by = refl
+ends_whole stance false InputFull given is by = cc
+ends_whole stance false NoMemory given is by = cc
+ends_whole stance true Clean given is by = refl
+ends_whole stance true SourceFault given is by = refl
+ends_whole Operational true SinkFault given is by = cc
+ends_whole Configuring true SinkFault given is by = cc
+ends_whole Out true SinkFault given is by = cc
+ends_whole stance true InputFull given is by = refl
+ends_whole stance true NoMemory given is by = refl
+
+-- how a session ends by a line: at the exit that logs out, or at a sink that failed
+abbrev EndsByLine : Stance → How → Type 0
+EndsByLine stance Clean = stance ≡ Out
+EndsByLine stance SourceFault = ⊥
+EndsByLine stance SinkFault = Unit {0}
+EndsByLine stance InputFull = ⊥
+EndsByLine stance NoMemory = ⊥
+
+ends_by_line : (stance : Stance) (whole : Bool) (how : How) (given : Option How) → given ≡ Some how → given ≡ how_next stance whole → EndsByLine stance how
+ends_by_line Operational true how given is by = cc
+ends_by_line Configuring true how given is by = cc
+ends_by_line Out true Clean given is by = refl
+ends_by_line Out true SourceFault given is by = cc
+ends_by_line Out true SinkFault given is by = tt
+ends_by_line Out true InputFull given is by = cc
+ends_by_line Out true NoMemory given is by = cc
+ends_by_line stance false Clean given is by = cc
+ends_by_line stance false SourceFault given is by = cc
+ends_by_line stance false SinkFault given is by = tt
+ends_by_line stance false InputFull given is by = cc
+ends_by_line stance false NoMemory given is by = cc
+
+not_full : (stance : Stance) (how : How) → EndsByLine stance how → how ≡ InputFull → ⊥
+not_full stance Clean ends is = cc
+not_full stance SourceFault ends is = ends
+not_full stance SinkFault ends is = cc
+not_full stance InputFull ends is = ends
+not_full stance NoMemory ends is = ends
+
+stops_by_line : (stance : Stance) (how : How) (rest after : List ℕ) (room : ℕ) → EndsByLine stance how → StopsBy how stance rest after room
+stops_by_line stance Clean rest after room ends = inl ends
+stops_by_line stance SourceFault rest after room ends = absurd ends
+stops_by_line stance SinkFault rest after room ends = tt
+stops_by_line stance InputFull rest after room ends = absurd ends
+stops_by_line stance NoMemory rest after room ends = tt
+
+-- the input of a session that ends by a line
+input_by_line : (lines : List Line) (stance : Stance) (how : How) (limit room ahead : ℕ) (before now : List ℕ) → IsCut lines before limit now room → ahead ≤ room → EndsByLine stance how → (held after : List ℕ) → now ≡ held ++ after → length held ≡ ahead → IsInput lines stance how limit before after
+input_by_line lines stance how limit room ahead before now cut within ends held after is_now is_ahead =
+    IsInput-of lines stance how limit before now [] held after room cut is_now
+    (λ full. absurd (not_full stance how ends full), λ over. absurd (omega arith))
+    (stops_by_line stance how ([] ++ held) after room ends)
+
+all_empty : (part held after : List ℕ) → part ++ (held ++ after) ≡ [] → (part ++ held ≡ []) × (after ≡ [])
+all_empty [] [] [] is = (refl, refl)
+all_empty [] [] (x ∷ after) is = cc
+all_empty [] (x ∷ held) after is = cc
+all_empty (x ∷ part) held after is = cc
+
+no_bytes : (bytes : List ℕ) → length bytes ≡ 0 → bytes ≡ []
+no_bytes [] none = refl
+no_bytes (b ∷ bytes) none = absurd (omega arith)
+
+-- where a session stops
+stops_at : (how : How) (stance : Stance) (room ahead : ℕ) (part held before now after : List ℕ) → before ≡ part ++ (held ++ after) → length held ≡ ahead → AtStop how room ahead part before now → StopsBy how stance (part ++ held) after room
+stops_at Clean stance room ahead part held before now after bytes size stop = inr (all_empty part held after (sym bytes ∙ stop))
+stops_at SourceFault stance room ahead part held before now after bytes size stop =
+    subst HasNoLf (sym (append-nil part) ∙ ap (λ h. part ++ h) (sym (no_bytes held (size ∙ stop.1)))) stop.0
+stops_at SinkFault stance room ahead part held before now after bytes size stop = absurd stop
+stops_at InputFull stance room ahead part held before now after bytes size stop =
+    subst HasNoLf (sym (ap (λ n. take n (part ++ held)) (sym stop.1) ∙ take-append_seam part held)) stop.0
+stops_at NoMemory stance room ahead part held before now after bytes size stop = tt
+
+-- the input of a session that stops
+input_at_stop : (lines : List Line) (stance : Stance) (how : How) (limit room ahead : ℕ) (before mid now : List ℕ) → IsCut lines before limit mid room → IsStop how room ahead mid now → (held after : List ℕ) → now ≡ held ++ after → length held ≡ ahead → IsInput lines stance how limit before after
+input_at_stop lines stance how limit room ahead before mid now cut stop held after is_now is_ahead =
+    let bytes : mid ≡ stop.part ++ (held ++ after) = stop.bytes ∙ ap (λ r. stop.part ++ r) is_now in
+    IsInput-of lines stance how limit before mid stop.part held after room cut bytes
+    (λ full. let over : room < length stop.part + ahead = stop.full.0 full in omega (arith, is_ahead), λ over. stop.full.1 (omega (arith, is_ahead)))
+    (stops_at how stance room ahead stop.part held mid now after bytes is_ahead stop.stop)
+
+-- what was written whole was written from its beginning
+in_part : (opening : State) (caller : ℕ) (told : List Told) (old new : Sides) → Served opening caller true told old new → Served opening caller false told old new
+in_part opening caller told old new served = record {
+    answers = served.answers;
+    turned = served.turned;
+    true_all = served.true_all;
+    more = served.more;
+    grown = served.grown;
+    own = served.own;
+    places = served.places;
+    text = record { part = flat_map text_of told; rest = []; whole = sym (append-nil (flat_map text_of told)); behind_old = served.text }
+  }
+
+whole_or_part : (opening : State) (caller : ℕ) (how : How) (told : List Told) (old new : Sides) → Served opening caller true told old new → Served opening caller (is_whole how) told old new
+whole_or_part opening caller Clean told old new served = served
+whole_or_part opening caller SourceFault told old new served = served
+whole_or_part opening caller SinkFault told old new served = in_part opening caller told old new served
+whole_or_part opening caller InputFull told old new served = served
+whole_or_part opening caller NoMemory told old new served = served
+
+-- a session so far, and the step that ends it
+pub SoFar-ends : (opening : State) (caller limit : ℕ) (stance : Stance) (next : Next) (how : How) (left : Option (List ℕ)) (feed feed' : Feed) (old mid new : Sides) → SoFar opening caller limit stance left feed old mid → MovesOn opening caller stance next feed feed' mid new → next.how ≡ Some how → Ends opening caller limit how next.stance left feed' old new
+SoFar-ends opening caller limit stance next how left feed feed' old mid new so_far (inl takes) ends =
+    let line = takes.reads in
+    let by : EndsByLine next.stance how = ends_by_line next.stance line.whole how next.how ends line.is_how in
+    record {
+      lines = so_far.lines ++ takes.line ∷ [];
+      asked = so_far.told ++ line.told;
+      reads = ReadsAs-append so_far.lines (takes.line ∷ []) Operational stance next.stance so_far.told line.told so_far.reads line.reads;
+      served = Served-then opening caller (is_whole how) so_far.told line.told old mid new so_far.served (subst (λ w. Served opening caller w line.told mid new) (ends_whole next.stance line.whole how next.how ends line.is_how) line.served);
+      input = TellsBoth-then _ (λ x y. x ≡ y) _ (λ x y z cut same. λ held after is_now is_ahead. input_by_line (so_far.lines ++ takes.line ∷ []) next.stance how limit feed'.room feed'.ahead x z (subst (λ n. IsCut (so_far.lines ++ takes.line ∷ []) x limit n feed'.room) same cut) takes.within by held after is_now is_ahead) left feed'.left feed'.left
+          (cut_more so_far.lines takes.line limit feed.room feed'.room left feed.left feed'.left so_far.cut takes.given) (told_same feed'.left);
+    }
+  where
+    told_same : (told : Option (List ℕ)) → TellsBoth (λ x y. x ≡ y) told told
+    told_same None = tt
+    told_same (Some told) = refl
+SoFar-ends opening caller limit stance next how left feed feed' old mid new so_far (inr stops) ends =
+    let same_how : stops.how ≡ how = cc in
+    subst (λ h. Ends opening caller limit h next.stance left feed' old new) same_how
+    (subst (λ s. Ends opening caller limit stops.how s left feed' old new) (sym stops.is_stance)
+    (subst (λ sides. Ends opening caller limit stops.how stance left feed' old sides) (sym stops.same) (record {
+      lines = so_far.lines;
+      asked = so_far.told;
+      reads = so_far.reads;
+      served = whole_or_part opening caller stops.how so_far.told old mid so_far.served;
+      input = TellsBoth-then _ _ _ (λ x y z cut stop. λ held after is_now is_ahead. input_at_stop so_far.lines stance stops.how limit feed.room feed'.ahead x y z cut stop held after is_now is_ahead) left feed.left feed'.left so_far.cut stops.stops;
+    })))

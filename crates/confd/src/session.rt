@@ -162,3 +162,47 @@ fn take_fault<K: Sink, C: Clock>(
     let put = put_fault(sink, fault);
     next_of(stance, put)
 }
+
+/// Serves one line: what it asks, if it asks something.
+fn take_text<K: Sink, C: Clock>(
+    alloc: Global,
+    book: &mut Book,
+    sink: &mut K,
+    clock: &mut C,
+    turns: &mut Vec<Turn>,
+    caller: u32,
+    stance: Stance,
+    text: &[u8],
+) -> Next
+    requires going { stance ≡ Out → ⊥ }
+    requires caller { (0 < caller) × (caller ≤ length book.old.users) }
+    requires room { vec_len turns.old < vec_capacity turns.old }
+    ensures reads { ReadsLine (opened book.old) caller stance (Line.Text text.now) result
+        (record { coming = C.coming clock.old; held = K.held sink.old; turns = turns.old.items; events = book.old.events })
+        (record { coming = C.coming clock.new; held = K.held sink.new; turns = turns.new.items; events = book.new.events })
+        ⊎ Unread stance result
+        (record { coming = C.coming clock.old; held = K.held sink.old; turns = turns.old.items; events = book.old.events })
+        (record { coming = C.coming clock.new; held = K.held sink.new; turns = turns.new.items; events = book.new.events }) }
+    ensures kept { book.new.kept ≡ book.old.kept }
+    ensures users { book.new.users ≡ book.old.users }
+    ensures room { vec_capacity turns.new ≡ vec_capacity turns.old }
+    ensures cause { result.how ≡ Some SinkFault → Rose (K.faults sink.old) (K.faults sink.new) }
+    ensures later { K.faults sink.old ≤ K.faults sink.new }
+{
+    match read_line(alloc, is_configuring(stance), text) {
+        Ok(None) => Next { stance, how: None },
+        Ok(Some(command)) => take_command(book, sink, clock, turns, caller, stance, command),
+        Err(ReadFault::Syntax(place)) => {
+            take_fault(
+                book,
+                sink,
+                clock,
+                turns,
+                caller,
+                stance,
+                ShellFault::Syntax(place),
+            )
+        }
+        Err(ReadFault::NoMemory) => stop(stance, How::NoMemory),
+    }
+}
