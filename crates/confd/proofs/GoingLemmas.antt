@@ -213,15 +213,15 @@ input_at_stop lines stance how limit room ahead before mid now cut stop held aft
 -- what was written whole was written from its beginning
 in_part : (opening : State) (caller : ℕ) (told : List Told) (old new : Sides) → Served opening caller true told old new → Served opening caller false told old new
 in_part opening caller told old new served = record {
-    answers = served.answers;
-    turned = served.turned;
-    true_all = served.true_all;
-    more = served.more;
-    grown = served.grown;
-    own = served.own;
-    places = served.places;
-    text = record { part = flat_map text_of told; rest = []; whole = sym (append-nil (flat_map text_of told)); behind_old = served.text }
-  }
+  answers = served.answers;
+  turned = served.turned;
+  true_all = served.true_all;
+  more = served.more;
+  grown = served.grown;
+  own = served.own;
+  places = served.places;
+  text = record { part = flat_map text_of told; rest = []; whole = sym (append-nil (flat_map text_of told)); behind_old = served.text };
+}
 
 whole_or_part : (opening : State) (caller : ℕ) (how : How) (told : List Told) (old new : Sides) → Served opening caller true told old new → Served opening caller (is_whole how) told old new
 whole_or_part opening caller Clean told old new served = served

@@ -2,3 +2,4 @@ pub mod SliceLemmas
 pub mod LogLemmas
 pub mod StepLemmas
 pub mod GoingLemmas
+pub mod StopLemmas

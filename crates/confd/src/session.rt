@@ -1,6 +1,6 @@
 //! One session: it reads its lines, asks the machine, and writes each answer before the next line is read.
 
-ghost use Rattle.std.specs.Prelude.{◌≡◌, ◌<◌, ◌≤◌, ◌∷◌, ◌⊎◌, length, vec_len, vec_capacity, Some, OnErr, is_ok, Bool};
+ghost use Rattle.std.specs.Prelude.{◌≡◌, ◌<◌, ◌≤◌, ◌∷◌, ◌⊎◌, length, vec_len, vec_capacity, None, Some, OnErr, is_ok, Bool};
 ghost use Rattle.cfg_base.specs.Sound.{IsSound};
 ghost use Rattle.io_edge.specs.Ends.{Rose};
 ghost use Rattle.io_edge.specs.Wrote.{Wrote};
@@ -204,5 +204,63 @@ fn take_text<K: Sink, C: Clock>(
             )
         }
         Err(ReadFault::NoMemory) => stop(stance, How::NoMemory),
+    }
+}
+
+/// Serves the next line of a session, or stops it where there is none.
+fn serve_next<S: Source, K: Sink, C: Clock>(
+    alloc: Global,
+    lines: &mut Lines<S>,
+    book: &mut Book,
+    sink: &mut K,
+    clock: &mut C,
+    turns: &mut Vec<Turn>,
+    caller: u32,
+    stance: Stance,
+) -> Next
+    requires going { stance ≡ Out → ⊥ }
+    requires caller { (0 < caller) × (caller ≤ length book.old.users) }
+    requires room { vec_len turns.old < vec_capacity turns.old }
+    requires within { lines.old.ahead ≤ lines.old.room }
+    ensures moves { MovesOn (opened book.old) caller stance result lines.old lines.new
+        (record { coming = C.coming clock.old; held = K.held sink.old; turns = turns.old.items; events = book.old.events })
+        (record { coming = C.coming clock.new; held = K.held sink.new; turns = turns.new.items; events = book.new.events }) }
+    ensures kept { book.new.kept ≡ book.old.kept }
+    ensures users { book.new.users ≡ book.old.users }
+    ensures room { vec_capacity turns.new ≡ vec_capacity turns.old }
+    ensures falls { result.how ≡ None → lines.new.room < lines.old.room }
+    ensures source_cause { result.how ≡ Some SourceFault → Rose lines.old.faults lines.new.faults }
+    ensures sink_cause { result.how ≡ Some SinkFault → Rose (K.faults sink.old) (K.faults sink.new) }
+    ensures later_source { lines.old.faults ≤ lines.new.faults }
+    ensures later_sink { K.faults sink.old ≤ K.faults sink.new }
+{
+    match lines.next() {
+        Ok(Line::Text(text)) => {
+            take_text(
+                alloc,
+                book,
+                sink,
+                clock,
+                turns,
+                caller,
+                stance,
+                text.as_slice(),
+            )
+        }
+        Ok(Line::TooLong) => {
+            take_fault(
+                book,
+                sink,
+                clock,
+                turns,
+                caller,
+                stance,
+                ShellFault::LineTooLong,
+            )
+        }
+        Ok(Line::End) => stop(stance, How::Clean),
+        Ok(Line::Failed) => stop(stance, How::SourceFault),
+        Ok(Line::InputFull) => stop(stance, How::InputFull),
+        Err(NoMemory) => stop(stance, How::NoMemory),
     }
 }
