@@ -1,12 +1,12 @@
 -- One call more at the end of a record.
-use Rattle.std.proofs.Common.{◌≡◌, ◌≤◌, ◌<◌, ℕ, ◌+◌, ◌-◌, ◌&&◌, Bool, true, false, IsTrue, nat_lt, nat_le, List, [], ◌∷◌, ◌++◌, length, take, drop, replicate, refl, sym, ◌∙◌, ap, subst, arith, zero, suc, append_assoc, length-append, length-drop, length-take}
-use Rattle.std.proofs.lemmas.List.{take_all, take-append-le, drop-append-le, append-nil, length-replicate, replicate_more}
+use Rattle.std.proofs.Common.{◌≡◌, ◌≤◌, ◌<◌, ℕ, ◌+◌, ◌-◌, min, ◌&&◌, Bool, true, false, IsTrue, nat_lt, nat_le, List, [], ◌∷◌, ◌++◌, length, take, drop, replicate, refl, sym, ◌∙◌, ap, subst, arith, zero, suc, append_assoc, length-append, length-drop, length-take}
+use Rattle.std.proofs.lemmas.List.{take_all, take_min, take-append-le, drop-append-le, append-nil, length-replicate, replicate_more}
 use Rattle.std.proofs.lemmas.Bool.Decides.{nat_tests}
 use Rattle.disk_model.specs.declared.kept.Kept.{Kept}
 use Rattle.disk_model.specs.declared.kept.Kept.TheVariants.{Written, Synced, TurnedDown}
-use Rattle.disk_model.specs.Disk.{Call, Write, Sync, Refused}
+use Rattle.disk_model.specs.Disk.{Call, Write, Sync, Refused, State, step, after}
 use Rattle.disk_model.specs.Memory.{written_bytes}
-use Rattle.disk_model.specs.Kept.{RecordView, total_of, calls_of, recorded}
+use Rattle.disk_model.specs.Kept.{RecordView, call_of, bytes_after, total_of, calls_of, recorded}
 
 abbrev pub seen : List Call → ℕ → ℕ → RecordView
 seen calls room limit = record { calls = calls; room = room; limit = limit }
@@ -31,14 +31,12 @@ pub written_bytes-calls_of : (kept : List Kept) (bytes : List ℕ) → total_of 
 written_bytes-calls_of [] bytes le = refl
 written_bytes-calls_of (Written at count took ∷ kept) bytes le =
     omega (arith, length-take count bytes, length-drop count bytes, written_bytes-calls_of kept (drop count bytes) (omega (arith, length-drop count bytes)))
-written_bytes-calls_of (Synced cleared ∷ kept) bytes le = written_bytes-calls_of kept bytes le
-written_bytes-calls_of (TurnedDown ∷ kept) bytes le = written_bytes-calls_of kept bytes le
+written_bytes-calls_of (Synced cleared ∷ kept) bytes le = omega (arith, written_bytes-calls_of kept bytes (omega arith))
+written_bytes-calls_of (TurnedDown ∷ kept) bytes le = omega (arith, written_bytes-calls_of kept bytes (omega arith))
 
 pub total_of-append : (xs ys : List Kept) → total_of (xs ++ ys) ≡ total_of xs + total_of ys
 total_of-append [] ys = omega arith
-total_of-append (Written at count took ∷ xs) ys = omega (arith, total_of-append xs ys)
-total_of-append (Synced cleared ∷ xs) ys = total_of-append xs ys
-total_of-append (TurnedDown ∷ xs) ys = total_of-append xs ys
+total_of-append (call ∷ xs) ys = omega (arith, total_of-append xs ys)
 
 -- a record whose bytes go on, and one call more that reads those
 pub calls_of-append : (xs ys : List Kept) (bytes more : List ℕ) → total_of xs ≡ length bytes
@@ -53,8 +51,8 @@ calls_of-append (Written at count took ∷ xs) ys bytes more total =
     ap (λ (l : List ℕ). Write at l took ∷ calls_of (xs ++ ys) (drop count (bytes ++ more))) head
     ∙ ap (λ (l : List ℕ). Write at (take count bytes) took ∷ calls_of (xs ++ ys) l) tail
     ∙ ap (λ (l : List Call). Write at (take count bytes) took ∷ l) (calls_of-append xs ys (drop count bytes) more rest)
-calls_of-append (Synced cleared ∷ xs) ys bytes more total = ap (λ (l : List Call). Sync cleared ∷ l) (calls_of-append xs ys bytes more total)
-calls_of-append (TurnedDown ∷ xs) ys bytes more total = ap (λ (l : List Call). Refused ∷ l) (calls_of-append xs ys bytes more total)
+calls_of-append (Synced cleared ∷ xs) ys bytes more total = ap (λ (l : List Call). Sync cleared ∷ l) (calls_of-append xs ys bytes more (omega arith))
+calls_of-append (TurnedDown ∷ xs) ys bytes more total = ap (λ (l : List Call). Refused ∷ l) (calls_of-append xs ys bytes more (omega arith))
 
 pub length-recorded : (kept : List Kept) (bytes : List ℕ) (refused : ℕ) → length (recorded kept bytes refused) ≡ length kept + refused
 unfolding recorded
@@ -130,3 +128,33 @@ viewed old calls calls' more room limit is longer =
 -- below the stated number none was refused past it
 pub none_past : (kept refused limit : ℕ) → (0 < refused → limit ≤ kept) → kept < limit → refused ≡ 0
 none_past kept refused limit full lt = grind arith
+
+pub total_of-take : (n : ℕ) (kept : List Kept) → total_of (take n kept) ≤ total_of kept
+total_of-take zero kept = omega arith
+total_of-take (suc n) [] = omega arith
+total_of-take (suc n) (call ∷ kept) = omega (arith, total_of-take n kept)
+
+pub calls_of-take : (n : ℕ) (kept : List Kept) (bytes : List ℕ) → calls_of (take n kept) bytes ≡ take n (calls_of kept bytes)
+calls_of-take zero kept bytes = refl
+calls_of-take (suc n) [] bytes = refl
+calls_of-take (suc n) (call ∷ kept) bytes = ap (λ (l : List Call). call_of call bytes ∷ l) (calls_of-take n kept (bytes_after call bytes))
+
+-- calls that were refused change no state
+after_refused : (s : State) (n r : ℕ) → after s (take n (replicate r Refused)) ≡ s
+after_refused s zero r = refl
+after_refused s (suc n) zero = refl
+after_refused s (suc n) (suc r) = after_refused s n r
+
+after_take : (s : State) (n : ℕ) (calls : List Call) (r : ℕ) → after s (take n (calls ++ replicate r Refused)) ≡ after s (take n calls)
+after_take s zero calls r = refl
+after_take s (suc n) [] r = after_refused s (suc n) r
+after_take s (suc n) (call ∷ calls) r = after_take (step s call) n calls r
+
+pub after_recorded : (s : State) (n : ℕ) (kept : List Kept) (bytes : List ℕ) (refused : ℕ)
+    → after s (calls_of (take (min n (length kept)) kept) bytes) ≡ after s (take n (recorded kept bytes refused))
+unfolding recorded
+after_recorded s n kept bytes refused =
+    ap (λ (l : List Call). after s l) (calls_of-take (min n (length kept)) kept bytes)
+    ∙ ap (λ (m : ℕ). after s (take (min n m) (calls_of kept bytes))) (sym (length-calls_of kept bytes))
+    ∙ ap (λ (l : List Call). after s l) (take_min n (calls_of kept bytes))
+    ∙ sym (after_take s n (calls_of kept bytes) refused)

@@ -103,6 +103,13 @@ LeftBetween h from to image =
 abbrev pub LeftSince : History → ℕ → List ℕ → Type 0
 LeftSince h count image = Since (after (at_first h.first) (take count h.calls)) (drop count h.calls) image
 
+-- one history goes on from another, and whatever a crash at any moment since then may leave has P
+pub record Leaves (h h' : History) (P : List ℕ → Type 0) : Type 0 where
+  pub calls : List Call
+  pub first : h'.first ≡ h.first
+  pub made : h'.calls ≡ h.calls ++ calls
+  pub each : (image : List ℕ) → Since (state_of h) calls image → P image
+
 -- one call more
 pub record Called (h : History) (call : Call) (h' : History) : Type 0 where
   pub first : h'.first ≡ h.first

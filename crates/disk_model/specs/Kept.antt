@@ -5,19 +5,33 @@ use Rattle.disk_model.specs.declared.kept.Kept.TheVariants.{Written, Synced, Tur
 use Rattle.disk_model.specs.Disk.{Call, Write, Sync, Refused}
 use Rattle.disk_model.specs.Memory.{written_bytes}
 
+-- how many bytes of the writes one call takes
+abbrev pub size_of : Kept → ℕ
+size_of (Written at count took) = count
+size_of (Synced cleared) = 0
+size_of TurnedDown = 0
+
+-- the call that is kept so, before these bytes
+abbrev pub call_of : Kept → List ℕ → Call
+call_of (Written at count took) bytes = Write at (take count bytes) took
+call_of (Synced cleared) bytes = Sync cleared
+call_of TurnedDown bytes = Refused
+
+-- the bytes of the calls after it
+abbrev pub bytes_after : Kept → List ℕ → List ℕ
+bytes_after (Written at count took) bytes = drop count bytes
+bytes_after (Synced cleared) bytes = bytes
+bytes_after TurnedDown bytes = bytes
+
 -- how many bytes the writes among them have
 abbrev pub total_of : List Kept → ℕ
 total_of [] = 0
-total_of (Written at count took ∷ kept) = count + total_of kept
-total_of (Synced cleared ∷ kept) = total_of kept
-total_of (TurnedDown ∷ kept) = total_of kept
+total_of (call ∷ kept) = size_of call + total_of kept
 
 -- the calls that are kept so
 abbrev pub calls_of : List Kept → List ℕ → List Call
 calls_of [] bytes = []
-calls_of (Written at count took ∷ kept) bytes = Write at (take count bytes) took ∷ calls_of kept (drop count bytes)
-calls_of (Synced cleared ∷ kept) bytes = Sync cleared ∷ calls_of kept bytes
-calls_of (TurnedDown ∷ kept) bytes = Refused ∷ calls_of kept bytes
+calls_of (call ∷ kept) bytes = call_of call bytes ∷ calls_of kept (bytes_after call bytes)
 
 -- those calls, and then some that were refused past the stated number
 unfoldable pub recorded : List Kept → List ℕ → ℕ → List Call

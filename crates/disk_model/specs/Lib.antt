@@ -4,3 +4,6 @@ pub mod Kept
 pub mod Memory
 pub mod RecordInvariant
 pub mod MemInvariant
+pub mod Replay
+pub mod Marks
+pub mod Made

@@ -56,6 +56,14 @@ write_call v at bytes = if has_room v at (length bytes) then Write at bytes (tak
 abbrev pub sync_call : MemView → Call
 sync_call v = if has_call v then Sync (takes (next_mode v)) else Refused
 
+-- whether a write is answered as done: there is room, and it isn't to fail
+abbrev pub is_write_done : MemView → ℕ → ℕ → Bool
+is_write_done v at count = has_room v at count && is_none (next_mode v)
+
+-- whether a sync is answered as done
+abbrev pub is_sync_done : MemView → Bool
+is_sync_done v = has_call v && is_none (next_mode v)
+
 -- the number of the next call of `read_at` or `len`; a count stands still at its last value
 abbrev pub next_read : MemView → ℕ
 next_read v = min (v.reads + 1) (2 ^ 64 - 1)

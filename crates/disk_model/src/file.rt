@@ -50,9 +50,14 @@ impl FileDisk {
             faults: 0,
         }
     }
-}
 
-impl FileDisk {
+    /// How many of its calls have failed.
+    pub fn faults(&self) -> u64
+        ensures { result ≡ self.now.faults }
+    {
+        self.faults
+    }
+
     fn count_fault(&mut self)
         ensures { HasCause self.old.faults self.new.faults (Unit {0}) }
     {

@@ -1,9 +1,16 @@
 ghost use Rattle.std.specs.Prelude.{◌≡◌, ◌<◌, ◌≤◌, ◌+◌, ◌-◌, ◌^◌, ◌⊎◌, [], ◌∷◌, ◌++◌, length, IfOk, IsTrue, vec_len, vec_capacity, min};
 ghost use Rattle.disk_model.specs.Disk.{Write, Sync, Refused};
+ghost use Rattle.std.specs.Prelude.{map, take, replicate, OnOk};
+ghost use Rattle.disk_model.specs.Disk.{after, at_first};
 ghost use Rattle.disk_model.specs.Kept.{keeps_call, keeps_write};
+ghost use Rattle.disk_model.specs.Kept.{size_of, call_of as kept_call, bytes_after, total_of, calls_of};
+ghost use Rattle.disk_model.specs.Made.{call_of};
+ghost use Rattle.disk_model.specs.Marks.{Knows};
 
+use crate::made::Made;
+use crate::replay::{Replay, replayed};
 use cfg_base::NoMemory;
-use std::alloc::Global;
+use std::alloc::{AllocError, Global};
 use std::marker::Model;
 
 /// One call of a disk in memory. A write's bytes stand elsewhere.
@@ -126,4 +133,69 @@ impl CallRecord {
             self.refused += 1;
         }
     }
+
+    /// The state after so many of the calls, over what the disk held at first.
+    pub(crate) fn replay_to(
+        &self,
+        alloc: Global,
+        first: &[u8],
+        call: u32,
+    ) -> Result<Replay, NoMemory>
+        ensures { IfOk result (λ r. Knows r.bytes.items r.marks.items r.synced
+            (after (at_first first.now) (take call self.now.calls))) }
+    {
+        let count = (call as usize).min(self.kept.len());
+        Ok(replayed(alloc, first, &self.kept[..count], &self.written)?)
+    }
+
+    /// The calls, first to last.
+    pub(crate) fn show(&self, alloc: Global) -> Result<Vec<Made<'_>>, NoMemory>
+        ensures { IfOk result (λ made. map call_of made.items ≡ self.now.calls) }
+    {
+        let mut made = shown(alloc, &self.kept, &self.written)?;
+        push_refused(&mut made, self.refused)?;
+        Ok(made)
+    }
+}
+
+// One call, and the bytes of the writes after it.
+fn show_call<'a>(call: &Kept, bytes: &'a [u8]) -> (Made<'a>, &'a [u8])
+    requires { size_of call.now ≤ length bytes.now }
+    ensures call { call_of result.0 ≡ kept_call call.now bytes.now }
+    ensures rest { result.1.now ≡ bytes_after call.now bytes.now }
+{
+    match *call {
+        Kept::Written { at, count, took } => {
+            let (bytes, rest) = bytes.split_at(count);
+            (Made::Wrote { at, bytes, took }, rest)
+        }
+        Kept::Synced { cleared } => (Made::Synced { cleared }, bytes),
+        Kept::TurnedDown => (Made::TurnedDown, bytes),
+    }
+}
+
+fn shown<'a>(alloc: Global, kept: &[Kept], written: &'a [u8]) -> Result<Vec<Made<'a>>, AllocError>
+    requires { total_of kept.now ≤ length written.now }
+    ensures { IfOk result (λ made. map call_of made.items ≡ calls_of kept.now written.now) }
+{
+    let mut made = Vec::new(alloc);
+    let mut rest = kept;
+    let mut bytes = written;
+    while let [call, later @ ..] = rest {
+        let (first, after) = show_call(call, bytes);
+        made.push(first)?;
+        bytes = after;
+        rest = later;
+    }
+    Ok(made)
+}
+
+fn push_refused(made: &mut Vec<Made<'_>>, count: u64) -> Result<(), AllocError>
+    ensures { OnOk result (map call_of made.new.items
+        ≡ map call_of made.old.items ++ replicate count Refused) }
+{
+    for _ in 0..count {
+        made.push(Made::TurnedDown)?;
+    }
+    Ok(())
 }

@@ -10,10 +10,18 @@ mod disk;
 mod failing;
 mod file;
 mod kept;
+mod made;
 mod memory;
 mod moves;
+mod replay;
+mod torn;
 
 pub use disk::{Disk, DiskDone, DiskLen, DiskRead};
 pub use failing::{FailAt, FailMode};
 pub use file::FileDisk;
+pub use made::Made;
 pub use memory::MemDisk;
+pub use torn::Torn;
+
+#[cfg(test)]
+mod tests;

@@ -1,15 +1,23 @@
-ghost use Rattle.std.specs.Prelude.{◌≡◌, ◌≤◌, ◌+◌, ◌-◌, ◌^◌, ◌↔◌, ◌++◌, ◌∷◌, [], ℕ, length, min, is_none, true, IfOk, IsTrue};
+ghost use Rattle.std.specs.Prelude.{◌≡◌, ◌≤◌, ◌+◌, ◌-◌, ◌^◌, ◌↔◌, ◌++◌, ◌∷◌, [], ℕ, length, min, is_none, true, false, IfOk, IsTrue};
 ghost use Rattle.std.specs.Prelude.{◌==◌};
 ghost use Rattle.std.specs.List.{list_any};
 ghost use Rattle.disk_model.specs.Disk.{History, Call, Write, Sync, Refused, contents_of};
 ghost use Rattle.disk_model.specs.Disk.{Wrote, Synced, Called, DidNothing, Gives, HasCause, IfLen, IfRead};
 ghost use Rattle.disk_model.specs.Memory.{MemView, has_call, has_room, mode_of, next_mode, write_call, sync_call, DidCall};
+ghost use Rattle.disk_model.specs.Memory.{is_write_done, is_sync_done};
 ghost use Rattle.disk_model.specs.Memory.{next_read, fails_read, DidRead};
+ghost use Rattle.std.specs.Prelude.{map};
+ghost use Rattle.disk_model.specs.Disk.{LeftAfter};
+ghost use Rattle.disk_model.specs.Made.{call_of};
+ghost use Rattle.disk_model.specs.Replay.{HoldsImage, fresh};
 
 use crate::disk::{Disk, DiskDone, DiskLen, DiskRead};
 use crate::failing::{FailAt, FailMode};
 use crate::kept::CallRecord;
-use crate::moves::{put_bytes, read_bytes};
+use crate::made::Made;
+use crate::moves::{put_within, read_bytes};
+use crate::replay::chosen_image;
+use crate::torn::Torn;
 use cfg_base::NoMemory;
 use std::alloc::Global;
 use std::marker::Model;
@@ -102,6 +110,72 @@ impl MemDisk {
         })
     }
 
+    /// What it holds.
+    pub fn contents(&self) -> &[u8]
+        ensures { result.now ≡ contents_of self.now.history }
+    {
+        &self.bytes
+    }
+
+    /// How many calls of `write_at` and `sync` it has counted.
+    pub fn count(&self) -> u64
+        ensures { result ≡ length self.now.history.calls }
+    {
+        self.calls.count()
+    }
+
+    /// How many bytes it has room for.
+    pub fn room(&self) -> u64
+        ensures { result ≡ self.now.room }
+    {
+        self.room
+    }
+
+    /// How many of its calls have failed.
+    pub fn faults(&self) -> u64
+        ensures { result ≡ self.now.faults }
+    {
+        self.faults
+    }
+
+    /// Its calls of `write_at` and `sync`, first to last.
+    pub fn calls(&self, alloc: Global) -> Result<Vec<Made<'_>>, NoMemory>
+        ensures { IfOk result (λ made. map call_of made.items ≡ self.now.history.calls) }
+    {
+        self.calls.show(alloc)
+    }
+
+    /// What a crash after so many calls and before the next may leave, with these torn bytes.
+    pub fn image_after(&self, alloc: Global, call: u32, torn: &Torn) -> Result<MemDisk, NoMemory>
+        requires made { call ≤ length self.now.history.calls }
+        requires room { torn.now.length ≤ self.now.room }
+        ensures chosen { IfOk result (λ d. HoldsImage self.now call torn.now d) }
+        ensures left { IfOk result (λ d. LeftAfter self.now.history call d.history.first) }
+    {
+        let replay = self.calls.replay_to(alloc, &self.first, call)?;
+        let image = chosen_image(alloc, replay, torn)?;
+        self.fresh(alloc, image)
+    }
+
+    fn fresh(&self, alloc: Global, image: Vec<u8>) -> Result<MemDisk, NoMemory>
+        requires { length image.items ≤ self.now.room }
+        ensures { IfOk result (λ d. d ≡ fresh self.now image.items) }
+    {
+        let mut bytes = Vec::with_capacity(alloc, self.room as usize)?;
+        bytes.extend_from_slice(&image)?;
+        Ok(MemDisk {
+            first: image,
+            bytes,
+            calls: CallRecord::new(alloc, self.room as usize, self.limit)?,
+            room: self.room,
+            limit: self.limit,
+            failing: Vec::new(alloc),
+            reads: 0,
+            failing_reads: Vec::new(alloc),
+            faults: 0,
+        })
+    }
+
     fn has_room(&self, at: u64, count: usize) -> bool
         ensures room { result ≡ has_room self.now at count }
         ensures bound { IsTrue result → at + count ≤ 2 ^ 62 }
@@ -134,7 +208,7 @@ impl MemDisk {
     {
         self.calls.keep_write(at, piece, took);
         if took {
-            put_bytes(&mut self.bytes, at as usize, piece);
+            put_within(&mut self.bytes, at as usize, piece);
         }
     }
 
@@ -167,6 +241,7 @@ impl MemDisk {
 
     fn read_fails(&mut self) -> bool
         ensures fails { result ≡ fails_read self.old }
+        ensures calm { result ≡ false → self.new.faults ≡ self.old.faults }
         ensures did { DidRead self.old self.new }
         ensures cause { HasCause self.old.faults self.new.faults (IsTrue result) }
     {
@@ -186,21 +261,51 @@ impl Disk for MemDisk {
 
     ghost faults = { λ d. d.faults };
 
-    fn len(&mut self) -> DiskLen {
+    fn len(&mut self) -> DiskLen
+        ensures tells { true ≡ true }
+        ensures history { self.new.history ≡ self.old.history }
+        ensures bound { IfLen result (λ n. n ≤ 2 ^ 62) }
+        ensures length { IsTrue true → IfLen result (λ n. n ≡ length (contents_of self.old.history)) }
+        ensures cause { HasCause self.old.faults self.new.faults (result ≡ DiskLen.Failed) }
+        ensures did { DidRead self.old self.new }
+        ensures fails { (result ≡ DiskLen.Failed) ↔ IsTrue (fails_read self.old) }
+        ensures calm { IfLen result (λ _. self.new.faults ≡ self.old.faults) }
+    {
         if self.read_fails() {
             return DiskLen::Failed;
         }
         DiskLen::Len(self.bytes.len() as u64)
     }
 
-    fn read_at(&mut self, at: u64, into: &mut [u8]) -> DiskRead {
+    fn read_at(&mut self, at: u64, into: &mut [u8]) -> DiskRead
+        ensures tells { true ≡ true }
+        ensures history { self.new.history ≡ self.old.history }
+        ensures bound { IfRead result (λ n. n ≤ length into.old) }
+        ensures bytes { IsTrue true → IfRead result (λ n.
+            Gives (contents_of self.old.history) at n into.old into.new) }
+        ensures cause { HasCause self.old.faults self.new.faults (result ≡ DiskRead.Failed) }
+        ensures did { DidRead self.old self.new }
+        ensures fails { (result ≡ DiskRead.Failed) ↔ IsTrue (fails_read self.old) }
+        ensures calm { IfRead result (λ _. self.new.faults ≡ self.old.faults) }
+    {
         if self.read_fails() {
             return DiskRead::Failed;
         }
         DiskRead::Read(read_bytes(&self.bytes, at, into))
     }
 
-    fn write_at(&mut self, at: u64, piece: &[u8]) -> DiskDone {
+    fn write_at(&mut self, at: u64, piece: &[u8]) -> DiskDone
+        requires { IsTrue true → at ≤ length (contents_of self.old.history) }
+        ensures tells { true ≡ true }
+        ensures bound { result ≡ DiskDone.Done → at + length piece.now ≤ 2 ^ 62 }
+        ensures written { IsTrue true →
+            Wrote self.old.history at piece.now (result ≡ DiskDone.Done) self.new.history }
+        ensures cause { HasCause self.old.faults self.new.faults (result ≡ DiskDone.Failed) }
+        ensures did { DidCall self.old (write_call self.old at piece.now) self.new }
+        ensures done { (result ≡ DiskDone.Done)
+            ↔ IsTrue (is_write_done self.old at (length piece.now)) }
+        ensures calm { result ≡ DiskDone.Done → self.new.faults ≡ self.old.faults }
+    {
         if !self.has_room(at, piece.len()) {
             self.turn_down();
             return DiskDone::Failed;
@@ -223,7 +328,15 @@ impl Disk for MemDisk {
         }
     }
 
-    fn sync(&mut self) -> DiskDone {
+    fn sync(&mut self) -> DiskDone
+        ensures tells { true ≡ true }
+        ensures synced { IsTrue true →
+            Synced self.old.history (result ≡ DiskDone.Done) self.new.history }
+        ensures cause { HasCause self.old.faults self.new.faults (result ≡ DiskDone.Failed) }
+        ensures did { DidCall self.old (sync_call self.old) self.new }
+        ensures done { (result ≡ DiskDone.Done) ↔ IsTrue (is_sync_done self.old) }
+        ensures calm { result ≡ DiskDone.Done → self.new.faults ≡ self.old.faults }
+    {
         if !self.has_call() {
             self.turn_down();
             return DiskDone::Failed;
