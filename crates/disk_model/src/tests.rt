@@ -22,21 +22,25 @@ fn put(disk: &mut MemDisk, at: u64, piece: &[u8]) -> DiskDone {
     }
 }
 
-fn image(
-    alloc: Global,
+// Whether a crash after so many calls leaves these bytes.
+fn leaves(
     disk: &MemDisk,
+    alloc: Global,
     call: u32,
-    length: u64,
-    torn: &[u8],
-) -> Result<MemDisk, Fail> {
-    let torn = Torn {
-        length: length.min(64),
-        bytes: Bytes::from(Vec::from_slice(alloc, torn)?),
-    };
+    torn: &Torn,
+    left: &[u8],
+) -> Result<bool, Fail> {
     if u64::from(call) > disk.count() || disk.room() < torn.length {
-        return Err(Fail::from("no such call"));
+        return Err(Fail::from("no such image"));
     }
-    Ok(disk.image_after(alloc, call, &torn)?)
+    Ok(disk.image_after(alloc, call, torn)?.contents() == left)
+}
+
+fn torn(alloc: Global, length: u64, bytes: &[u8]) -> Result<Torn, Fail> {
+    Ok(Torn {
+        length,
+        bytes: Bytes::from(Vec::from_slice(alloc, bytes)?),
+    })
 }
 
 #[test]
@@ -47,42 +51,31 @@ fn pending_places_have_the_torn_bytes_in_order(rt: HostRuntime) -> Result<(), Fa
     assert_eq!(rt; disk.sync(), DiskDone::Done);
     assert_eq!(rt; put(&mut disk, 1, b"XY"), DiskDone::Done);
     assert_eq!(rt; disk.contents(), b"aXYd".as_slice());
-    for (call, length, torn, left) in [
-        (0, 3, b"12", b"".as_slice()),
-        (1, 3, b"12", b"12\0"),
-        (2, 9, b"12", b"abcd"),
-        (3, 0, b"12", b"a12d"),
-        (3, 6, b"12", b"a12d\0\0"),
-    ] {
-        assert_eq!(rt;
-            image(alloc, &disk, call, length, torn)?.contents(),
-            left,
-            "after {call}"
-        );
-    }
+    let short = torn(alloc, 3, b"12")?;
+    let long = torn(alloc, 6, b"12")?;
+    assert!(rt; leaves(&disk, alloc, 0, &long, b"")?);
+    assert!(rt; leaves(&disk, alloc, 1, &short, b"12\0")?);
+    assert!(rt; leaves(&disk, alloc, 2, &long, b"abcd")?);
+    assert!(rt; leaves(&disk, alloc, 3, &short, b"a12d")?);
+    assert!(rt; leaves(&disk, alloc, 3, &long, b"a12d\0\0")?);
     Ok(())
+}
+
+// What a disk holds after a write and a sync of which one fails, and what a crash then leaves.
+fn after_failure(alloc: Global, call: u32, mode: FailMode, left: &[u8]) -> Result<bool, Fail> {
+    let mut disk = disk(alloc, &[FailAt { call, mode }])?;
+    let _ = put(&mut disk, 0, b"ab");
+    let _ = disk.sync();
+    Ok(disk.faults() == 1 && leaves(&disk, alloc, 2, &torn(alloc, 2, b"zz")?, left)?)
 }
 
 #[test]
 fn failing_calls_leave_nothing_or_their_effect(rt: HostRuntime) -> Result<(), Fail> {
     let alloc = rt.alloc();
-    for (call, mode, contents, left) in [
-        (1, FailMode::Nothing, b"".as_slice(), b"".as_slice()),
-        (1, FailMode::Effect, b"ab", b"ab"),
-        (2, FailMode::Nothing, b"ab", b"zz"),
-        (2, FailMode::Effect, b"ab", b"ab"),
-    ] {
-        let mut disk = disk(alloc, &[FailAt { call, mode }])?;
-        let _ = put(&mut disk, 0, b"ab");
-        let _ = disk.sync();
-        assert_eq!(rt; disk.faults(), 1);
-        assert_eq!(rt; disk.contents(), contents);
-        assert_eq!(rt;
-            image(alloc, &disk, 2, 2, b"zz")?.contents(),
-            left,
-            "call {call} {mode:?}"
-        );
-    }
+    assert!(rt; after_failure(alloc, 1, FailMode::Nothing, b"")?);
+    assert!(rt; after_failure(alloc, 1, FailMode::Effect, b"ab")?);
+    assert!(rt; after_failure(alloc, 2, FailMode::Nothing, b"zz")?);
+    assert!(rt; after_failure(alloc, 2, FailMode::Effect, b"ab")?);
     Ok(())
 }
 
