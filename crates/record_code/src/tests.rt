@@ -17,15 +17,16 @@ fn digest_of_abc_is_that_of_the_standard(rt: HostRuntime) {
 fn record_has_kind_length_payload_digest_and_a_closed_gate(rt: HostRuntime) -> Result<(), Fail> {
     let alloc = rt.alloc();
     let payload = Bytes::from(vec![in alloc; b'a'; 60]?);
+    let mut expected = Vec::from_slice(alloc, b"\x01\0\0\0\x3c")?;
+    expected.extend_from_slice(payload.as_slice())?;
+    let digest = digest_of(&expected);
+    expected.extend_from_slice(&digest)?;
+    expected.push(0)?;
     let encoded = encode(alloc, 1, &payload)?;
-    let bytes = encoded.as_bytes();
-    assert_eq!(rt; bytes.len(), 98);
-    assert_eq!(rt; &bytes[..5], [1, 0, 0, 0, 60].as_slice());
-    assert_eq!(rt; &bytes[5..65], payload.as_slice());
-    assert_eq!(rt; &bytes[65..97], digest_of(&bytes[..65]).as_slice());
-    assert_eq!(rt; bytes[97], 0);
-    assert_eq!(rt; kind_of(bytes), Some(1));
-    assert_eq!(rt; length_of(bytes), Some(60));
+    assert_eq!(rt; encoded.as_bytes(), expected.as_slice());
+    assert_eq!(rt; expected.len(), 98);
+    assert_eq!(rt; kind_of(encoded.as_bytes()), Some(1));
+    assert_eq!(rt; length_of(encoded.as_bytes()), Some(60));
     Ok(())
 }
 
