@@ -1,0 +1,5 @@
+pub mod KeptLemmas
+pub mod States
+pub mod Replayed
+pub mod Images
+pub mod MarkLemmas

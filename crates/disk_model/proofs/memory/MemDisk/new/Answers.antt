@@ -1,0 +1,20 @@
+use Rattle.std.proofs.Common.{◌≡◌, ◌<◌, ◌≤◌, IsTrue, ℕ, List, nat_lt, ◌+◌, length, ap, sym, subst, arith, ◌++◌, ◌∷◌, [], ◌∙◌, refl, inl, inr, ⊎_elim, length-append}
+use Rattle.disk_model.specs.Kept.{RecordView}
+use Rattle.disk_model.specs.Disk.{Call, Write, Sync, Refused, contents_of, State}
+use Rattle.disk_model.specs.Memory.{MemView, has_call, has_room}
+use Rattle.disk_model.proofs.Replayed.{past, written_contents, unwritten_contents, synced_contents, refused_contents, ends_within, le_of, lt_of, fits}
+use Rattle.disk_model.proofs.States.{state_first}
+use Rattle.disk_model.proofs.memory.MemDisk.new.Goals as goal
+
+pub invariant_of-result : goal.invariant_of-result
+invariant_of-result c = record {
+  bytes = c.in_ok-with_capacity.ensures.items ∙ sym c.new.ensures.items
+      ∙ sym (ap (λ (s : State). s.contents) (state_first c.new.result.items))
+      ∙ ap (λ (r : RecordView). contents_of (past c.new.result.items r.calls)) (sym c.in_ok-new.ensures);
+  within = omega (arith, ap length c.in_ok-with_capacity.ensures.items);
+  most = omega (arith, c.if-room-gt-MAX_LEN.false);
+  has_room = omega (arith, c.in_ok-with_capacity.ensures.exact);
+  record_room = ap (λ (r : RecordView). r.room) c.in_ok-new.ensures;
+  record_limit = ap (λ (r : RecordView). r.limit) c.in_ok-new.ensures;
+  stated = omega arith;
+}

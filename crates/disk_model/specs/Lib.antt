@@ -1,0 +1,9 @@
+pub mod Disk
+pub mod File
+pub mod Kept
+pub mod Memory
+pub mod RecordInvariant
+pub mod MemInvariant
+pub mod Replay
+pub mod Marks
+pub mod Made

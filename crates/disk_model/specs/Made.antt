@@ -1,0 +1,11 @@
+-- A call of a disk in memory, as its record shows it.
+use Rattle.std.specs.Prelude.{ℕ, List}
+use Rattle.disk_model.specs.declared.made.Made.{Made}
+use Rattle.disk_model.specs.declared.made.Made.TheVariants.{Wrote, Synced, TurnedDown}
+use Rattle.disk_model.specs.Disk.{Call, Write, Sync, Refused}
+
+-- the call that is shown
+abbrev pub call_of : Made → Call
+call_of (Wrote at bytes took) = Write at bytes.now took
+call_of (Synced cleared) = Sync cleared
+call_of TurnedDown = Refused

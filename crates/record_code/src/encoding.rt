@@ -1,0 +1,29 @@
+ghost use Rattle.std.specs.Prelude.{◌≡◌, ◌≤◌, [], ◌∷◌, length, IfOk};
+ghost use Rattle.record_code.specs.declared.encoding.TheConstants.{MAX_PAYLOAD};
+
+use crate::encoded::Encoded;
+use crate::readers::digest_of;
+use cfg_base::{Bytes, NoMemory};
+use std::alloc::Global;
+
+/// The most bytes that a payload has.
+pub const MAX_PAYLOAD: usize = 1_049_600;
+
+// The bytes of a record beside its payload: kind, length, digest and the next gate.
+const OVERHEAD: usize = 38;
+
+/// One record of that kind with that payload.
+pub fn encode(alloc: Global, kind: u8, payload: &Bytes) -> Result<Encoded, NoMemory>
+    requires { length payload.now ≤ MAX_PAYLOAD }
+    ensures { IfOk result (λ e. e ≡ record { kind = kind; payload = payload.now } ∷ []) }
+{
+    let payload = payload.as_slice();
+    let mut bytes = Vec::with_capacity(alloc, payload.len() + OVERHEAD)?;
+    bytes.push(kind)?;
+    bytes.extend_from_slice(&(payload.len() as u32).to_be_bytes())?;
+    bytes.extend_from_slice(payload)?;
+    let digest = digest_of(&bytes);
+    bytes.extend_from_slice(&digest)?;
+    bytes.push(0)?;
+    Ok(Encoded { bytes })
+}
