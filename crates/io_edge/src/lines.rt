@@ -1,4 +1,6 @@
-ghost use Rattle.std.specs.Prelude.{◌≡◌, ◌<◌, ◌≤◌, ◌↔◌, ℕ, List, ◌-◌, ◌+◌, [], ◌∷◌, min, max, length, take, drop, IfOk, OnErr, Ok, ◌++◌, vec_len, vec_capacity};
+ghost use Rattle.std.specs.Prelude.{◌≡◌, ◌<◌, ◌≤◌, ◌↔◌, ℕ, List, ◌-◌, ◌+◌, [], ◌∷◌, min, max};
+ghost use Rattle.std.specs.Prelude.{length, take, drop, IfOk, OnErr, Ok, ◌++◌, vec_len};
+ghost use Rattle.std.specs.Prelude.{vec_capacity};
 ghost use Rattle.io_edge.specs.Ends.{onto, IsUsedUp, Rose};
 ghost use Rattle.io_edge.specs.Taken.{taken, TakesAtMost};
 ghost use Rattle.io_edge.specs.Reader.{IsFilled, IsTakenAs, Takes, GathersTo, end_of, answer_of};

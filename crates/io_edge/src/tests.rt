@@ -251,7 +251,7 @@ fn sink_over_a_writer_fails_where_nothing_is_taken(rt: HostRuntime) {
     assert_eq!(rt; sink.write(b"abc"), Put::Failed);
 }
 
-/// A clock that can't be read, then stands at 7, can't be read, stands before 1970, and past the last moment.
+/// A clock: unread, at 7, unread, before 1970, past the last moment, unread.
 #[derive(Drop)]
 struct UnsteadyClock {
     turn: Cell<u8>,
