@@ -36,7 +36,7 @@ pub record TakesNone (old now : Feed) : Type 0 where
 abbrev pub Stops : Stop → Feed → Feed → Type 0
 Stops Lf old now = TakesByte 10 old now
 Stops End old now = TakesNone old now × (now.ahead ≡ 0) × IsUsedUp now.left
-Stops Full old now = TakesNone old now × (now.room ≡ 0) × (0 < now.ahead) × HasMore now.left
+Stops Full old now = TakesNone old now × (now.room ≡ 0) × (now.ahead ≡ 1) × HasMore now.left
 Stops Failed old now = TakesNone old now × (now.ahead ≡ 0) × Rose old.faults now.faults
 
 -- a byte of the line was taken, or the line stops
