@@ -1,16 +1,21 @@
 -- From what a line reader took to its answer.
-use Rattle.std.proofs.Common.{◌≡◌, ◌≢◌, ◌<◌, ◌≤◌, ◌+◌, ◌-◌, min, zero-add, ◌==◌, ℕ, zero, suc, Bool, true, false, nat_lt, if◌then◌else◌, List, [], ◌∷◌, ◌++◌, take, length, get_or, Option, Some, None, refl, ap, sym, ◌∙◌, subst, inl, inr, arith, append_assoc, length-append}
+use Rattle.std.proofs.Common.{◌≡◌, ◌<◌, ◌≤◌, ◌+◌, min, zero-add, ℕ, suc, Bool, true, false}
+use Rattle.std.proofs.Common.{nat_lt, if◌then◌else◌, List, [], ◌∷◌, ◌++◌, take, length, Option}
+use Rattle.std.proofs.Common.{Some, None, refl, ap, sym, ◌∙◌, subst, inl, inr, arith}
+use Rattle.std.proofs.Common.{append_assoc}
 use Rattle.std.proofs.lemmas.List.{append-nil, take_all, length-take}
 use Rattle.std.proofs.lemmas.Bool.{cases_lt, lt-ltb}
 use Rattle.std.proofs.Math.Dec.{eqb-suc-zero}
 use Rattle.io_edge.specs.declared.lines.Line.{Line}
-use Rattle.io_edge.specs.declared.lines.Line.TheVariants.{Text, TooLong, InputFull, End as AtEnd, Failed as AtFault}
+use Rattle.io_edge.specs.declared.lines.Line.TheVariants.{Text, TooLong, InputFull, End as AtEnd}
+use Rattle.io_edge.specs.declared.lines.Line.TheVariants.{Failed as AtFault}
 use Rattle.io_edge.specs.declared.lines.Stop.{Stop}
 use Rattle.io_edge.specs.declared.lines.Stop.TheVariants.{Lf, End, Full, Failed}
-use Rattle.io_edge.specs.declared.lines.TheConstants.{MAX_LINE, KEPT}
+use Rattle.io_edge.specs.declared.lines.TheConstants.{MAX_LINE}
 use Rattle.io_edge.specs.Ends.{onto, IsUsedUp, HasMore}
 use Rattle.io_edge.specs.Feed.{Feed}
-use Rattle.io_edge.specs.Line.{HasNoLf, without_cr, line_of, last_line_of, IsEndedLine, IsLastLine, IsFull, IsCutOff, Gives, TellsBoth, GivesLine}
+use Rattle.io_edge.specs.Line.{HasNoLf, without_cr, line_of, last_line_of, IsEndedLine}
+use Rattle.io_edge.specs.Line.{IsLastLine, Gives, TellsBoth, GivesLine}
 use Rattle.io_edge.specs.Reader.{GathersTo, answer_of, end_of}
 use Rattle.io_edge.proofs.EndLemmas.{onto-onto}
 

@@ -1,6 +1,8 @@
 -- The bytes from a place on, in a list of pieces.
-use Rattle.std.proofs.Common.{◌≡◌, ◌<◌, ◌≤◌, ◌+◌, ◌-◌, ℕ, List, [], ◌∷◌, ◌++◌, take, drop, length, get_or, Option, Some, refl, ap, sym, ◌∙◌, subst, arith, append_assoc, length-drop}
-use Rattle.std.proofs.lemmas.List.{take-append-drop, take-append-le, drop-append-le, drop-drop, drop_more}
+use Rattle.std.proofs.Common.{◌≡◌, ◌<◌, ◌≤◌, ◌+◌, ◌-◌, ℕ, List, [], ◌++◌, take, drop, length}
+use Rattle.std.proofs.Common.{get_or, Some, ap, sym, ◌∙◌, arith, length-drop}
+use Rattle.std.proofs.lemmas.List.{take-append-drop, take-append-le, drop-append-le, drop-drop}
+use Rattle.std.proofs.lemmas.List.{drop_more}
 use Rattle.std.specs.List.{concat}
 use Rattle.io_edge.specs.Places.{left_from}
 

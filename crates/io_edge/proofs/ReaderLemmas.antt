@@ -1,15 +1,15 @@
 -- Steps of a line reader, over plain lists and feeds.
-use Rattle.std.proofs.Common.{◌≡◌, ◌≢◌, ◌<◌, ◌≤◌, ◌+◌, ◌-◌, max, ℕ, zero, suc, List, [], ◌∷◌, ◌++◌, take, drop, length, get_or, Option, Some, None, refl, ap, sym, ◌∙◌, subst, arith, append_assoc, length-append, add_assoc}
+use Rattle.std.proofs.Common.{◌≡◌, ◌≢◌, ◌<◌, ◌≤◌, ◌+◌, ◌-◌, max, ℕ, zero, suc, List, [], ◌∷◌}
+use Rattle.std.proofs.Common.{◌++◌, take, drop, length, get_or, Option, refl, ap, sym, ◌∙◌}
+use Rattle.std.proofs.Common.{subst, arith, length-append}
 use Rattle.std.proofs.lemmas.List.{take_all, take-append-le, drop_more}
 use Rattle.std.proofs.lemmas.List.Elements.{All-push}
 use Rattle.io_edge.specs.declared.lines.Taken.{Taken}
 use Rattle.io_edge.specs.declared.lines.Taken.TheVariants.{Byte, Stop as stop_of}
-use Rattle.io_edge.specs.declared.lines.Stop.{Stop}
 use Rattle.io_edge.specs.declared.lines.Stop.TheVariants.{Lf, End, Full, Failed}
-use Rattle.io_edge.specs.declared.lines.TheConstants.{MAX_LINE, KEPT}
+use Rattle.io_edge.specs.declared.lines.TheConstants.{KEPT}
 use Rattle.io_edge.specs.Ends.{onto}
 use Rattle.io_edge.specs.Feed.{Feed, feed_of}
-use Rattle.io_edge.specs.Line.{HasNoLf}
 use Rattle.io_edge.specs.Reader.{TakesByte, Takes, IsTakenAs, Gathered}
 use Rattle.io_edge.proofs.EndLemmas.{onto-onto}
 

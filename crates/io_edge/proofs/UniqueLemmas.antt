@@ -1,10 +1,12 @@
 -- A reader whose source doesn't fail has one answer, and leaves one rest.
-use Rattle.std.proofs.Common.{◌≡◌, ◌≢◌, ◌<◌, ◌≤◌, ◌+◌, ◌-◌, ℕ, List, [], ◌∷◌, ◌++◌, take, drop, length, get_or, refl, ap, sym, ◌∙◌, subst, ◌⊎◌, inl, inr, arith, append_assoc, length-append}
+use Rattle.std.proofs.Common.{◌≡◌, ◌≢◌, ◌<◌, ◌+◌, ℕ, List, [], ◌∷◌, ◌++◌, take, drop, length}
+use Rattle.std.proofs.Common.{get_or, refl, ap, sym, ◌∙◌, ◌⊎◌, inl, inr, arith, length-append}
 use Rattle.std.proofs.lemmas.List.{append-nil, get_or_append_left, get_or_at, take_at, drop_at}
 use Rattle.std.proofs.lemmas.Bool.{cases_order}
 use Rattle.io_edge.specs.declared.lines.Line.{Line}
 use Rattle.io_edge.specs.declared.lines.Line.TheVariants.{Text, TooLong, InputFull, End, Failed}
-use Rattle.io_edge.specs.Line.{HasNoLf, line_of, last_line_of, IsEndedLine, IsLastLine, IsFull, Gives}
+use Rattle.io_edge.specs.Line.{HasNoLf, line_of, last_line_of, IsEndedLine, IsLastLine, IsFull}
+use Rattle.io_edge.specs.Line.{Gives}
 
 -- an answer, what it leaves and the room that it leaves are those of another
 pub record IsSame (a b : Line) (left left' : List ℕ) (room room' : ℕ) : Type 0 where

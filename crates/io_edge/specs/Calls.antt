@@ -1,5 +1,5 @@
 -- The calls of an end in memory: which of them fail, by their number from 1. This project's own.
-use Rattle.std.specs.Prelude.{◌≡◌, ◌+◌, ◌==◌, ℕ, List, min, Bool, if◌then◌else◌}
+use Rattle.std.specs.Prelude.{◌+◌, ◌==◌, ℕ, List, min, Bool, if◌then◌else◌}
 use Rattle.std.specs.List.{list_any}
 use Rattle.io_edge.specs.Ends.{last_count}
 
@@ -8,6 +8,10 @@ pub record Calls : Type 0 where
   pub failing : List ℕ
   pub made : ℕ
   pub faults : ℕ
+
+-- no call was made yet
+abbrev pub no_calls : List ℕ → Calls
+no_calls failing = record { failing = failing; made = 0; faults = 0 }
 
 -- a count that rises by one, and stands still at its last value
 abbrev pub next_count : ℕ → ℕ

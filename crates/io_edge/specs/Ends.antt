@@ -1,6 +1,7 @@
 -- What the ends of a session hold, have left and answer. The words are this project's own.
 -- Whether an end tells that is its own matter: a list in memory tells it, a file doesn't.
-use Rattle.std.specs.Prelude.{◌≡◌, ◌≤◌, ◌<◌, length, ◌+◌, ◌-◌, ◌^◌, ℕ, List, [], ◌++◌, min, Option, None, Some, option_map}
+use Rattle.std.specs.Prelude.{◌≡◌, ◌≤◌, ◌<◌, length, ◌+◌, ◌-◌, ◌^◌, ℕ, List, [], ◌++◌, min}
+use Rattle.std.specs.Prelude.{Option, None, Some, option_map}
 
 -- these bytes, and then what is told
 abbrev pub onto : List ℕ → Option (List ℕ) → Option (List ℕ)

@@ -1,5 +1,6 @@
 -- The ends in memory. Their forms are this project's own.
-use Rattle.std.specs.Prelude.{◌≡◌, ◌+◌, ◌-◌, ℕ, List, min, length, slice_index, slice_index_or, Bool, false, true, ◌⊎◌}
+use Rattle.std.specs.Prelude.{◌≡◌, ◌-◌, ℕ, List, min, length, slice_index, slice_index_or, Bool}
+use Rattle.std.specs.Prelude.{false, true, ◌⊎◌}
 use Rattle.io_edge.specs.Calls.{Calls, is_next_failing}
 
 -- a source in memory: the bytes that are left, and its calls
@@ -7,7 +8,7 @@ pub record ListedSource : Type 0 where
   pub left : List ℕ
   pub calls : Calls
 
--- a sink in memory: the bytes that it holds, the number of those for which it still has room, and its calls
+-- a sink in memory: the bytes that it holds, for how many more it has room, and its calls
 pub record KeptSink : Type 0 where
   pub held : List ℕ
   pub room : ℕ

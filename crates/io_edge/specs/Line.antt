@@ -1,5 +1,7 @@
--- Lines of an input. A line ends at an LF, or at the end of the input. The length of 4,096 bytes is this project's own.
-use Rattle.std.specs.Prelude.{◌≡◌, ◌≢◌, ◌<◌, ◌≤◌, ◌+◌, ◌-◌, ◌==◌, ℕ, List, [], ◌∷◌, ◌++◌, length, take, slice_index, nat_lt, if◌then◌else◌, ◌⊎◌, Option, None, Some}
+-- Lines of an input. A line ends at an LF, or at the end of the input.
+-- That it has at most 4,096 bytes is this project's own.
+use Rattle.std.specs.Prelude.{◌≡◌, ◌≢◌, ◌<◌, ◌≤◌, ◌+◌, ◌-◌, ◌==◌, ℕ, List, [], ◌∷◌, ◌++◌, length}
+use Rattle.std.specs.Prelude.{take, slice_index, nat_lt, if◌then◌else◌, ◌⊎◌, Option, None, Some}
 use Rattle.std.specs.List.{All}
 use Rattle.io_edge.specs.declared.lines.TheConstants.{MAX_LINE}
 use Rattle.io_edge.specs.declared.lines.Line.{Line}
@@ -39,7 +41,7 @@ pub record IsLastLine (answer : Line) (old : List ℕ) (old_room : ℕ) (now : L
   pub room : old_room ≡ length line + now_room
   pub answers : answer ≡ last_line_of line
 
--- a line is unfinished after as many bytes as could be taken, and there is another byte
+-- a line is unfinished after as many bytes as might be taken, and there is another byte
 pub record IsFull (old : List ℕ) (old_room : ℕ) (now : List ℕ) (now_room : ℕ) : Type 0 where
   pub part : List ℕ
   pub no_lf : HasNoLf part
@@ -55,16 +57,18 @@ pub record IsCutOff (old : List ℕ) (old_room : ℕ) (now : List ℕ) (now_room
   pub bytes : old ≡ part ++ now
   pub room : old_room ≡ length part + now_room
 
--- the answer of a line reader: of the bytes `old`, of which `old_room` could be taken, it left `now` and `now_room`
+-- the answer of a line reader that had the bytes `old`, of which `old_room` might be taken, and
+-- that left `now` and `now_room`
 abbrev pub Gives : Line → List ℕ → ℕ → List ℕ → ℕ → Type 0
 Gives (Text bytes) old old_room now now_room =
     IsEndedLine (Text bytes) old old_room now now_room ⊎ IsLastLine (Text bytes) old old_room now now_room
-Gives TooLong old old_room now now_room = IsEndedLine TooLong old old_room now now_room ⊎ IsLastLine TooLong old old_room now now_room
+Gives TooLong old old_room now now_room =
+    IsEndedLine TooLong old old_room now now_room ⊎ IsLastLine TooLong old old_room now now_room
 Gives End old old_room now now_room = (old ≡ []) × (now ≡ []) × (now_room ≡ old_room)
 Gives InputFull old old_room now now_room = IsFull old old_room now now_room
 Gives Failed old old_room now now_room = IsCutOff old old_room now now_room
 
--- a relation of what was left with what is left, where it is told; whether it is told is changed by no call
+-- a relation of what was left with what is left, where it is told; no call changes whether it is
 abbrev pub TellsBoth : (List ℕ → List ℕ → Type 0) → Option (List ℕ) → Option (List ℕ) → Type 0
 TellsBoth R None None = Unit {0}
 TellsBoth R (Some old) (Some now) = R old now
@@ -76,7 +80,8 @@ abbrev pub GivesLine : Line → Option (List ℕ) → ℕ → Option (List ℕ) 
 GivesLine answer old_left old_room now_left now_room =
     TellsBoth (λ old now. Gives answer old old_room now now_room) old_left now_left
 
--- how many bytes may still be taken after that answer: fewer after a line, as many at the end, none where the input is full
+-- how many bytes may still be taken after that answer: fewer after a line, as many at the end,
+-- none where the input is full
 abbrev pub Falls : Line → ℕ → ℕ → Type 0
 Falls (Text bytes) old_room now_room = now_room < old_room
 Falls TooLong old_room now_room = now_room < old_room

@@ -1,10 +1,12 @@
 -- How a line reader goes over its bytes, step by step.
-use Rattle.std.specs.Prelude.{◌≡◌, ◌≢◌, ◌<◌, ◌≤◌, ◌+◌, ℕ, List, [], ◌∷◌, length, take, ◌==◌, if◌then◌else◌}
+use Rattle.std.specs.Prelude.{◌≡◌, ◌≢◌, ◌<◌, ◌≤◌, ◌+◌, ℕ, List, [], ◌∷◌, length, take, ◌==◌}
+use Rattle.std.specs.Prelude.{if◌then◌else◌}
 use Rattle.io_edge.specs.Ends.{onto, IsUsedUp, HasMore, Rose}
 use Rattle.io_edge.specs.Feed.{Feed}
 use Rattle.io_edge.specs.Line.{HasNoLf, line_of, last_line_of}
 use Rattle.io_edge.specs.declared.lines.Line.{Line}
-use Rattle.io_edge.specs.declared.lines.Line.TheVariants.{InputFull, End as AtEnd, Failed as AtFault}
+use Rattle.io_edge.specs.declared.lines.Line.TheVariants.{InputFull, End as AtEnd}
+use Rattle.io_edge.specs.declared.lines.Line.TheVariants.{Failed as AtFault}
 use Rattle.io_edge.specs.declared.lines.TheConstants.{MAX_LINE}
 use Rattle.io_edge.specs.declared.lines.Filled.{Filled}
 use Rattle.io_edge.specs.declared.lines.Filled.TheVariants.{Ready, Out, Broken}
@@ -13,7 +15,7 @@ use Rattle.io_edge.specs.declared.lines.Taken.TheVariants.{Byte, Stop as stop_of
 use Rattle.io_edge.specs.declared.lines.Stop.{Stop}
 use Rattle.io_edge.specs.declared.lines.Stop.TheVariants.{Lf, End, Full, Failed}
 
--- after the reader looked for a byte: it has one ahead, or the source is used up, or the source failed
+-- after a look for a byte: one is ahead, or the source is used up, or the source failed
 abbrev pub IsFilled : Filled → Feed → Feed → Type 0
 IsFilled Ready old now = 0 < now.ahead
 IsFilled Out old now = (now.ahead ≡ 0) × IsUsedUp now.left
@@ -30,11 +32,11 @@ pub record TakesNone (old now : Feed) : Type 0 where
   pub bytes : now.left ≡ old.left
   pub room : now.room ≡ old.room
 
--- why a line stops: its LF was taken, nothing is left, nothing more may be taken, or the source failed
+-- why a line stops: its LF was taken, nothing is left, none may be taken, or the source failed
 abbrev pub Stops : Stop → Feed → Feed → Type 0
 Stops Lf old now = TakesByte 10 old now
 Stops End old now = TakesNone old now × (now.ahead ≡ 0) × IsUsedUp now.left
-Stops Full old now = TakesNone old now × (now.room ≡ 0) × (0 < now.ahead) × HasMore now.left
+Stops Full old now = TakesNone old now × (now.room ≡ 0) × (now.ahead ≡ 1) × HasMore now.left
 Stops Failed old now = TakesNone old now × (now.ahead ≡ 0) × Rose old.faults now.faults
 
 -- a byte of the line was taken, or the line stops

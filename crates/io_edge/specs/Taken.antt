@@ -1,5 +1,5 @@
 -- What one read takes from a source.
-use Rattle.std.specs.Prelude.{◌≡◌, ◌≤◌, ◌<◌, ℕ, List, [], take}
+use Rattle.std.specs.Prelude.{◌≤◌, ℕ, List, [], take}
 use Rattle.io_edge.specs.declared.ends.Got.{Got}
 use Rattle.io_edge.specs.declared.ends.Got.TheVariants.{Bytes, End, Failed}
 

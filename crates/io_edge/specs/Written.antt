@@ -1,5 +1,5 @@
 -- What one write gives to a sink.
-use Rattle.std.specs.Prelude.{◌≡◌, ◌≤◌, ◌<◌, ℕ, List, [], take, min}
+use Rattle.std.specs.Prelude.{◌≡◌, ◌≤◌, ℕ, List, [], take, min}
 use Rattle.io_edge.specs.declared.ends.Put.{Put}
 use Rattle.io_edge.specs.declared.ends.Put.TheVariants.{Took, Failed}
 

@@ -1,5 +1,6 @@
 ghost use Rattle.std.specs.Prelude.{◌≡◌, ◌≤◌};
-ghost use Rattle.io_edge.specs.Calls.{is_next_failing, with_call, with_fault, next_count};
+ghost use Rattle.io_edge.specs.Calls.{is_next_failing, no_calls, with_call, with_fault};
+ghost use Rattle.io_edge.specs.Calls.{next_count};
 
 use std::marker::Model;
 
@@ -29,7 +30,7 @@ fn next_count(count: u64) -> u64
 impl Calls {
     /// No call was made yet.
     pub fn new(failing: Vec<u64>) -> Calls
-        ensures { result ≡ record { failing = failing.items; made = 0; faults = 0 } }
+        ensures { result ≡ no_calls failing.items }
     {
         Calls {
             failing,

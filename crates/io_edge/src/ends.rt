@@ -35,7 +35,7 @@ pub trait Source {
     fn read(&mut self, into: &mut [u8]) -> Got
         requires { 0 < length into.old }
         ensures count { TakesAtMost result (length into.old) }
-        // What was left is what was taken and what is left now: whether it is told is changed by no call.
+        // What was left is what was taken and what is left now; no call changes whether it is told.
         ensures bytes { left self.old ≡ onto (taken result into.new) (left self.new) }
         ensures end { result ≡ Got.End → IsUsedUp (left self.new) }
         ensures later { faults self.old ≤ faults self.new }

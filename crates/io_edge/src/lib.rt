@@ -1,9 +1,9 @@
 //! The ends of a session: sources, sinks, clocks and beats, their forms in memory and over the
 //! system, the lines of an input, and the writing of whole texts.
 //!
-//! Guarantees: a line is what its bytes say, and never more bytes are taken than the limit; a text is
-//! written whole, or a part of it from its beginning; a fault is answered only where the end's count of
-//! faults rose.
+//! Guarantees: a line is what its bytes say, and never more bytes are taken than the limit; a text
+//! is written whole, or a part of it from its beginning; a fault is answered only where the end's
+//! count of faults rose.
 //! Leaves to others: what a line means (`shell_words`), and disks (`disk_model`).
 #![tactic(auto)]
 

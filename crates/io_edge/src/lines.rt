@@ -1,4 +1,6 @@
-ghost use Rattle.std.specs.Prelude.{◌≡◌, ◌<◌, ◌≤◌, ◌↔◌, ℕ, List, ◌-◌, ◌+◌, [], ◌∷◌, min, max, length, take, drop, IfOk, OnErr, Ok, ◌++◌, vec_len, vec_capacity};
+ghost use Rattle.std.specs.Prelude.{◌≡◌, ◌<◌, ◌≤◌, ◌↔◌, ℕ, List, ◌-◌, ◌+◌, [], ◌∷◌, min, max};
+ghost use Rattle.std.specs.Prelude.{length, take, drop, IfOk, OnOk, OnErr, Ok, ◌++◌, vec_len};
+ghost use Rattle.std.specs.Prelude.{vec_capacity};
 ghost use Rattle.io_edge.specs.Ends.{onto, IsUsedUp, Rose};
 ghost use Rattle.io_edge.specs.Taken.{taken, TakesAtMost};
 ghost use Rattle.io_edge.specs.Reader.{IsFilled, IsTakenAs, Takes, GathersTo, end_of, answer_of};
@@ -214,6 +216,8 @@ impl<S: Source> Lines<S> {
         ensures err { OnErr result (self.new ≡ self.old) }
         // The source gave a byte more than may be taken exactly where the input is full.
         ensures full { IfOk result (λ line. line ≡ Line.InputFull ↔ (self.new.room < self.new.ahead)) }
+        // No more was read ahead than may be taken, and one byte where none may be.
+        ensures within { OnOk result (self.new.ahead ≤ max self.new.room 1) }
         ensures falls { IfOk result (λ line. Falls line self.old.room self.new.room) }
         ensures later { self.old.faults ≤ self.new.faults }
         ensures failed { result ≡ Ok Line.Failed → Rose self.old.faults self.new.faults }

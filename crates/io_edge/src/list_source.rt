@@ -1,8 +1,9 @@
-ghost use Rattle.std.specs.Prelude.{Some, ◌≡◌, ◌<◌, ◌≤◌, ◌↔◌, [], length, take, drop, min, slice_index_or, true};
+ghost use Rattle.std.specs.Prelude.{Some, ◌≡◌, ◌<◌, ◌≤◌, ◌↔◌, [], length, take, drop, min};
+ghost use Rattle.std.specs.Prelude.{slice_index_or, true};
 ghost use Rattle.std.specs.List.{concat};
 ghost use Rattle.io_edge.specs.Ends.{onto, IsUsedUp, Rose};
 ghost use Rattle.io_edge.specs.Taken.{taken, TakesAtMost};
-ghost use Rattle.io_edge.specs.Calls.{is_next_failing, with_call};
+ghost use Rattle.io_edge.specs.Calls.{is_next_failing, no_calls, with_call};
 ghost use Rattle.io_edge.specs.Places.{left_from, IsPlaceOf, HasByteAt};
 
 use crate::calls::Calls;
@@ -40,7 +41,7 @@ impl ListSource {
     /// A source of these pieces, of whose reads those of these numbers, counted from 1, fail.
     pub fn new(pieces: Vec<Bytes>, failing: Vec<u64>) -> ListSource
         ensures left { result.left ≡ concat pieces.items }
-        ensures calls { result.calls ≡ record { failing = failing.items; made = 0; faults = 0 } }
+        ensures calls { result.calls ≡ no_calls failing.items }
     {
         ListSource {
             pieces,

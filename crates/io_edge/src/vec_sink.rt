@@ -1,7 +1,7 @@
 ghost use Rattle.std.specs.Prelude.{Some, ◌≡◌, ◌<◌, ◌≤◌, ◌↔◌, ◌+◌, [], length, IfOk};
 ghost use Rattle.io_edge.specs.Ends.{behind, Rose};
 ghost use Rattle.io_edge.specs.Written.{written, GivesAtMost, TakesWhatFits};
-ghost use Rattle.io_edge.specs.Calls.{next_count};
+ghost use Rattle.io_edge.specs.Calls.{next_count, no_calls};
 ghost use Rattle.io_edge.specs.Forms.{IsRefused};
 
 use crate::calls::Calls;
@@ -31,11 +31,11 @@ impl Model for VecSink {
 }
 
 impl VecSink {
-    /// A sink with room for so many bytes, of whose writes those of these numbers, counted from 1, fail.
+    /// A sink of this room, of whose writes those of these numbers, counted from 1, fail.
     pub fn new(alloc: Global, room: u64, failing: Vec<u64>) -> Result<VecSink, NoMemory>
         ensures held { IfOk result (λ sink. sink.held ≡ []) }
         ensures room { IfOk result (λ sink. sink.room ≡ room) }
-        ensures calls { IfOk result (λ sink. sink.calls ≡ record { failing = failing.items; made = 0; faults = 0 }) }
+        ensures calls { IfOk result (λ sink. sink.calls ≡ no_calls failing.items) }
     {
         let room = room as usize;
         Ok(VecSink {

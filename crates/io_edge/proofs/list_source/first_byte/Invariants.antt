@@ -1,4 +1,4 @@
-use Rattle.std.proofs.Common.{length, ◌-◌, ◌≡◌, ◌≤◌}
+use Rattle.std.proofs.Common.{length, ◌-◌, ◌≡◌}
 use Rattle.io_edge.specs.Places.{left_from, IsPlaceOf}
 use Rattle.io_edge.proofs.list_source.first_byte.Given as goal
 

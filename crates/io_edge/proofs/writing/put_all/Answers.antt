@@ -1,4 +1,4 @@
-use Rattle.std.proofs.Common.{arith, rules}
+use Rattle.std.proofs.Common.{arith}
 use Rattle.io_edge.proofs.WroteLemmas.{wrote_more}
 use Rattle.io_edge.proofs.writing.put_all.Goals as goal
 

@@ -1,4 +1,3 @@
-use Rattle.std.proofs.Common.{rules}
 use Rattle.io_edge.proofs.ReaderLemmas.{gathered_more}
 use Rattle.io_edge.proofs.lines.Lines.gather.Goals as goal
 

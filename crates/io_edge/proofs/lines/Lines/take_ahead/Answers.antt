@@ -1,4 +1,4 @@
-use Rattle.std.proofs.Common.{rules, arith}
+use Rattle.std.proofs.Common.{rules}
 use Rattle.io_edge.proofs.ReaderLemmas.{takes_ahead}
 use Rattle.io_edge.proofs.lines.Lines.take_ahead.Goals as goal
 

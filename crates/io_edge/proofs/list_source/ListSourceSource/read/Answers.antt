@@ -1,4 +1,4 @@
-use Rattle.std.proofs.Common.{arith, ap, sym, ◌∙◌, rules}
+use Rattle.std.proofs.Common.{arith, rules}
 use Rattle.io_edge.proofs.PlaceLemmas.{read_part}
 use Rattle.io_edge.proofs.list_source.ListSourceSource.read.Goals as goal
 
