@@ -17,11 +17,11 @@ use Rattle.session_history.specs.declared.turn.Stance.TheVariants.{Operational, 
 use Rattle.session_history.specs.Events.{places_of}
 use Rattle.session_history.specs.Told.{Told, Item, item_of, stance_after, places_told, text_of}
 use Rattle.session_history.specs.Items.{GoesOn, ReadsAs, item_at}
-use Rattle.session_history.specs.Session.{Sides, Served, TakesAnswers, IsCut, IsInput, StopsBy, is_whole}
+use Rattle.session_history.specs.Session.{Sides, Served, TakesAnswers, IsCut, IsInput, StopsBy}
 use Rattle.session_history.proofs.ServedLemmas.{Served-then}
 use Rattle.session_history.proofs.LineLemmas.{TellsBoth-then, ReadsAs-append, IsCut-push, IsCut-empty, IsInput-of}
 use Rattle.confd.specs.declared.session.Next.{Next}
-use Rattle.confd.specs.Steps.{ServesItem, ReadsLine, TakesLine, IsStop, AtStop, Stops, MovesOn, SoFar, Ends, how_next}
+use Rattle.confd.specs.Steps.{ServesItem, ReadsLine, TakesLine, IsStop, AtStop, Stops, MovesOn, SoFar, Ends, how_next, is_whole}
 
 -- nothing is told where nothing changes
 pub Served-none : (opening : State) (caller : ℕ) (old : Sides) → Served opening caller true [] old old

@@ -5,7 +5,7 @@ use Rattle.cfg_base.specs.declared.command.Command.{Command}
 use Rattle.config_core.specs.declared.reply.Reply.{Reply}
 use Rattle.config_core.specs.State.{State}
 use Rattle.io_edge.specs.declared.lines.Line.{Line}
-use Rattle.io_edge.specs.Ends.{TakesAnswer}
+use Rattle.io_edge.specs.Ends.{TakesAnswer, Rose}
 use Rattle.io_edge.specs.Feed.{Feed}
 use Rattle.io_edge.specs.Line.{HasNoLf, TellsBoth, IsEndedLine, IsLastLine}
 use Rattle.session_history.specs.declared.history.Happened.{Happened}
@@ -18,7 +18,7 @@ use Rattle.session_history.specs.Events.{places_of}
 use Rattle.session_history.specs.Texts.{text_of_reply, no_memory_text}
 use Rattle.session_history.specs.Told.{Told, Item, Ask, item_of, turn_of, answer_of, text_of, places_told, stance_after, after_reply, IsTrueOf}
 use Rattle.session_history.specs.Items.{ReadsAs}
-use Rattle.session_history.specs.Session.{Sides, Served, IsCut, IsInput, is_whole}
+use Rattle.session_history.specs.Session.{Sides, Served, IsCut, IsInput, LogsOut}
 use Rattle.confd.specs.declared.session.Next.{Next}
 
 -- what a session has as the answer to a command: the reply, or none for want of memory
@@ -123,6 +123,14 @@ pub record SoFar (opening : State) (caller limit : ℕ) (stance : Stance) (left 
   pub within : feed.ahead ≤ feed.room
   pub going : stance ≡ Out → ⊥
 
+-- what was served was written whole, but where the sink failed
+abbrev pub is_whole : How → Bool
+is_whole Clean = true
+is_whole SourceFault = true
+is_whole SinkFault = false
+is_whole InputFull = true
+is_whole NoMemory = true
+
 -- all that a session served, but for its last logout; what it has left was read ahead or is the source's
 pub record Ends (opening : State) (caller limit : ℕ) (how : How) (stance : Stance) (left : Option (List ℕ)) (feed : Feed) (old new : Sides) : Type 0 where
   pub lines : List Line
@@ -130,3 +138,12 @@ pub record Ends (opening : State) (caller limit : ℕ) (how : How) (stance : Sta
   pub reads : ReadsAs lines Operational asked stance
   pub served : Served opening caller (is_whole how) asked old new
   pub input : TellsBoth (λ before now. (held after : List ℕ) → now ≡ held ++ after → length held ≡ feed.ahead → IsInput lines stance how limit before after) left feed.left
+
+-- the last logout of a session that ended so: nothing more is written to a sink that failed
+pub record Finishes (opening : State) (caller : ℕ) (stance : Stance) (how : How) (faults faults' : ℕ) (old new : Sides) : Type 0 where
+  pub final : List Told
+  pub whole : Bool
+  pub logs_out : LogsOut stance final
+  pub served : Served opening caller whole final old new
+  pub silent : how ≡ SinkFault → new.held ≡ old.held
+  pub in_part : whole ≡ false → (how ≡ SinkFault) ⊎ Rose faults faults'

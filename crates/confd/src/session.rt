@@ -1,6 +1,6 @@
 //! One session: it reads its lines, asks the machine, and writes each answer before the next line is read.
 
-ghost use Rattle.std.specs.Prelude.{◌≡◌, ◌<◌, ◌≤◌, ◌∷◌, ◌⊎◌, length, vec_len, vec_capacity, None, Some, OnErr, is_ok, Bool};
+ghost use Rattle.std.specs.Prelude.{◌≡◌, ◌<◌, ◌≤◌, ◌+◌, ◌∷◌, ◌⊎◌, length, vec_len, vec_capacity, None, Some, OnErr, is_ok, Bool};
 ghost use Rattle.cfg_base.specs.Sound.{IsSound};
 ghost use Rattle.io_edge.specs.Ends.{Rose};
 ghost use Rattle.io_edge.specs.Wrote.{Wrote};
@@ -9,7 +9,7 @@ ghost use Rattle.session_history.specs.declared.turn.Stance.TheVariants.{Out};
 ghost use Rattle.session_history.specs.Items.{is_configuring};
 ghost use Rattle.session_history.specs.Told.{Ask, Wrong};
 ghost use Rattle.confd.specs.Log.{opened};
-ghost use Rattle.confd.specs.Steps.{Asks, MovesOn, ReadsLine, ServesItem, Unread, after_answer, how_next, text_of_answer};
+ghost use Rattle.confd.specs.Steps.{Asks, Ends, MovesOn, ReadsLine, ServesItem, Unread, after_answer, how_next, text_of_answer};
 
 use crate::book::Book;
 use crate::writing::{put_fault, put_no_memory, put_reply};
@@ -21,9 +21,17 @@ use shell_words::{ReadFault, read_line};
 use std::alloc::Global;
 
 /// Where a session stands after a step, and how it ended, if it did.
+#[derive(Clone, Copy)]
 pub(crate) struct Next {
     stance: Stance,
     how: Option<How>,
+}
+
+/// Where a session stands when it ends, and how it ended.
+#[derive(Clone, Copy)]
+pub(crate) struct Ending {
+    stance: Stance,
+    how: How,
 }
 
 /// Asks the machine a command, at the clock's next answer. No reply where memory is wanting.
@@ -42,6 +50,7 @@ fn ask<C: Clock>(
     ensures kept { book.new.kept ≡ book.old.kept }
     ensures users { book.new.users ≡ book.old.users }
     ensures room { vec_capacity turns.new ≡ vec_capacity turns.old }
+    ensures len { vec_len turns.new ≤ vec_len turns.old + 1 }
 {
     match book.ask(caller, clock.now(), command) {
         Ok((place, reply)) => {
@@ -130,6 +139,7 @@ fn take_command<K: Sink, C: Clock>(
     ensures kept { book.new.kept ≡ book.old.kept }
     ensures users { book.new.users ≡ book.old.users }
     ensures room { vec_capacity turns.new ≡ vec_capacity turns.old }
+    ensures len { vec_len turns.new ≤ vec_len turns.old + 1 }
     ensures cause { result.how ≡ Some SinkFault → Rose (K.faults sink.old) (K.faults sink.new) }
     ensures later { K.faults sink.old ≤ K.faults sink.new }
 {
@@ -154,6 +164,7 @@ fn take_fault<K: Sink, C: Clock>(
         (record { coming = C.coming clock.old; held = K.held sink.old; turns = turns.old.items; events = book.now.events })
         (record { coming = C.coming clock.new; held = K.held sink.new; turns = turns.new.items; events = book.now.events }) }
     ensures room { vec_capacity turns.new ≡ vec_capacity turns.old }
+    ensures len { vec_len turns.new ≤ vec_len turns.old + 1 }
     ensures cause { result.how ≡ Some SinkFault → Rose (K.faults sink.old) (K.faults sink.new) }
     ensures later { K.faults sink.old ≤ K.faults sink.new }
 {
@@ -186,6 +197,7 @@ fn take_text<K: Sink, C: Clock>(
     ensures kept { book.new.kept ≡ book.old.kept }
     ensures users { book.new.users ≡ book.old.users }
     ensures room { vec_capacity turns.new ≡ vec_capacity turns.old }
+    ensures len { vec_len turns.new ≤ vec_len turns.old + 1 }
     ensures cause { result.how ≡ Some SinkFault → Rose (K.faults sink.old) (K.faults sink.new) }
     ensures later { K.faults sink.old ≤ K.faults sink.new }
 {
@@ -228,6 +240,7 @@ fn serve_next<S: Source, K: Sink, C: Clock>(
     ensures kept { book.new.kept ≡ book.old.kept }
     ensures users { book.new.users ≡ book.old.users }
     ensures room { vec_capacity turns.new ≡ vec_capacity turns.old }
+    ensures len { vec_len turns.new ≤ vec_len turns.old + 1 }
     ensures falls { result.how ≡ None → lines.new.room < lines.old.room }
     ensures source_cause { result.how ≡ Some SourceFault → Rose lines.old.faults lines.new.faults }
     ensures sink_cause { result.how ≡ Some SinkFault → Rose (K.faults sink.old) (K.faults sink.new) }
@@ -262,5 +275,72 @@ fn serve_next<S: Source, K: Sink, C: Clock>(
         Ok(Line::Failed) => stop(stance, How::SourceFault),
         Ok(Line::InputFull) => stop(stance, How::InputFull),
         Err(NoMemory) => stop(stance, How::NoMemory),
+    }
+}
+
+/// Makes room for two turns, serves the next line of a session, and leaves room for its last logout.
+fn serve_step<S: Source, K: Sink, C: Clock>(
+    alloc: Global,
+    lines: &mut Lines<S>,
+    book: &mut Book,
+    sink: &mut K,
+    clock: &mut C,
+    turns: &mut Vec<Turn>,
+    caller: u32,
+    stance: Stance,
+) -> Next
+    requires going { stance ≡ Out → ⊥ }
+    requires caller { (0 < caller) × (caller ≤ length book.old.users) }
+    requires room { vec_len turns.old < vec_capacity turns.old }
+    requires within { lines.old.ahead ≤ lines.old.room }
+    ensures moves { MovesOn (opened book.old) caller stance result lines.old lines.new
+        (record { coming = C.coming clock.old; held = K.held sink.old; turns = turns.old.items; events = book.old.events })
+        (record { coming = C.coming clock.new; held = K.held sink.new; turns = turns.new.items; events = book.new.events }) }
+    ensures kept { book.new.kept ≡ book.old.kept }
+    ensures users { book.new.users ≡ book.old.users }
+    ensures room { vec_len turns.new < vec_capacity turns.new }
+    ensures falls { result.how ≡ None → lines.new.room < lines.old.room }
+    ensures source_cause { result.how ≡ Some SourceFault → Rose lines.old.faults lines.new.faults }
+    ensures sink_cause { result.how ≡ Some SinkFault → Rose (K.faults sink.old) (K.faults sink.new) }
+    ensures later_source { lines.old.faults ≤ lines.new.faults }
+    ensures later_sink { K.faults sink.old ≤ K.faults sink.new }
+{
+    match turns.reserve(2) {
+        Ok(()) => serve_next(alloc, lines, book, sink, clock, turns, caller, stance),
+        Err(_) => stop(stance, How::NoMemory),
+    }
+}
+
+/// Serves the lines of a session, one after another, until it ends.
+fn serve<S: Source, K: Sink, C: Clock>(
+    alloc: Global,
+    lines: &mut Lines<S>,
+    book: &mut Book,
+    sink: &mut K,
+    clock: &mut C,
+    turns: &mut Vec<Turn>,
+    caller: u32,
+) -> Ending
+    requires caller { (0 < caller) × (caller ≤ length book.old.users) }
+    requires room { vec_len turns.old < vec_capacity turns.old }
+    requires within { lines.old.ahead ≤ lines.old.room }
+    ensures ends { Ends (opened book.old) caller lines.old.room result.how result.stance lines.old.left lines.new
+        (record { coming = C.coming clock.old; held = K.held sink.old; turns = turns.old.items; events = book.old.events })
+        (record { coming = C.coming clock.new; held = K.held sink.new; turns = turns.new.items; events = book.new.events }) }
+    ensures kept { book.new.kept ≡ book.old.kept }
+    ensures users { book.new.users ≡ book.old.users }
+    ensures room { vec_len turns.new < vec_capacity turns.new }
+    ensures source_cause { result.how ≡ SourceFault → Rose lines.old.faults lines.new.faults }
+    ensures sink_cause { result.how ≡ SinkFault → Rose (K.faults sink.old) (K.faults sink.new) }
+    ensures later_source { lines.old.faults ≤ lines.new.faults }
+    ensures later_sink { K.faults sink.old ≤ K.faults sink.new }
+{
+    let mut stance = Stance::Operational;
+    'lines: loop {
+        let next = serve_step(alloc, lines, book, sink, clock, turns, caller, stance);
+        stance = next.stance;
+        if let Some(how) = next.how {
+            return Ending { stance, how };
+        }
     }
 }

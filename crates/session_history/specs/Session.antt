@@ -4,7 +4,7 @@ use Rattle.std.specs.List.{flat_map, AllByRecursion}
 use Rattle.cfg_base.specs.declared.command.Command.TheVariants.{Logout}
 use Rattle.config_core.specs.State.{State}
 use Rattle.io_edge.specs.declared.lines.Line.{Line}
-use Rattle.io_edge.specs.Ends.{behind}
+use Rattle.io_edge.specs.Ends.{behind, Rose}
 use Rattle.io_edge.specs.Line.{HasNoLf, TellsBoth, line_of, last_line_of}
 use Rattle.io_edge.specs.Wrote.{WrotePart}
 use Rattle.session_history.specs.declared.history.Happened.{Happened}
@@ -100,24 +100,19 @@ LogsOut Out final = final ≡ []
 LogsOut Operational final = (told : Told) × (final ≡ told ∷ []) × (item_of told ≡ Ask Logout)
 LogsOut Configuring final = (told : Told) × (final ≡ told ∷ []) × (item_of told ≡ Ask Logout)
 
--- the text of a session is written whole but where its sink failed
-abbrev pub is_whole : How → Bool
-is_whole Clean = true
-is_whole SourceFault = true
-is_whole SinkFault = false
-is_whole InputFull = true
-is_whole NoMemory = true
-
--- one session of a caller: its items are the lines of what was read, and a last logout; its turns, its events, its clock's
--- answers and the text that its sink got are what the items came to
-pub record IsSession (opening : State) (caller limit : ℕ) (how : How) (source source' : Option (List ℕ)) (old new : Sides) : Type 0 where
+-- one session of a caller, with the counts of its sink's faults: its items are the lines of what was read, and a last logout;
+-- its turns, its events and its clock's answers are what the items came to; its sink got the text of the whole, or a part of it
+-- from its beginning only where the count rose
+pub record IsSession (opening : State) (caller limit : ℕ) (how : How) (source source' : Option (List ℕ)) (faults faults' : ℕ) (old new : Sides) : Type 0 where
   pub lines : List Line
   pub asked : List Told
   pub final : List Told
   pub stance : Stance
+  pub whole : Bool
   pub reads : ReadsAs lines Operational asked stance
   pub logs_out : LogsOut stance final
-  pub served : Served opening caller (is_whole how) (asked ++ final) old new
+  pub served : Served opening caller whole (asked ++ final) old new
+  pub in_part : whole ≡ false → Rose faults faults'
   pub input : TellsBoth (λ before after. IsInput lines stance how limit before after) source source'
 
 -- the status of a session that ended so
