@@ -1,0 +1,6 @@
+pub mod Number
+pub mod Address
+pub mod Interface
+pub mod Choice
+pub mod Pattern
+pub mod Spelling

@@ -1,0 +1,11 @@
+//! Which bytes are a spelling of a kind of value, and the one spelling in which each value is kept.
+//!
+//! Guarantees: a spelling stands for one value of its kind, and each value has one canonical spelling,
+//! which reads as itself; bytes are refused exactly where they are no spelling of the kind.
+//! Leaves to others: which kind a statement takes (`cfg_schema`), and where a wildcard name may stand
+//! (`cfg_tree`).
+#![tactic(auto)]
+
+mod fault;
+
+pub use fault::ValueFault;
