@@ -1,6 +1,6 @@
 -- What the spellings of each kind of value stand for, and how each value is spelled in one way.
 -- The kinds and their ranges are this project's own.
-use Rattle.std.specs.Prelude.{◌≡◌, ◌≤◌, ℕ, List, length, nat_le, ◌&&◌, Bool, IsTrue, Contains}
+use Rattle.std.specs.Prelude.{◌≡◌, ◌≤◌, ℕ, List, length, nat_le, ◌&&◌, Bool, IsTrue, Contains, Result, MatchResult}
 use Rattle.std.specs.List.{list_all}
 use Rattle.std.specs.Fmt.{decimal}
 use Rattle.cfg_base.specs.Kind.{IsName, IsHost}
@@ -76,7 +76,11 @@ pub record IsCanonicalOf (kind : Kind) (bytes word : List ℕ) : Type 0 where
 abbrev pub IsCanonical : Kind → List ℕ → Type 0
 IsCanonical kind bytes = IsCanonicalOf kind bytes bytes
 
--- why no word is given: the bytes are no spelling of that kind, or they are one and memory was wanting
+-- why no word is given: they are no spelling of that kind; or they are one, and memory was wanting
 abbrev pub IsCause : Kind → List ℕ → ValueFault → Type 0
 IsCause kind bytes (NotOfKind refused) = (refused ≡ kind) × ¬ (IsSpelling kind bytes)
 IsCause kind bytes NoMemory = IsSpelling kind bytes
+
+-- what reading the bytes answers: the canonical spelling, or the cause
+abbrev pub IsAnswer : Kind → List ℕ → Result (List ℕ) ValueFault → Type 0
+IsAnswer kind bytes result = MatchResult result (IsCanonicalOf kind bytes) (IsCause kind bytes)
