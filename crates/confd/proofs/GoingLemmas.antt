@@ -258,3 +258,11 @@ SoFar-ends opening caller limit stance next how left feed feed' old mid new so_f
       served = whole_or_part opening caller stops.how so_far.told old mid so_far.served;
       input = TellsBoth-then _ _ _ (λ x y z cut stop. λ held after is_now is_ahead. input_at_stop so_far.lines stance stops.how limit feed.room feed'.ahead x y z cut stop held after is_now is_ahead) left feed.left feed'.left so_far.cut stops.stops;
     })))
+
+-- a session so far, and a step after which it goes on
+pub SoFar-moves : (opening : State) (caller limit : ℕ) (stance : Stance) (next : Next) (left : Option (List ℕ)) (feed feed' : Feed) (old mid new : Sides) → SoFar opening caller limit stance left feed old mid → MovesOn opening caller stance next feed feed' mid new → next.how ≡ None → SoFar opening caller limit next.stance left feed' old new
+SoFar-moves opening caller limit stance next left feed feed' old mid new so_far (inl takes) goes = SoFar-more opening caller limit stance next left feed feed' old mid new so_far takes goes
+SoFar-moves opening caller limit stance next left feed feed' old mid new so_far (inr stops) goes = absurd (some_is_not_none stops.how next.how stops.is_how goes)
+  where
+  some_is_not_none : (how : How) (given : Option How) → given ≡ Some how → given ≡ None → ⊥
+  some_is_not_none how given some none = cc

@@ -102,3 +102,7 @@ Adds-more core log caller answer moment command place reply is late replied at_e
             ∙ ap (λ front. (turned_by (state_after (opened log) front) event).reply) (sym (ap (λ p. take p (log.events ++ asked_event caller moment command ∷ [])) at_end ∙ take-append_seam log.events (asked_event caller moment command ∷ [])));
       };
     }
+
+-- a log over the same list and users opened alike
+pub same_opening : (a b : Log) → a.kept ≡ b.kept → a.users ≡ b.users → opened a ≡ opened b
+same_opening a b kept users = ap (λ k. opening_of k a.users) kept ∙ ap (opening_of b.kept) users
