@@ -264,5 +264,5 @@ pub SoFar-moves : (opening : State) (caller limit : ℕ) (stance : Stance) (next
 SoFar-moves opening caller limit stance next left feed feed' old mid new so_far (inl takes) goes = SoFar-more opening caller limit stance next left feed feed' old mid new so_far takes goes
 SoFar-moves opening caller limit stance next left feed feed' old mid new so_far (inr stops) goes = absurd (some_is_not_none stops.how next.how stops.is_how goes)
   where
-  some_is_not_none : (how : How) (given : Option How) → given ≡ Some how → given ≡ None → ⊥
-  some_is_not_none how given some none = cc
+    some_is_not_none : (how : How) (given : Option How) → given ≡ Some how → given ≡ None → ⊥
+    some_is_not_none how given some none = cc
