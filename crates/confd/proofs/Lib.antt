@@ -3,3 +3,4 @@ pub mod LogLemmas
 pub mod StepLemmas
 pub mod GoingLemmas
 pub mod StopLemmas
+pub mod EndLemmas

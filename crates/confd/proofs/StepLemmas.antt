@@ -93,7 +93,7 @@ Served-one opening caller whole told coming coming' held held' turns turns' even
 }
 
 -- a text that was written, or a part of it
-delivers_of : {T E : Type 0} → (put : Result T E) (text : List ℕ) (old now : Option (List ℕ)) → Wrote put text old now → Delivers (is_ok put) text old now
+pub delivers_of : {T E : Type 0} → (put : Result T E) (text : List ℕ) (old now : Option (List ℕ)) → Wrote put text old now → Delivers (is_ok put) text old now
 delivers_of (Ok done) text old now wrote = wrote
 delivers_of (Err failed) text old now wrote = wrote
 

@@ -7,13 +7,14 @@ ghost use Rattle.io_edge.specs.Wrote.{Wrote};
 ghost use Rattle.session_history.specs.declared.turn.How.TheVariants.{SinkFault, SourceFault};
 ghost use Rattle.session_history.specs.declared.turn.Stance.TheVariants.{Out};
 ghost use Rattle.session_history.specs.Items.{is_configuring};
+ghost use Rattle.session_history.specs.Session.{IsSession};
 ghost use Rattle.session_history.specs.Told.{Ask, Wrong};
 ghost use Rattle.confd.specs.Log.{opened};
-ghost use Rattle.confd.specs.Steps.{Asks, Ends, MovesOn, ReadsLine, ServesItem, Unread, after_answer, how_next, text_of_answer};
+ghost use Rattle.confd.specs.Steps.{Asks, Ends, Finishes, LastTurn, MovesOn, ReadsLine, ServesItem, Unread, after_answer, how_next, text_of_answer};
 
 use crate::book::Book;
 use crate::writing::{put_fault, put_no_memory, put_reply};
-use cfg_base::{Command, NoMemory};
+use cfg_base::{Command, Limits, NoMemory, UserName};
 use config_core::Reply;
 use io_edge::{Clock, Line, Lines, PutFailed, Sink, Source};
 use session_history::{How, ShellFault, Stance, Turn};
@@ -342,5 +343,145 @@ fn serve<S: Source, K: Sink, C: Clock>(
         if let Some(how) = next.how {
             return Ending { stance, how };
         }
+    }
+}
+
+/// Asks the last logout, and writes its answer.
+fn log_out<K: Sink, C: Clock>(
+    book: &mut Book,
+    sink: &mut K,
+    clock: &mut C,
+    turns: &mut Vec<Turn>,
+    caller: u32,
+)
+    requires caller { (0 < caller) × (caller ≤ length book.old.users) }
+    requires room { vec_len turns.old < vec_capacity turns.old }
+    ensures last { LastTurn (opened book.old) caller (K.faults sink.old) (K.faults sink.new)
+        (record { coming = C.coming clock.old; held = K.held sink.old; turns = turns.old.items; events = book.old.events })
+        (record { coming = C.coming clock.new; held = K.held sink.new; turns = turns.new.items; events = book.new.events }) }
+    ensures kept { book.new.kept ≡ book.old.kept }
+    ensures users { book.new.users ≡ book.old.users }
+    ensures later { K.faults sink.old ≤ K.faults sink.new }
+{
+    let answer = ask(book, clock, turns, caller, Command::Logout);
+    let _written = tell(sink, &answer);
+}
+
+/// Logs a session out that ended without it. To a sink that failed nothing more is written.
+fn log_out_ended<K: Sink, C: Clock>(
+    book: &mut Book,
+    sink: &mut K,
+    clock: &mut C,
+    turns: &mut Vec<Turn>,
+    caller: u32,
+    ending: Ending,
+)
+    requires going { ending.stance ≡ Out → ⊥ }
+    requires caller { (0 < caller) × (caller ≤ length book.old.users) }
+    requires room { vec_len turns.old < vec_capacity turns.old }
+    ensures finishes { Finishes (opened book.old) caller ending.stance ending.how (K.faults sink.old) (K.faults sink.new)
+        (record { coming = C.coming clock.old; held = K.held sink.old; turns = turns.old.items; events = book.old.events })
+        (record { coming = C.coming clock.new; held = K.held sink.new; turns = turns.new.items; events = book.new.events }) }
+    ensures kept { book.new.kept ≡ book.old.kept }
+    ensures users { book.new.users ≡ book.old.users }
+    ensures later { K.faults sink.old ≤ K.faults sink.new }
+{
+    match ending.how {
+        How::SinkFault => {
+            let _answer = ask(book, clock, turns, caller, Command::Logout);
+        }
+        How::Clean | How::SourceFault | How::InputFull | How::NoMemory => {
+            log_out(book, sink, clock, turns, caller);
+        }
+    }
+}
+
+/// Logs a session out, if it isn't.
+fn finish<K: Sink, C: Clock>(
+    book: &mut Book,
+    sink: &mut K,
+    clock: &mut C,
+    turns: &mut Vec<Turn>,
+    caller: u32,
+    ending: Ending,
+)
+    requires caller { (0 < caller) × (caller ≤ length book.old.users) }
+    requires room { vec_len turns.old < vec_capacity turns.old }
+    ensures finishes { Finishes (opened book.old) caller ending.stance ending.how (K.faults sink.old) (K.faults sink.new)
+        (record { coming = C.coming clock.old; held = K.held sink.old; turns = turns.old.items; events = book.old.events })
+        (record { coming = C.coming clock.new; held = K.held sink.new; turns = turns.new.items; events = book.new.events }) }
+    ensures kept { book.new.kept ≡ book.old.kept }
+    ensures users { book.new.users ≡ book.old.users }
+    ensures later { K.faults sink.old ≤ K.faults sink.new }
+{
+    match ending.stance {
+        Stance::Out => {}
+        Stance::Operational | Stance::Configuring => {
+            log_out_ended(book, sink, clock, turns, caller, ending);
+        }
+    }
+}
+
+/// The ends of a session: whose it is, what it reads, what it writes to, and what tells it the time.
+#[derive(Drop)]
+pub struct End<S, K, C> {
+    pub user: UserName,
+    pub source: S,
+    pub sink: K,
+    pub clock: C,
+}
+
+/// A session that has ended, with all that it was given.
+pub(crate) struct Ended<S, K, C> {
+    pub how: How,
+    pub end: End<S, K, C>,
+    pub turns: Vec<Turn>,
+}
+
+/// Runs one session to its end.
+pub(crate) fn run_session<S: Source, K: Sink, C: Clock>(
+    alloc: Global,
+    book: &mut Book,
+    caller: u32,
+    end: End<S, K, C>,
+    turns: Vec<Turn>,
+    limits: Limits,
+) -> Ended<S, K, C>
+    requires caller { (0 < caller) × (caller ≤ length book.old.users) }
+    requires room { vec_len turns < vec_capacity turns }
+    ensures session { IsSession (opened book.old) caller limits.input result.how
+        (S.left end.source) (S.left result.end.source) (K.faults end.sink) (K.faults result.end.sink)
+        (record { coming = C.coming end.clock; held = K.held end.sink; turns = turns.items; events = book.old.events })
+        (record { coming = C.coming result.end.clock; held = K.held result.end.sink; turns = result.turns.items; events = book.new.events }) }
+    ensures user { result.end.user ≡ end.user }
+    ensures kept { book.new.kept ≡ book.old.kept }
+    ensures users { book.new.users ≡ book.old.users }
+    ensures source_cause { result.how ≡ SourceFault → Rose (S.faults end.source) (S.faults result.end.source) }
+    ensures sink_cause { result.how ≡ SinkFault → Rose (K.faults end.sink) (K.faults result.end.sink) }
+{
+    let End {
+        user,
+        source,
+        sink,
+        clock,
+    } = end;
+    let mut sink = sink;
+    let mut clock = clock;
+    let mut turns = turns;
+    let mut lines = Lines::new(alloc, source, limits);
+    let ending = serve(
+        alloc, &mut lines, book, &mut sink, &mut clock, &mut turns, caller,
+    );
+    finish(book, &mut sink, &mut clock, &mut turns, caller, ending);
+    let source = lines.into_source();
+    Ended {
+        how: ending.how,
+        end: End {
+            user,
+            source,
+            sink,
+            clock,
+        },
+        turns,
     }
 }
