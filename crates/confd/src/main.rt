@@ -2,6 +2,7 @@
 #![tactic(auto)]
 
 mod book;
+mod run;
 mod session;
 mod writing;
 
