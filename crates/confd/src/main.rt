@@ -1,9 +1,125 @@
-//! The configuration service.
+//! The configuration service: its top call, and the program round it.
+//!
+//! Guarantees: `run` serves its session as the machine of one event at a time would, and hands everything back
+//! (specs/Run.antt).
+//! Leaves to others: what the machine does (`config_core`), what a line asks (`shell_words`), and what the ends of a
+//! session are (`io_edge`). That real files, terminals and clocks behave as their adapters say is trusted.
 #![tactic(auto)]
+
+use cfg_base::{NoMemory, UserName, Word, WordFault, Words};
+use disk_model::FileDisk;
+use io_edge::{SleepBeat, StdClock, StdSink, StdSource};
+use run::{Ticker, run};
+use session::End;
+use std::alloc::Global;
+use std::fs::{File, Files};
+use std::io::{ErrorKind, Read, Write};
+use std::process::ExitCode;
+use std::rt::{Clock, Env};
+use std::sync::Wait;
+use std::thread::Threads;
+use std::{env, str};
 
 mod book;
 mod run;
 mod session;
 mod writing;
 
-fn main(_rt: HostRuntime) {}
+/// Why the words of the command line are none for `run`.
+enum WordsFault {
+    Usage,
+    NoMemory,
+}
+
+impl From<NoMemory> for WordsFault {
+    fn from(_: NoMemory) -> WordsFault {
+        WordsFault::NoMemory
+    }
+}
+
+impl From<WordFault> for WordsFault {
+    fn from(fault: WordFault) -> WordsFault {
+        match fault {
+            WordFault::LongWord => WordsFault::Usage,
+            WordFault::NoMemory => WordsFault::NoMemory,
+        }
+    }
+}
+
+/// The words of the command line, but for the program's own name.
+fn words_of<R: Env + AllocGlobal>(rt: &R) -> Result<Words, WordsFault> {
+    let alloc = rt.alloc();
+    let args = match env::args(rt) {
+        Ok(args) => args,
+        Err(error) if error.kind() == ErrorKind::OutOfMemory => return Err(WordsFault::NoMemory),
+        Err(_) => return Err(WordsFault::Usage),
+    };
+    let mut words = Words::new(alloc);
+    for arg in args.skip(1) {
+        words.push(Word::of(alloc, arg.as_str().as_bytes())?)?;
+    }
+    Ok(words)
+}
+
+/// A file of the place that the words name.
+fn disk_of<R: Files<File = File>>(
+    rt: &R,
+    alloc: Global,
+    words: &Words,
+    name: &str,
+) -> Result<FileDisk, NoMemory> {
+    let place = match words.as_slice() {
+        [_, place, ..] => str::from_utf8(place.as_bytes()).unwrap_or(""),
+        _ => "",
+    };
+    let path = format!(in alloc; "{place}/{name}")?;
+    Ok(FileDisk::open(rt, path.as_str()))
+}
+
+fn root(alloc: Global) -> Result<UserName, NoMemory> {
+    let word = Word::of(alloc, b"root").map_err(|_| NoMemory)?;
+    UserName::of(word).ok_or(NoMemory)
+}
+
+/// Runs the service over a reader, a writer and the system's clock and files, and gives its status.
+fn serve<R, I, O>(rt: &R, words: &Words, input: I, output: O) -> Result<u8, NoMemory>
+where
+    R: Threads + Wait + Sync + Send + Files<File = File> + Clock + AllocGlobal + Clone + Drop,
+    I: Read + Drop + Send,
+    O: Write + Drop + Send,
+{
+    let alloc = rt.alloc();
+    let mut ends = Vec::new(alloc);
+    ends.push(End {
+        user: root(alloc)?,
+        source: StdSource::new(input),
+        sink: StdSink::new(output),
+        clock: StdClock::new(rt.clone()?),
+    })?;
+    let ticker = Ticker {
+        beat: SleepBeat::new(rt.clone()?),
+        clock: StdClock::new(rt.clone()?),
+    };
+    let disk_a = disk_of(rt, alloc, words, "journal.a")?;
+    let disk_b = disk_of(rt, alloc, words, "journal.b")?;
+    Ok(run(rt, alloc, words, ends, ticker, disk_a, disk_b).status)
+}
+
+/// Says on standard error why the service did not run.
+fn tell(rt: &impl Eprint, status: u8) {
+    let _told = match status {
+        1 => rt.eprintln("confd: usage: confd serve|init|check|gen PLACE [USER:FILE ..]"),
+        9 => rt.eprintln("confd: out of memory"),
+        _ => Ok(()),
+    };
+}
+
+fn main(rt: HostRuntime) -> ExitCode {
+    let status = match words_of(&rt) {
+        Ok(words) => serve(&rt, &words, rt.stdin(), rt.stdout()).unwrap_or(9),
+        Err(WordsFault::Usage) => 1,
+        Err(WordsFault::NoMemory) => 9,
+    };
+    tell(&rt, status);
+    ExitCode::from(status)
+}
