@@ -23,6 +23,8 @@ use std::{env, str};
 mod book;
 mod run;
 mod session;
+#[cfg(test)]
+mod tests;
 mod writing;
 
 /// Why the words of the command line are none for `run`.
