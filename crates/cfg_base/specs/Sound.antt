@@ -1,5 +1,5 @@
 -- Which commands a session may ask.
-use Rattle.std.specs.Prelude.{◌≡◌, ℕ, List, length}
+use Rattle.std.specs.Prelude.{◌≡◌, length}
 use Rattle.cfg_base.specs.declared.command.Op.{Op}
 use Rattle.cfg_base.specs.declared.command.Op.TheVariants.{Set}
 use Rattle.cfg_base.specs.declared.command.Command.{Command}

@@ -11,3 +11,6 @@ mod token;
 
 pub use plain::is_plain;
 pub use reader::{ReadFault, read_line};
+
+#[cfg(test)]
+mod tests;
