@@ -2,3 +2,10 @@
 #![tactic(auto)]
 
 mod appending;
+mod fault;
+mod flight;
+mod journal;
+
+pub use fault::DiskFault;
+pub use flight::Flight;
+pub use journal::Journal;
