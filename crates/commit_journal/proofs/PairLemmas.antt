@@ -1,10 +1,12 @@
 -- What two files spell, where one of them goes on and the other stays.
-use Rattle.std.proofs.Common.{◌≡◌, ◌≢◌, ◌≤◌, ◌<◌, ◌⊎◌, inl, inr, ⊎_elim, ℕ, zero, suc, ◌+◌, ◌-◌, ◌%◌, ◌^◌, ◌==◌, Bool, true, false, cond, List, [], ◌∷◌, ◌++◌, length, get_or, refl, sym, ◌∙◌, ap, subst, arith}
+use Rattle.std.proofs.Common.{◌≡◌, ◌≢◌, ◌≤◌, ◌<◌, ◌⊎◌, inl, inr, ⊎_elim, ℕ, zero, suc, ◌+◌, ◌-◌, ◌%◌, ◌^◌, ◌==◌, min, Bool, true, false, cond, List, [], ◌∷◌, ◌++◌, length, get_or, refl, sym, ◌∙◌, ap, subst, arith}
 use Rattle.std.proofs.lemmas.List.{append-nil}
 use Rattle.std.specs.Int.{w64, from_be_bytes}
 use Rattle.disk_model.specs.Disk.{Call, History, State, state_of, contents_of, IsImage, Since, Leaves}
 use Rattle.disk_model.proofs.Images.{settled_image, synced_within, contents_image, leaves_now}
-use Rattle.record_code.specs.Record.{Record, body}
+use Rattle.std.specs.List.{All}
+use Rattle.record_code.specs.Record.{Record, IsSound, body}
+use Rattle.commit_journal.specs.Journal.{gate_behind}
 use Rattle.record_code.specs.Reading.{byte, slice, Agree, Spells, first_gate}
 use Rattle.record_code.proofs.Slices.{slice_same}
 use Rattle.commit_journal.proofs.AppendLemmas.{gate_from}
@@ -104,11 +106,20 @@ pub append_leaves : (b : Bool) (h h' o : History) (rs : List Record) (r : Record
 append_leaves b h h' o rs r gate rests leaves =
     lift b h h' o (IsBeforeOrAfter (contents_of h) rs r gate) (SpellsEither rs (rs ++ r ∷ [])) rests.other_quiet (λ c is. either_spells b (contents_of h) (contents_of o) rs r gate c rests.chosen is) leaves
 
+-- what a crash then leaves of the file that counts
+pub append_images : (h h' : History) (rs : List Record) (r : Record) (gate : ℕ) → Leaves h h' (IsBeforeOrAfter (contents_of h) rs r gate)
+    → (c : List ℕ) → IsImage (state_of h') c → IsBeforeOrAfter (contents_of h') rs r gate c
+append_images h h' rs r gate leaves c image =
+    let P = IsBeforeOrAfter (contents_of h) rs r gate in
+    let here = leaves_now h h' P leaves (contents_of h') (contents_image (state_of h') (synced_within h')) in
+    let there = leaves_now h h' P leaves c image in
+    record { header = λ k from to. sym (here.header k from to) ∙ there.header k from to; either = there.either }
+
 -- after a fault the record is in flight
 pub append_waits : (b : Bool) (h h' o : History) (rs : List Record) (r : Record) (gate : ℕ) → Rests b h o gate rs → Leaves h h' (IsBeforeOrAfter (contents_of h) rs r gate)
     → Waits b h' o gate rs r
 append_waits b h h' o rs r gate rests leaves = record {
-  images = λ c image. let there = image_is c image in record { header = λ k from to. sym (here.header k from to) ∙ there.header k from to; either = there.either };
+  images = append_images h h' rs r gate leaves;
   other_quiet = rests.other_quiet;
   chosen = chosen_same b (contents_of h) (contents_of h') (contents_of o) rests.chosen here.header (either_long (contents_of h) rs r gate (contents_of h') here);
 }
@@ -136,3 +147,15 @@ rests_only true h o gate rs rests c d image_c image_d =
     subst (λ (l : List ℕ). PairSpells l d rs) (sym (settled_image (state_of o) c rests.other_quiet image_c))
     (subst (λ (l : List ℕ). PairSpells (contents_of o) l rs) (sym (settled_image (state_of h) d rests.settled.quiet image_d))
       (chosen_spells true (contents_of h) (contents_of o) rs gate rests.chosen rests.settled.spells))
+
+-- a list of one record
+pub the_one : (l : List Record) → length l ≡ 1 → (r : Record) × (l ≡ r ∷ [])
+the_one [] one = absurd (omega arith)
+the_one (r ∷ []) one = (r, refl)
+the_one (r ∷ (s ∷ rest)) one = absurd (omega arith)
+
+pub sound_one : (l : List Record) (r : Record) → All IsSound l → l ≡ r ∷ [] → IsSound r
+sound_one l r all one = let P : List Record → Type 0 = λ m. All IsSound m in subst P one all 0 r (omega arith)
+
+pub behind_is : (gate : ℕ) (bytes : List ℕ) (r : Record) → bytes ≡ body 0 r → min (gate + length bytes) (2 ^ 62 - 1) ≡ gate_behind gate r
+behind_is gate bytes r is = ap (λ (l : List ℕ). min (gate + length l) (2 ^ 62 - 1)) is
