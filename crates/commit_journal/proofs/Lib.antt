@@ -1,2 +1,3 @@
 pub mod AppendLemmas
 pub mod PairLemmas
+pub mod SettleLemmas

@@ -4,6 +4,8 @@ use Rattle.disk_model.specs.Disk.{History, state_of, contents_of, IsImage, Rose}
 use Rattle.record_code.specs.Record.{Record, body}
 use Rattle.commit_journal.specs.declared.flight.Flight.{Flight}
 use Rattle.commit_journal.specs.declared.flight.Flight.TheVariants.{Nothing, Record as InFlight}
+use Rattle.commit_journal.specs.declared.settling.Settled.{Settled}
+use Rattle.commit_journal.specs.declared.settling.Settled.TheVariants.{Kept, NotKept}
 use Rattle.commit_journal.specs.Pair.{first_of, second_of, IsSettled, IsBeforeOrAfter, Rests, Waits, LeavesPair}
 
 -- the disk that counts and the other one, and what is in flight
@@ -69,3 +71,13 @@ pub record PairCause (counting counting' other other' : ℕ) (failed : Type 0) :
   pub counting_later : counting ≤ counting'
   pub other_later : other ≤ other'
   pub rose : failed → Rose counting counting' ⊎ Rose other other'
+
+-- the place of the gate behind a record in flight
+abbrev pub next_of : Flight → ℕ → ℕ
+next_of Nothing gate = gate
+next_of (InFlight next) gate = next
+
+-- what the journal has once it is settled
+abbrev pub HasSettled : {D : Type 0} → (D → History) → JournalView D → List Record → Record → Settled → Type 0
+HasSettled history v rs r Kept = Has history v (rs ++ r ∷ [])
+HasSettled history v rs r NotKept = Has history v rs

@@ -1,7 +1,7 @@
 -- Two files as one journal: their headers, which of them counts, and the list that they spell.
 use Rattle.std.specs.Prelude.{◌≡◌, ◌≤◌, ◌<◌, ◌+◌, ◌%◌, ◌^◌, ◌==◌, ◌⊎◌, Bool, true, false, ℕ, List, [], ◌∷◌, ◌++◌, length, if◌then◌else◌}
 use Rattle.std.specs.Int.{w64, from_be_bytes}
-use Rattle.disk_model.specs.Disk.{History, State, Call, Since, IsImage, state_of, contents_of}
+use Rattle.disk_model.specs.Disk.{History, State, Call, Since, IsImage, Leaves, state_of, contents_of}
 use Rattle.record_code.specs.Record.{Record, body}
 use Rattle.record_code.specs.Reading.{byte, slice, Agree, Spells, first_gate}
 
@@ -108,3 +108,13 @@ SpellsEither rs ss c d = PairSpells c d rs ⊎ PairSpells c d ss
 -- each pair of images at this moment spells this list
 abbrev pub Only : History → History → List Record → Type 0
 Only a b rs = (c d : List ℕ) → IsImage (state_of a) c → IsImage (state_of b) d → PairSpells c d rs
+
+-- a file's calls since then only settled it: a crash leaves nothing that it might not have left before
+pub record FileSettles (h h' : History) : Type 0 where
+  pub leaves : Leaves h h' (IsImage (state_of h))
+  pub same : contents_of h' ≡ contents_of h
+  pub still_quiet : IsQuiet h → IsQuiet h'
+
+-- an image of each disk that a crash at that moment might have left
+abbrev pub WasLeft : History → History → List ℕ → List ℕ → Type 0
+WasLeft a b c d = IsImage (state_of a) c × IsImage (state_of b) d

@@ -1,12 +1,15 @@
-ghost use Rattle.std.specs.Prelude.{◌≡◌, ◌≤◌, ◌<◌, ◌+◌, ◌^◌, ◌++◌, ◌∷◌, [], ℕ, List, length, IsTrue, OnOk, OnErr, IsErr};
+ghost use Rattle.std.specs.Prelude.{◌≡◌, ◌≤◌, ◌<◌, ◌+◌, ◌^◌, ◌++◌, ◌∷◌, [], ℕ, List, length, IsTrue, OnOk, OnErr, IsErr, IfOk, ◌↔◌};
+ghost use Rattle.disk_model.specs.Disk.{contents_of};
+ghost use Rattle.record_code.specs.Reading.{byte};
 ghost use Rattle.disk_model.specs.Disk.{Rose};
 ghost use Rattle.record_code.specs.Record.{Record};
-ghost use Rattle.commit_journal.specs.Pair.{SpellsEither, PairSpells, Only, first_of, second_of};
-ghost use Rattle.commit_journal.specs.Journal.{Tell, IsIdle, IsInFlight, Has, Awaits, LeavesBoth, PairCause, a_of, b_of};
+ghost use Rattle.commit_journal.specs.Pair.{SpellsEither, PairSpells, Only, WasLeft, first_of, second_of};
+ghost use Rattle.commit_journal.specs.Journal.{Tell, IsIdle, IsInFlight, Has, Awaits, LeavesBoth, PairCause, a_of, b_of, HasSettled};
 
 use crate::appending::append_to;
 use crate::fault::DiskFault;
 use crate::flight::Flight;
+use crate::settling::{Settled, settle_files};
 use disk_model::{Disk, DiskDone};
 use record_code::Encoded;
 use std::marker::Model;
@@ -76,6 +79,46 @@ impl<D: Disk> Journal<D> {
                 self.flight = Flight::Record(next.min(LAST_GATE));
                 Err(DiskFault)
             }
+        }
+    }
+
+    /// Finds out whether what is in flight is kept; after a fault all is as before.
+    pub fn settle(&mut self) -> Result<Settled, DiskFault>
+        requires { IsInFlight self.old.flight }
+        ensures settled { IfOk result (λ settled. (rs : List Record) (r : Record)
+            → Tell D.tells self.old → Awaits D.history self.old rs r
+            → HasSettled D.history self.new rs r settled) }
+        // It answers by the gate that is read after the syncs.
+        ensures gate { IsTrue (D.tells self.old.counting) → IfOk result (λ settled. settled ≡ Settled.Kept
+            ↔ (byte (contents_of (D.history self.new.counting)) self.old.gate ≡ 1)) }
+        ensures awaits { OnErr result ((rs : List Record) (r : Record)
+            → Tell D.tells self.old → Awaits D.history self.old rs r
+            → Awaits D.history self.new rs r) }
+        // A crash since its start leaves what one just before it might have left.
+        ensures any_moment { Tell D.tells self.old → LeavesBoth D.history self.old self.new
+            (WasLeft (a_of D.history self.old) (b_of D.history self.old)) }
+        ensures either { (rs : List Record) (r : Record)
+            → Tell D.tells self.old → Awaits D.history self.old rs r
+            → LeavesBoth D.history self.old self.new (SpellsEither rs (rs ++ r ∷ [])) }
+        ensures ok_idle { OnOk result (IsIdle self.new) }
+        ensures err_flight { OnErr result (self.new.flight ≡ self.old.flight) }
+        ensures choice { self.new.b_counts ≡ self.old.b_counts }
+        ensures tells { D.tells self.new.counting ≡ D.tells self.old.counting }
+        ensures other_tells { D.tells self.new.other ≡ D.tells self.old.other }
+        ensures cause { PairCause (D.faults self.old.counting) (D.faults self.new.counting)
+            (D.faults self.old.other) (D.faults self.new.other) (IsErr result) }
+    {
+        match settle_files(&mut self.counting, &mut self.other, self.gate) {
+            Some(true) => {
+                self.gate = self.flight.next_or(self.gate);
+                self.flight = Flight::Nothing;
+                Ok(Settled::Kept)
+            }
+            Some(false) => {
+                self.flight = Flight::Nothing;
+                Ok(Settled::NotKept)
+            }
+            None => Err(DiskFault),
         }
     }
 

@@ -5,7 +5,9 @@ mod appending;
 mod fault;
 mod flight;
 mod journal;
+mod settling;
 
 pub use fault::DiskFault;
 pub use flight::Flight;
 pub use journal::Journal;
+pub use settling::Settled;
