@@ -4,10 +4,14 @@
 mod appending;
 mod fault;
 mod flight;
+mod header;
 mod journal;
+mod reading;
 mod settling;
+mod why;
 
 pub use fault::DiskFault;
 pub use flight::Flight;
 pub use journal::Journal;
 pub use settling::Settled;
+pub use why::AttachWhy;
