@@ -1,3 +1,4 @@
 pub mod AppendLemmas
 pub mod PairLemmas
 pub mod SettleLemmas
+pub mod ReadLemmas

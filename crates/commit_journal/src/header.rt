@@ -1,6 +1,6 @@
 ghost use Rattle.std.specs.Prelude.{◌≡◌, IsTrue, IfSome, IsNone};
 ghost use Rattle.disk_model.specs.Disk.{contents_of, HasCause};
-ghost use Rattle.std.specs.Prelude.{take, drop, ◌↔◌};
+ghost use Rattle.std.specs.Prelude.{take, drop, ◌↔◌, ◌≤◌};
 ghost use Rattle.std.specs.Int.{w64, from_be_bytes};
 ghost use Rattle.commit_journal.specs.Pair.{magic};
 ghost use Rattle.commit_journal.specs.Attach.{IsHeaderOf};
@@ -40,10 +40,16 @@ pub(crate) fn read_header<D: Disk>(disk: &mut D) -> Option<Header>
         return None;
     }
     Some(Header {
-        is_sound: len >= FIRST_GATE && begins_with_magic(&bytes),
+        is_sound: is_header(len, &bytes),
         generation: generation_in(&bytes),
         is_open: bytes[16] == OPEN,
     })
+}
+
+fn is_header(len: u64, bytes: &[u8; 17]) -> bool
+    ensures { IsTrue result ↔ ((17 ≤ len) × (take 8 bytes.now ≡ magic)) }
+{
+    len >= FIRST_GATE && begins_with_magic(bytes)
 }
 
 fn begins_with_magic(bytes: &[u8; 17]) -> bool
