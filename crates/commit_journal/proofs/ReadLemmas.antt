@@ -1,7 +1,7 @@
 -- What the bytes that were read say of the file.
 use Rattle.std.proofs.Common.{◌≡◌, ◌≢◌, ◌≤◌, ◌<◌, ℕ, zero, suc, ◌+◌, ◌-◌, ◌==◌, Bool, true, false, not, cond, nat_le, IsTrue, ◌↔◌, List, [], ◌∷◌, ◌++◌, length, get_or, take, drop, refl, sym, ◌∙◌, ap, subst, arith}
 use Rattle.std.proofs.lemmas.Bool.Decides.{nat_tests}
-use Rattle.std.proofs.lemmas.List.{take_at, drop_at, take_all}
+use Rattle.std.proofs.lemmas.List.{take_at, drop_at, take_all, map-append}
 use Rattle.std.proofs.lemmas.Slice.Eq.{bytes_eq-Decides}
 use Rattle.std.specs.Cmp.Lexicographic.{pointwise}
 use Rattle.std.specs.Prelude.{nat_eq}
@@ -12,7 +12,10 @@ use Rattle.record_code.specs.Reading.{byte, slice, size_at, record_at, computed_
 use Rattle.record_code.proofs.Slices.{length-slice, get_or-slice, slice-append}
 use Rattle.commit_journal.specs.declared.header.Header.{Header}
 use Rattle.commit_journal.specs.Pair.{magic, generation, file_gate, HasHeader}
-use Rattle.commit_journal.specs.Attach.{IsHeaderOf, IsDamage}
+use Rattle.record_code.specs.declared.payloads.Placed.{Placed}
+use Rattle.record_code.specs.Reading.{Reads}
+use Rattle.record_code.proofs.ReadingLemmas.{reads_push}
+use Rattle.commit_journal.specs.Attach.{IsHeaderOf, IsDamage, record_of, records_of}
 
 kept_size : (n : ℕ) → n ≤ most_payload → n ≡ cond (nat_le n most_payload) n 0
 kept_size n le = grind (arith, nat_tests)
@@ -109,3 +112,14 @@ module _ (f : List ℕ) (g : ℕ) (bytes front back : List ℕ) (is : bytes ≡ 
             ∙ ap (λ (l : List ℕ). take n l) (drop_at (slice f (g + 1) 5) (slice f (g + 1 + 5) n) 5 (length-slice f (g + 1) 5))
             ∙ take_all n (slice f (g + 1 + 5) n) (omega (arith, length-slice f (g + 1 + 5) n))
             ∙ ap (λ (m : ℕ). slice f m n) place
+
+pub is_one : (n : ℕ) (b : Bool) → b ≡ (n == 1) → b ≡ true → n ≡ 1
+is_one n b told is = let e : (n == 1) ≡ true = sym told ∙ is in grind (arith, nat_tests)
+
+-- one record more was read
+pub read_more : (f : List ℕ) (placed placed' : List Placed) (p : Placed) (gate next : ℕ) → Reads f first_gate (records_of placed) gate → IsRecordAt f gate (record_of p)
+    → next ≡ next_gate f gate → placed' ≡ placed ++ p ∷ [] → Reads f first_gate (records_of placed') next
+read_more f placed placed' p gate next reads at is more =
+    subst (λ (n : ℕ). Reads f first_gate (records_of placed') n) (sym is)
+    (subst (λ (rs : List Record). Reads f first_gate rs (next_gate f gate)) (sym (ap records_of more ∙ map-append record_of placed (p ∷ [])))
+      (reads_push f first_gate (records_of placed) gate (record_of p) reads at))

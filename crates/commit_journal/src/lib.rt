@@ -6,6 +6,7 @@ mod fault;
 mod flight;
 mod header;
 mod journal;
+mod opening;
 mod reading;
 mod settling;
 mod why;

@@ -86,3 +86,84 @@ fn record_from(alloc: Global, gate: u64, bytes: &[u8]) -> Result<Placed, AttachW
         payload,
     })
 }
+
+// The record behind an open gate, and the place of the gate after it.
+fn read_record<D: Disk>(
+    alloc: Global,
+    disk: &mut D,
+    gate: u64,
+) -> Result<(Placed, u64), AttachWhy>
+    requires { gate < 2 ^ 62 }
+    ensures tells { D.tells disk.new ≡ D.tells disk.old }
+    ensures history { D.history disk.new ≡ D.history disk.old }
+    ensures later { IfOk result (λ read. gate < read.1) }
+    ensures bound { IfOk result (λ read. read.1 < 2 ^ 63) }
+    ensures ok { IsTrue (D.tells disk.old)
+        → byte (contents_of (D.history disk.old)) gate ≡ 1
+        → IfOk result (λ read. IsRecordAt (contents_of (D.history disk.old)) gate (record_of read.0)) }
+    ensures next { IsTrue (D.tells disk.old)
+        → IfOk result (λ read. read.1 ≡ next_gate (contents_of (D.history disk.old)) gate) }
+    ensures err { IsTrue (D.tells disk.old)
+        → byte (contents_of (D.history disk.old)) gate ≡ 1
+        → IfErr result (λ why. ExplainsRecord (contents_of (D.history disk.old)) gate why) }
+    ensures cause { HasCause (D.faults disk.old) (D.faults disk.new)
+        (IsErrOf result AttachWhy.DiskFault) }
+{
+    let size = match read_size(disk, gate) {
+        Some(size) => size,
+        None => return Err(AttachWhy::DiskFault),
+    };
+    let bytes = match read_bytes(alloc, disk, gate + 1, 37 + size) {
+        Ok(bytes) => bytes,
+        Err(why) => return Err(why),
+    };
+    let placed = record_from(alloc, gate, &bytes)?;
+    Ok((placed, gate + 38 + size as u64))
+}
+
+// The records up to the first closed gate.
+fn read_records<D: Disk>(alloc: Global, disk: &mut D, len: u64) -> Result<Listed, AttachWhy>
+    requires { len ≤ 2 ^ 62 }
+    ensures tells { D.tells disk.new ≡ D.tells disk.old }
+    ensures history { D.history disk.new ≡ D.history disk.old }
+    ensures bound { IfOk result (λ listed. listed.gate < 2 ^ 62) }
+    ensures ok { IsTrue (D.tells disk.old) → len ≡ length (contents_of (D.history disk.old))
+        → IfOk result (λ listed.
+            Spells (contents_of (D.history disk.old)) (records_of listed.payloads) listed.gate) }
+    ensures err { IsTrue (D.tells disk.old) → len ≡ length (contents_of (D.history disk.old))
+        → IfErr result (λ why. ExplainsFile (contents_of (D.history disk.old)) why) }
+    ensures cause { HasCause (D.faults disk.old) (D.faults disk.new)
+        (IsErrOf result AttachWhy.DiskFault) }
+{
+    let mut payloads = Payloads::new(alloc);
+    let mut gate = FIRST_GATE;
+    while gate < len {
+        match read_gate(disk, gate) {
+            None => return Err(AttachWhy::DiskFault),
+            Some(false) => return Ok(Listed { payloads, gate }),
+            Some(true) => {}
+        }
+        let (placed, next) = read_record(alloc, disk, gate)?;
+        payloads.push(placed)?;
+        gate = next;
+    }
+    Err(AttachWhy::NotAJournal)
+}
+
+/// The records of a file up to its first closed gate.
+pub(crate) fn list_file<D: Disk>(alloc: Global, disk: &mut D) -> Result<Listed, AttachWhy>
+    ensures tells { D.tells disk.new ≡ D.tells disk.old }
+    ensures history { D.history disk.new ≡ D.history disk.old }
+    ensures bound { IfOk result (λ listed. listed.gate < 2 ^ 62) }
+    ensures ok { IsTrue (D.tells disk.old) → IfOk result (λ listed.
+        Spells (contents_of (D.history disk.old)) (records_of listed.payloads) listed.gate) }
+    ensures err { IsTrue (D.tells disk.old) → IfErr result (λ why.
+        ExplainsFile (contents_of (D.history disk.old)) why) }
+    ensures cause { HasCause (D.faults disk.old) (D.faults disk.new)
+        (IsErrOf result AttachWhy.DiskFault) }
+{
+    match disk.len() {
+        DiskLen::Len(len) => read_records(alloc, disk, len),
+        DiskLen::Failed => Err(AttachWhy::DiskFault),
+    }
+}
