@@ -2,6 +2,7 @@
 #![tactic(auto)]
 
 mod appending;
+mod attaching;
 mod fault;
 mod flight;
 mod header;
@@ -11,6 +12,7 @@ mod reading;
 mod settling;
 mod why;
 
+pub use attaching::AttachFault;
 pub use fault::DiskFault;
 pub use flight::Flight;
 pub use journal::Journal;
