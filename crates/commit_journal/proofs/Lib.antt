@@ -2,3 +2,4 @@ pub mod AppendLemmas
 pub mod PairLemmas
 pub mod SettleLemmas
 pub mod ReadLemmas
+pub mod CreateLemmas

@@ -36,10 +36,14 @@ unfolding slice
 magic_front f = refl
 
 pub header_is : (file bytes : List ℕ) (len : ℕ) (h : Header) → len ≡ length file → bytes ≡ slice file 0 17
-    → (IsTrue h.is_sound ↔ ((first_gate ≤ len) × (take 8 bytes ≡ magic))) → h.generation ≡ from_be_bytes w64 (take 8 (drop 8 bytes)) → h.is_open ≡ (get_or bytes 16 0 == 1)
+    → (IsTrue h.begins ↔ (take 8 bytes ≡ magic)) → (IsTrue h.is_sound ↔ ((first_gate ≤ len) × (take 8 bytes ≡ magic))) → h.generation ≡ from_be_bytes w64 (take 8 (drop 8 bytes)) → h.is_open ≡ (get_or bytes 16 0 == 1)
     → IsHeaderOf file h
 unfolding slice generation
-header_is file bytes len h size is sound number gate = record {
+header_is file bytes len h size is begins sound number gate = record {
+  magic_is = (
+    λ it. sym (ap (λ (l : List ℕ). take 8 l) is) ∙ begins.0 it,
+    λ has. begins.1 (ap (λ (l : List ℕ). take 8 l) is ∙ has),
+  );
   sound = (
     λ yes_sound. let both = sound.0 yes_sound in record { long = subst (λ (n : ℕ). first_gate ≤ n) size both.0; begins = sym (ap (λ (l : List ℕ). take 8 l) is) ∙ both.1 },
     λ has. sound.1 (subst (λ (n : ℕ). first_gate ≤ n) (sym size) has.long, ap (λ (l : List ℕ). take 8 l) is ∙ has.begins),

@@ -2,11 +2,11 @@
 use Rattle.std.specs.Prelude.{◌≡◌, ◌≢◌, ◌≤◌, ◌<◌, ◌+◌, ◌==◌, ◌⊎◌, ◌↔◌, Bool, IsTrue, ℕ, List, [], ◌∷◌, ◌++◌, length, map}
 use Rattle.record_code.specs.declared.payloads.Placed.{Placed}
 use Rattle.record_code.specs.Record.{Record}
-use Rattle.record_code.specs.Reading.{byte, Reads, IsRecordAt, first_gate, record_at, computed_digest, kept_digest, next_gate}
+use Rattle.record_code.specs.Reading.{byte, slice, Reads, IsRecordAt, first_gate, record_at, computed_digest, kept_digest, next_gate}
 use Rattle.commit_journal.specs.declared.why.AttachWhy.{AttachWhy}
 use Rattle.commit_journal.specs.declared.why.AttachWhy.TheVariants.{NotAJournal, Damaged, DiskFault, NoMemory}
 use Rattle.commit_journal.specs.declared.header.Header.{Header}
-use Rattle.commit_journal.specs.Pair.{HasHeader, IsPair, generation, file_gate, counting_of}
+use Rattle.commit_journal.specs.Pair.{magic, HasHeader, IsPair, generation, file_gate, counting_of}
 
 -- the record that was read, without its place
 abbrev pub record_of : Placed → Record
@@ -46,6 +46,13 @@ ExplainsPair a b NoMemory = Unit {0}
 
 -- the 17 bytes of a file
 pub record IsHeaderOf (file : List ℕ) (h : Header) : Type 0 where
+  pub magic_is : IsTrue h.begins ↔ (slice file 0 8 ≡ magic)
   pub sound : IsTrue h.is_sound ↔ HasHeader file
   pub number : h.generation ≡ generation file
   pub gate : h.is_open ≡ (file_gate file == 1)
+
+-- both files begin with the magic and a file gate is open: a journal is there
+pub record IsThere (a b : List ℕ) : Type 0 where
+  pub magic_a : slice a 0 8 ≡ magic
+  pub magic_b : slice b 0 8 ≡ magic
+  pub gate : (file_gate a ≡ 1) ⊎ (file_gate b ≡ 1)

@@ -18,6 +18,9 @@ pub(crate) const FIRST_GATE: u64 = 17;
 /// What the first bytes of a file say.
 #[derive(Clone, Copy, Debug, PartialEq, Eq)]
 pub struct Header {
+    /// Whether it begins with the magic.
+    pub begins: bool,
+    /// Whether it is long enough besides.
     pub is_sound: bool,
     pub generation: u64,
     pub is_open: bool,
@@ -40,6 +43,7 @@ pub(crate) fn read_header<D: Disk>(disk: &mut D) -> Option<Header>
         return None;
     }
     Some(Header {
+        begins: begins_with_magic(&bytes),
         is_sound: is_header(len, &bytes),
         generation: generation_in(&bytes),
         is_open: bytes[16] == OPEN,

@@ -3,6 +3,7 @@
 
 mod appending;
 mod attaching;
+mod creating;
 mod fault;
 mod flight;
 mod header;
