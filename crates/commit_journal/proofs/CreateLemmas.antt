@@ -8,13 +8,7 @@ use Rattle.record_code.specs.Record.{Record, IsSound, body}
 use Rattle.record_code.specs.Reading.{byte, slice, Reads, Spells, first_gate, next_gate}
 use Rattle.record_code.proofs.Slices.{slice_is}
 use Rattle.record_code.proofs.ReadingLemmas.{length-body, body_there}
-use Rattle.commit_journal.specs.Pair.{magic, file_gate, generation, HasHeader, IsPair, b_counts, IsChosen}
-
-abbrev pub head_a : List ℕ
-head_a = 0x43 ∷ 0x4f ∷ 0x4e ∷ 0x46 ∷ 0x44 ∷ 0x4a ∷ 0x31 ∷ 0x0a ∷ 0 ∷ 0 ∷ 0 ∷ 0 ∷ 0 ∷ 0 ∷ 0 ∷ 1 ∷ 0 ∷ 1 ∷ []
-
-abbrev pub head_b : List ℕ
-head_b = 0x43 ∷ 0x4f ∷ 0x4e ∷ 0x46 ∷ 0x44 ∷ 0x4a ∷ 0x31 ∷ 0x0a ∷ 0 ∷ 0 ∷ 0 ∷ 0 ∷ 0 ∷ 0 ∷ 0 ∷ 0 ∷ 0 ∷ []
+use Rattle.commit_journal.specs.Pair.{head_a, head_b, magic, file_gate, generation, HasHeader, IsPair, b_counts, IsChosen}
 
 -- a file with bytes put at its start
 front : (bytes old : List ℕ) (k : ℕ) → k < length bytes → byte (put 0 bytes old) k ≡ get_or bytes k 0
@@ -115,3 +109,12 @@ made_pair a b a0 a1 b0 bytes r sound is first_is a_is b_is =
         };
         spells = made_spells bytes a0 r sound is;
       }))
+
+pub made_file : (a a0 image bytes : List ℕ) (r : Record) → IsSound r → bytes ≡ body 0 r → image ≡ head_a ++ bytes → a ≡ put 16 (1 ∷ []) (put 0 image a0) → Spells a (r ∷ []) (first_gate + length bytes)
+unfolding made first
+made_file a a0 image bytes r sound is image_is a_is =
+    subst (λ (x : List ℕ). Spells x (r ∷ []) (first_gate + length bytes)) (sym (a_is ∙ ap (λ (l : List ℕ). put 16 (1 ∷ []) (put 0 l a0)) image_is)) (made_spells bytes a0 r sound is)
+
+pub made_chosen : (a a0 b b0 image bytes : List ℕ) (r : Record) → IsSound r → bytes ≡ body 0 r → image ≡ head_a ++ bytes → a ≡ put 16 (1 ∷ []) (put 0 image a0) → b ≡ put 0 head_b b0 → IsChosen false a b
+made_chosen a a0 b b0 image bytes r sound is image_is a_is b_is =
+    (made_pair a b a0 (put 0 (head_a ++ bytes) a0) b0 bytes r sound is refl (a_is ∙ ap (λ (l : List ℕ). put 16 (1 ∷ []) (put 0 l a0)) image_is) b_is).chosen

@@ -9,6 +9,14 @@ use Rattle.record_code.specs.Reading.{byte, slice, Agree, Spells, first_gate}
 abbrev pub magic : List ℕ
 magic = 0x43 ∷ 0x4f ∷ 0x4e ∷ 0x46 ∷ 0x44 ∷ 0x4a ∷ 0x31 ∷ 0x0a ∷ []
 
+-- what A begins with once it is made: magic, generation 1, a file gate that is opened last, and the first record's open gate
+abbrev pub head_a : List ℕ
+head_a = 0x43 ∷ 0x4f ∷ 0x4e ∷ 0x46 ∷ 0x44 ∷ 0x4a ∷ 0x31 ∷ 0x0a ∷ 0 ∷ 0 ∷ 0 ∷ 0 ∷ 0 ∷ 0 ∷ 0 ∷ 1 ∷ 0 ∷ 1 ∷ []
+
+-- what B begins with: magic, generation 0 and a closed file gate
+abbrev pub head_b : List ℕ
+head_b = 0x43 ∷ 0x4f ∷ 0x4e ∷ 0x46 ∷ 0x44 ∷ 0x4a ∷ 0x31 ∷ 0x0a ∷ 0 ∷ 0 ∷ 0 ∷ 0 ∷ 0 ∷ 0 ∷ 0 ∷ 0 ∷ 0 ∷ []
+
 -- the gate of a whole file
 abbrev pub file_gate : List ℕ → ℕ
 file_gate file = byte file 16

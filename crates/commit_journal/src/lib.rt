@@ -18,4 +18,4 @@ pub use fault::DiskFault;
 pub use flight::Flight;
 pub use journal::Journal;
 pub use settling::Settled;
-pub use why::AttachWhy;
+pub use why::{AttachWhy, CreateFault, CreateWhy};

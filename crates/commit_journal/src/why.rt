@@ -38,3 +38,22 @@ impl From<NoMemory> for AttachWhy {
         AttachWhy::NoMemory
     }
 }
+
+/// Why a journal can't be made in two files.
+#[derive(Clone, Copy, Debug, PartialEq, Eq, Error)]
+pub enum CreateWhy {
+    #[error("a journal is there already")]
+    Exists,
+    #[error("a disk failed")]
+    DiskFault,
+    #[error("out of memory")]
+    NoMemory,
+}
+
+/// Why a journal can't be made, with the disks.
+#[derive(Drop)]
+pub struct CreateFault<D> {
+    pub why: CreateWhy,
+    pub a: D,
+    pub b: D,
+}
