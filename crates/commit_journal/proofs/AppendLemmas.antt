@@ -48,7 +48,7 @@ module _ (f : List ℕ) (rs : List Record) (r : Record) (gate : ℕ) (bytes : Li
   unfolding staged
   staged_body = slice_is (put (gate + 1) bytes f) (gate + 1) (38 + length r.payload) (body 0 r) (length-body 0 r)
       (λ k lt. let back : gate + 1 + k - (gate + 1) ≡ k = omega arith in
-        put_same (gate + 1) bytes f (gate + 1 + k) 0 (omega (arith, spells.inside)) (omega arith) (omega (arith, size)) ∙ ap (λ (j : ℕ). get_or bytes j 0) back ∙ ap (λ (l : List ℕ). get_or l k 0) is)
+      put_same (gate + 1) bytes f (gate + 1 + k) 0 (omega (arith, spells.inside)) (omega arith) (omega (arith, size)) ∙ ap (λ (j : ℕ). get_or bytes j 0) back ∙ ap (λ (l : List ℕ). get_or l k 0) is)
 
   -- a file that agrees with that one but for the gate has the record or it doesn't
   pub but_gate : (c : List ℕ) → gate + length bytes < 2 ^ 62 → Agree staged c 0 gate → Agree staged c (gate + 1) (gate + 1 + length bytes) → gate + length bytes < length c → IsBeforeOrAfter f rs r gate c
@@ -59,21 +59,26 @@ module _ (f : List ℕ) (rs : List Record) (r : Record) (gate : ℕ) (bytes : Li
     where
       agree : Agree f c 0 gate
       agree k from to = staged_before k from (omega arith) ∙ front k from to
+
       reads : Reads c first_gate rs gate
       reads = reads_same f c first_gate rs gate (λ k from to. agree k (omega arith) to) spells.reads
+
       stands : Stands c gate 0 r
       stands = body_there c gate 0 r sound (sym (slice_same staged c (gate + 1) (38 + length r.payload) (λ k from to. back k from (omega (arith, size)))) ∙ staged_body)
+
       without : byte c gate ≢ 1 → Spells c rs gate
       without shut = record { reads = reads; shut = shut; inside = omega (arith, inside) }
+
       place : next_gate c gate ≡ gate + length (body 0 r)
       place = stands.gate ∙ omega (arith, length-body 0 r)
+
       with_record : byte c gate ≡ 1 → IsAfter rs r gate c
       with_record opened = record {
         opened = opened;
         spells = record {
           reads = subst (λ (n : ℕ). Reads c first_gate (rs ++ r ∷ []) n) place (reads_push c first_gate rs gate r reads (stands.here opened));
           shut = λ one. let e : gate + length (body 0 r) ≡ gate + 38 + length r.payload = omega (arith, length-body 0 r) in
-          absurd (let z : 0 ≡ 1 = sym stands.then ∙ ap (λ (n : ℕ). byte c n) (sym e) ∙ one in omega arith);
+              absurd (let z : 0 ≡ 1 = sym stands.then ∙ ap (λ (n : ℕ). byte c n) (sym e) ∙ one in omega arith);
           inside = omega (arith, inside, size, length-body 0 r);
         };
         bound = omega (arith, bound, size, length-body 0 r);
@@ -96,8 +101,10 @@ module _ (f : List ℕ) (rs : List Record) (r : Record) (gate : ℕ) (bytes : Li
       where
         free : (k : ℕ) → k < gate + 1 → (during (state_of h) (Write (gate + 1) bytes true)).pending k ≡ false
         free k lt = calm_from (state_of h) (gate + 1) (length bytes) k (quiet k) (omega (arith, in_range)) (inl lt)
+
         agree : Agree f c 0 (gate + 1)
         agree k from to = sym (image_byte (during (state_of h) (Write (gate + 1) bytes true)) c k 0 image (free k to) ∙ ap (λ (l : List ℕ). get_or l k 0) holds)
+
         inside : gate < length c
         inside = image_inside (during (state_of h) (Write (gate + 1) bytes true)) c gate image (free gate (omega arith)) (omega (arith, in_range))
 
@@ -108,8 +115,10 @@ module _ (f : List ℕ) (rs : List Record) (r : Record) (gate : ℕ) (bytes : Li
       where
         free : (k : ℕ) → (k < gate) ⊎ (gate + 1 ≤ k) → k < length staged → (during (state_of m) (Write gate (1 ∷ []) true)).pending k ≡ false
         free k outside lt = calm_from (state_of m) gate 1 k (calm k) (omega (arith, ap length there)) outside
+
         same : (k : ℕ) → (k < gate) ⊎ (gate + 1 ≤ k) → k < length staged → byte staged k ≡ byte c k
         same k outside lt = sym (image_byte (during (state_of m) (Write gate (1 ∷ []) true)) c k 0 image (free k outside lt) ∙ ap (λ (l : List ℕ). get_or l k 0) there)
+
         inside : gate + length bytes < length c
         inside = image_inside (during (state_of m) (Write gate (1 ∷ []) true)) c (gate + length bytes) image (free (gate + length bytes) (inr (omega (arith, size))) (omega (arith, staged_size))) (omega (arith, staged_size, ap length there))
 
@@ -163,10 +172,13 @@ module _ (f : List ℕ) (rs : List Record) (r : Record) (gate : ℕ) (bytes : Li
                 where
                   state4 : state_of h4 ≡ settled (state_of h3) true
                   state4 = synced_done h3 h4 done4 synced4 is4
+
                   same : contents_of h4 ≡ contents_of h3
                   same = ap (λ (s : State). s.contents) state4
+
                   here : IsBeforeOrAfter f rs r gate (contents_of h3)
                   here = image3 (contents_of h3) (contents_image (state_of h3) (synced_within h3))
+
                   opened : byte (contents_of h3) gate ≡ 1
                   opened = ap (λ (s : State). get_or s.contents gate 0) state3 ∙ put_same gate (1 ∷ []) (contents_of h2) gate 0 gate_inside (omega arith) (omega arith) ∙ (let e : gate - gate ≡ 0 = omega arith in ap (λ (j : ℕ). get_or ones j 0) e)
 

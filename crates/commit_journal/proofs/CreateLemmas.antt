@@ -55,7 +55,7 @@ module _ (bytes old : List ℕ) (r : Record) (sound : IsSound r) (is : bytes ≡
   there : slice made 18 (38 + length r.payload) ≡ body 0 r
   there = slice_is made 18 (38 + length r.payload) (body 0 r) (length-body 0 r)
       (λ k lt. let back : 18 + k - 18 ≡ k = omega arith in
-        other (18 + k) (omega arith) (inr (omega arith)) ∙ get_or-append_right head_a bytes 18 (18 + k) 0 refl (omega arith) ∙ ap (λ (j : ℕ). get_or bytes j 0) back ∙ ap (λ (l : List ℕ). get_or l k 0) is)
+      other (18 + k) (omega arith) (inr (omega arith)) ∙ get_or-append_right head_a bytes 18 (18 + k) 0 refl (omega arith) ∙ ap (λ (j : ℕ). get_or bytes j 0) back ∙ ap (λ (l : List ℕ). get_or l k 0) is)
 
   pub made_spells : Spells made (r ∷ []) (first_gate + length bytes)
   made_spells =
@@ -102,13 +102,13 @@ made_pair a b a0 a1 b0 bytes r sound is first_is a_is b_is =
     let a_made : a ≡ put 16 (1 ∷ []) (put 0 (head_a ++ bytes) a0) = a_is ∙ ap (λ (l : List ℕ). put 16 (1 ∷ []) l) first_is in
     subst (λ (x : List ℕ). Made x b r (first_gate + length bytes)) (sym a_made)
     (subst (λ (y : List ℕ). Made (made bytes a0 r sound is) y r (first_gate + length bytes)) (sym b_is)
-      (record {
-        chosen = record {
-          pair = record { header_a = header_made bytes a0 r sound is; header_b = other_header b0; gate = inl (gate_open bytes a0 r sound is) };
-          choice = a_counts (made bytes a0 r sound is) (other_made b0) (gate_open bytes a0 r sound is) (other_shut b0);
-        };
-        spells = made_spells bytes a0 r sound is;
-      }))
+    (record {
+      chosen = record {
+        pair = record { header_a = header_made bytes a0 r sound is; header_b = other_header b0; gate = inl (gate_open bytes a0 r sound is) };
+        choice = a_counts (made bytes a0 r sound is) (other_made b0) (gate_open bytes a0 r sound is) (other_shut b0);
+      };
+      spells = made_spells bytes a0 r sound is;
+    }))
 
 pub made_file : (a a0 image bytes : List ℕ) (r : Record) → IsSound r → bytes ≡ body 0 r → image ≡ head_a ++ bytes → a ≡ put 16 (1 ∷ []) (put 0 image a0) → Spells a (r ∷ []) (first_gate + length bytes)
 unfolding made first

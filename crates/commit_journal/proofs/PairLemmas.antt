@@ -126,6 +126,7 @@ append_waits b h h' o rs r gate rests leaves = record {
   where
     image_is : (c : List ℕ) → IsImage (state_of h') c → IsBeforeOrAfter (contents_of h) rs r gate c
     image_is c image = leaves_now h h' (IsBeforeOrAfter (contents_of h) rs r gate) leaves c image
+
     here : IsBeforeOrAfter (contents_of h) rs r gate (contents_of h')
     here = image_is (contents_of h') (contents_image (state_of h') (synced_within h'))
 
@@ -142,11 +143,11 @@ pub rests_only : (b : Bool) (h o : History) (gate : ℕ) (rs : List Record) → 
 rests_only false h o gate rs rests c d image_c image_d =
     subst (λ (l : List ℕ). PairSpells l d rs) (sym (settled_image (state_of h) c rests.settled.quiet image_c))
     (subst (λ (l : List ℕ). PairSpells (contents_of h) l rs) (sym (settled_image (state_of o) d rests.other_quiet image_d))
-      (chosen_spells false (contents_of h) (contents_of o) rs gate rests.chosen rests.settled.spells))
+    (chosen_spells false (contents_of h) (contents_of o) rs gate rests.chosen rests.settled.spells))
 rests_only true h o gate rs rests c d image_c image_d =
     subst (λ (l : List ℕ). PairSpells l d rs) (sym (settled_image (state_of o) c rests.other_quiet image_c))
     (subst (λ (l : List ℕ). PairSpells (contents_of o) l rs) (sym (settled_image (state_of h) d rests.settled.quiet image_d))
-      (chosen_spells true (contents_of h) (contents_of o) rs gate rests.chosen rests.settled.spells))
+    (chosen_spells true (contents_of h) (contents_of o) rs gate rests.chosen rests.settled.spells))
 
 -- a list of one record
 pub the_one : (l : List Record) → length l ≡ 1 → (r : Record) × (l ≡ r ∷ [])

@@ -87,7 +87,7 @@ module _ (f : List ℕ) (g : ℕ) (bytes front back : List ℕ) (is : bytes ≡ 
       kept_is = kept_is ∙ back_slice;
       computed_is = digest_is;
       differ = λ same. let e : true ≡ not (pointwise nat_eq kept computed) = sym differ ∙ told in
-      let s : pointwise nat_eq kept computed ≡ true = (bytes_eq-Decides kept computed).1 same in absurd (let w : true ≡ not true = e ∙ ap not s in cc);
+          let s : pointwise nat_eq kept computed ≡ true = (bytes_eq-Decides kept computed).1 same in absurd (let w : true ≡ not true = e ∙ ap not s in cc);
     }
 
     pub record_is : (ne : Bool) (kind : ℕ) (payload : List ℕ) → ne ≡ not (pointwise nat_eq kept computed) → ne ≡ false → kind ≡ get_or front 0 0 → payload ≡ take (length front - 5) (drop 5 front)
@@ -106,8 +106,10 @@ module _ (f : List ℕ) (g : ℕ) (bytes front back : List ℕ) (is : bytes ≡ 
             flip : (b : Bool) → not b ≡ false → b ≡ true
             flip true e = refl
             flip false e = absurd (cc)
+
         first : kind ≡ byte f (g + 1)
         first = let e : g + 1 + 0 ≡ g + 1 = omega arith in kind_is ∙ ap (λ (l : List ℕ). get_or l 0 0) front_slice ∙ get_or-slice f (g + 1) (5 + n) 0 0 (omega arith) ∙ ap (λ (m : ℕ). byte f m) e
+
         rest : payload ≡ slice f (g + 6) (size_at f g)
         rest =
             let size : length front - 5 ≡ n = omega (arith, ap length front_slice, length-slice f (g + 1) (5 + n)) in
@@ -126,4 +128,4 @@ pub read_more : (f : List ℕ) (placed placed' : List Placed) (p : Placed) (gate
 read_more f placed placed' p gate next reads at is more =
     subst (λ (n : ℕ). Reads f first_gate (records_of placed') n) (sym is)
     (subst (λ (rs : List Record). Reads f first_gate rs (next_gate f gate)) (sym (ap records_of more ∙ map-append record_of placed (p ∷ [])))
-      (reads_push f first_gate (records_of placed) gate (record_of p) reads at))
+    (reads_push f first_gate (records_of placed) gate (record_of p) reads at))

@@ -22,6 +22,7 @@ sync_still_quiet h h' done synced quiet k = ⊎_elim (called (Sync true) (settle
   where
     called : (call : Call) → (step (state_of h) call).pending k ≡ false → Called h call h' → (state_of h').pending k ≡ false
     called call free is = ap (λ (s : State). s.pending k) (state_called h h' call is) ∙ free
+
     nothing : DidNothing h h' → (state_of h').pending k ≡ false
     nothing (inl is) = called Refused (quiet k) is
     nothing (inr stays) = ap (λ (l : History). (state_of l).pending k) stays.same ∙ quiet k
@@ -68,8 +69,10 @@ module _ (h h' : History) (rs : List Record) (r : Record) (gate : ℕ) (settles 
     where
       one : byte (contents_of h') gate ≡ 1
       one = let e : (byte (contents_of h') gate == 1) ≡ true = sym told ∙ opened in grind (arith, nat_tests)
+
       is_one : byte (contents_of h) gate ≡ 1
       is_one = gate_then ∙ one
+
       of : IsAfter rs r gate (contents_of h) → IsSettled h' (rs ++ r ∷ []) next
       of right = record {
         spells = subst (λ (l : List ℕ). Spells l (rs ++ r ∷ []) next) (sym settles.same) (subst (λ (n : ℕ). Spells (contents_of h) (rs ++ r ∷ []) n) (omega (arith, right.bound, place)) right.spells);

@@ -63,8 +63,8 @@ IsWhole tells history counting gate (InFlight next) =
     (gate < 2 ^ 62)
     × (next < 2 ^ 62)
     × (IsTrue (tells counting) → (rs : List Record) × (r : Record)
-        × (next ≡ gate_behind gate r)
-        × ((c : List ℕ) → IsImage (state_of (history counting)) c → IsBeforeOrAfter (contents_of (history counting)) rs r gate c))
+    × (next ≡ gate_behind gate r)
+    × ((c : List ℕ) → IsImage (state_of (history counting)) c → IsBeforeOrAfter (contents_of (history counting)) rs r gate c))
 
 -- no count of faults fell, and a failure comes only where one of them rose
 pub record PairCause (counting counting' other other' : ℕ) (failed : Type 0) : Type 0 where

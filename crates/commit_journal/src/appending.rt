@@ -17,7 +17,7 @@ pub(crate) fn append_to<D: Disk>(disk: &mut D, gate: u64, entry: &[u8]) -> DiskD
     ensures any_moment { IsTrue (D.tells disk.old) → (rs : List Record) (r : Record)
         → IsSettled (D.history disk.old) rs gate → IsSound r → entry.now ≡ body 0 r
         → Leaves (D.history disk.old) (D.history disk.new)
-            (IsBeforeOrAfter (contents_of (D.history disk.old)) rs r gate) }
+        (IsBeforeOrAfter (contents_of (D.history disk.old)) rs r gate) }
     ensures done { result ≡ DiskDone.Done → IsTrue (D.tells disk.old) → (rs : List Record) (r : Record)
         → IsSettled (D.history disk.old) rs gate → IsSound r → entry.now ≡ body 0 r
         → IsSettled (D.history disk.new) (rs ++ r ∷ []) (gate + length entry.now) }

@@ -34,12 +34,12 @@ impl<D: Disk> Model for Journal<D> {
     ghost Value = { JournalView D };
 
     ghost view = { λ j. record {
-        counting = j.counting;
-        other = j.other;
-        b_counts = j.b_counts;
-        gate = j.gate;
-        flight = j.flight;
-        limit = j.limit
+      counting = j.counting;
+      other = j.other;
+      b_counts = j.b_counts;
+      gate = j.gate;
+      flight = j.flight;
+      limit = j.limit;
     } };
 
     ghost invariant = { λ j. IsWhole D.tells D.history j.counting j.gate j.flight };
@@ -149,6 +149,10 @@ impl<D: Disk> Journal<D> {
             flight: _,
             limit: _,
         } = self;
-        if b_counts { (other, counting) } else { (counting, other) }
+        if b_counts {
+            (other, counting)
+        } else {
+            (counting, other)
+        }
     }
 }

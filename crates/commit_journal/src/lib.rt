@@ -1,4 +1,10 @@
 //! The journal of two files, which survives a crash at any device write.
+//!
+//! Guarantees: after `append` is Ok each crash leaves the record, and a crash at any moment of the
+//! call leaves the list from before it, with the record or without; `settle` tells which by the gate
+//! on the disk; `attach` reads what the files spell and leaves their contents as they were; `create`
+//! overwrites no journal. A disk's fault is answered only where its count rose.
+//! Leaves to others: that a real file behaves as `disk_model` says, and what a payload means.
 #![tactic(auto)]
 
 mod appending;
@@ -19,3 +25,6 @@ pub use flight::Flight;
 pub use journal::Journal;
 pub use settling::Settled;
 pub use why::{AttachWhy, CreateFault, CreateWhy};
+
+#[cfg(test)]
+mod tests;

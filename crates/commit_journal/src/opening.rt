@@ -105,11 +105,7 @@ fn list_counting<D: Disk>(
 }
 
 /// Syncs both files, chooses the one that counts, and reads its records.
-pub(crate) fn open_files<D: Disk>(
-    alloc: Global,
-    a: &mut D,
-    b: &mut D,
-) -> Result<Opened, AttachWhy>
+pub(crate) fn open_files<D: Disk>(alloc: Global, a: &mut D, b: &mut D) -> Result<Opened, AttachWhy>
     ensures tells { D.tells a.new ≡ D.tells a.old }
     ensures other_tells { D.tells b.new ≡ D.tells b.old }
     ensures settles { IsTrue (D.tells a.old) → FileSettles (D.history a.old) (D.history a.new) }

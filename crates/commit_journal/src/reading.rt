@@ -33,7 +33,11 @@ fn read_size<D: Disk>(disk: &mut D, gate: u64) -> Option<usize>
         return None;
     }
     let size = u32::from_be_bytes(number) as usize;
-    if size <= MAX_PAYLOAD { Some(size) } else { Some(0) }
+    if size <= MAX_PAYLOAD {
+        Some(size)
+    } else {
+        Some(0)
+    }
 }
 
 fn read_bytes<D: Disk>(
@@ -88,11 +92,7 @@ fn record_from(alloc: Global, gate: u64, bytes: &[u8]) -> Result<Placed, AttachW
 }
 
 // The record behind an open gate, and the place of the gate after it.
-fn read_record<D: Disk>(
-    alloc: Global,
-    disk: &mut D,
-    gate: u64,
-) -> Result<(Placed, u64), AttachWhy>
+fn read_record<D: Disk>(alloc: Global, disk: &mut D, gate: u64) -> Result<(Placed, u64), AttachWhy>
     requires { gate < 2 ^ 62 }
     ensures tells { D.tells disk.new ≡ D.tells disk.old }
     ensures history { D.history disk.new ≡ D.history disk.old }
@@ -129,7 +129,7 @@ fn read_records<D: Disk>(alloc: Global, disk: &mut D, len: u64) -> Result<Listed
     ensures bound { IfOk result (λ listed. listed.gate < 2 ^ 62) }
     ensures ok { IsTrue (D.tells disk.old) → len ≡ length (contents_of (D.history disk.old))
         → IfOk result (λ listed.
-            Spells (contents_of (D.history disk.old)) (records_of listed.payloads) listed.gate) }
+        Spells (contents_of (D.history disk.old)) (records_of listed.payloads) listed.gate) }
     ensures err { IsTrue (D.tells disk.old) → len ≡ length (contents_of (D.history disk.old))
         → IfErr result (λ why. ExplainsFile (contents_of (D.history disk.old)) why) }
     ensures cause { HasCause (D.faults disk.old) (D.faults disk.new)
