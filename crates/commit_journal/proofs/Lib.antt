@@ -3,3 +3,4 @@ pub mod PairLemmas
 pub mod SettleLemmas
 pub mod ReadLemmas
 pub mod CreateLemmas
+pub mod CauseLemmas

@@ -56,3 +56,10 @@ pub record IsThere (a b : List ℕ) : Type 0 where
   pub magic_a : slice a 0 8 ≡ magic
   pub magic_b : slice b 0 8 ≡ magic
   pub gate : (file_gate a ≡ 1) ⊎ (file_gate b ≡ 1)
+
+-- an answer that the bytes alone decide
+abbrev pub IsRefusal : AttachWhy → Type 0
+IsRefusal (Damaged offset kept computed) = Unit {0}
+IsRefusal NotAJournal = Unit {0}
+IsRefusal DiskFault = ⊥
+IsRefusal NoMemory = ⊥

@@ -60,6 +60,10 @@ impl<D: Disk> Journal<D> {
         ensures any_moment { (rs : List Record) (r : Record) → Tell D.tells self.old
             → Has D.history self.old rs → body.now ≡ r ∷ []
             → LeavesBoth D.history self.old self.new (SpellsEither rs (rs ++ r ∷ [])) }
+        // After Ok each pair of images spells the list with the record, and no other.
+        ensures only { OnOk result ((rs : List Record) (r : Record) → Tell D.tells self.old
+            → Has D.history self.old rs → body.now ≡ r ∷ []
+            → Only (a_of D.history self.new) (b_of D.history self.new) (rs ++ r ∷ [])) }
         ensures ok_idle { OnOk result (IsIdle self.new) }
         ensures err_flight { OnErr result (IsInFlight self.new.flight) }
         ensures other { self.new.other ≡ self.old.other }

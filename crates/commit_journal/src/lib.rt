@@ -9,6 +9,7 @@
 
 mod appending;
 mod attaching;
+mod causes;
 mod creating;
 mod fault;
 mod flight;
@@ -20,6 +21,7 @@ mod settling;
 mod why;
 
 pub use attaching::AttachFault;
+pub use causes::causes_exclude_each_other;
 pub use fault::DiskFault;
 pub use flight::Flight;
 pub use journal::Journal;

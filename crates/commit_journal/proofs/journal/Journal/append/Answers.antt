@@ -3,9 +3,9 @@ use Rattle.disk_model.specs.Disk.{History, contents_of, Leaves}
 use Rattle.record_code.specs.Record.{Record, IsSound, body, bodies}
 use Rattle.commit_journal.specs.declared.flight.Flight.{Flight}
 use Rattle.commit_journal.specs.declared.flight.Flight.TheVariants.{Nothing, Record as InFlight}
-use Rattle.commit_journal.specs.Pair.{SpellsEither, IsSettled, IsBeforeOrAfter}
-use Rattle.commit_journal.specs.Journal.{JournalView, Tell, Has, Awaits, LeavesBoth, IsWhole, gate_behind}
-use Rattle.commit_journal.proofs.PairLemmas.{append_leaves, append_waits, append_rests, append_images, the_one, sound_one, behind_is}
+use Rattle.commit_journal.specs.Pair.{Only, SpellsEither, IsSettled, IsBeforeOrAfter}
+use Rattle.commit_journal.specs.Journal.{a_of, b_of, JournalView, Tell, Has, Awaits, LeavesBoth, IsWhole, gate_behind}
+use Rattle.commit_journal.proofs.PairLemmas.{append_leaves, append_waits, append_rests, rests_only, append_images, the_one, sound_one, behind_is}
 use Rattle.commit_journal.proofs.journal.Journal.append.Goals as goal
 
 pub invariant_of-self : goal.invariant_of-self
@@ -104,3 +104,18 @@ returns-in-Failed-clause-any_moment g c =
     let sound = sound_one _ r c.as_bytes-entry.ensures.sound one in
     let leaves = c.append_to.ensures.any_moment tell.0 rs r has.rests.settled sound is in
     append_leaves j.b_counts (history j.counting) (history c.append_to.new.disk) (history j.other) rs r j.gate has.rests leaves)
+
+pub returns-in-Done-clause-only : goal.returns-in-Done-clause-only
+returns-in-Done-clause-only g c =
+    let tells = g.D.Disk.tells in
+    let history = g.D.Disk.history in
+    let j = c.self.inside in
+    let new : JournalView _ = record { counting = c.append_to.new.disk; other = j.other; b_counts = j.b_counts; gate = j.gate + length c.as_bytes-entry.result.now; flight = j.flight; limit = j.limit } in
+    subst (λ (v : JournalView _). (rs : List Record) (r : Record) → Tell tells v → Has history v rs → c.args.body.now ≡ r ∷ [] → Only (a_of history new) (b_of history new) (rs ++ r ∷ [])) c.self.view_is
+    (λ rs r tell has one.
+    let is = c.as_bytes-entry.ensures.bytes ∙ ap bodies one in
+    let sound = sound_one _ r c.as_bytes-entry.ensures.sound one in
+    let leaves = c.append_to.ensures.any_moment tell.0 rs r has.rests.settled sound is in
+    rests_only j.b_counts (history c.append_to.new.disk) (history j.other) _ (rs ++ r ∷ [])
+    (append_rests j.b_counts (history j.counting) (history c.append_to.new.disk) (history j.other) rs r j.gate _ has.rests leaves
+    (c.append_to.ensures.done c.in-Done.is tell.0 rs r has.rests.settled sound is)))
