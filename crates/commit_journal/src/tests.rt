@@ -1,6 +1,6 @@
 use super::*;
 use cfg_base::Bytes;
-use disk_model::{Made, MemDisk, Torn};
+use disk_model::{Disk, DiskLen, Made, MemDisk, Torn};
 use record_code::encode;
 use std::alloc::Global;
 use std::test::Fail;
@@ -110,5 +110,42 @@ fn empty_files_are_no_journal(rt: HostRuntime) -> Result<(), Fail> {
     let alloc = rt.alloc();
     let why = count(alloc, empty(alloc)?, empty(alloc)?);
     assert_eq!(rt; why, Err(AttachWhy::NotAJournal));
+    Ok(())
+}
+
+#[test]
+fn changed_byte_is_damage_at_its_record(rt: HostRuntime) -> Result<(), Fail> {
+    let alloc = rt.alloc();
+    let (mut a, b) = two_records(alloc)?;
+    if let DiskLen::Len(len) = a.len()
+        && 24 <= len
+    {
+        let _ = a.write_at(24, b"x");
+    }
+    match count(alloc, a, b) {
+        Err(
+            AttachWhy::Damaged {
+                offset,
+                kept,
+                computed,
+            },
+        ) => {
+            assert_eq!(rt; offset, 17);
+            assert!(rt; kept != computed);
+            Ok(())
+        }
+        _ => Err(Fail::from("no damage")),
+    }
+}
+
+#[test]
+fn journal_is_not_made_over_another(rt: HostRuntime) -> Result<(), Fail> {
+    let alloc = rt.alloc();
+    let (a, b) = two_records(alloc)?;
+    let first = encode(alloc, 1, &Bytes::empty(alloc))?;
+    match Journal::create(alloc, a, b, &first, ROOM) {
+        Err(fault) => assert_eq!(rt; fault.why, CreateWhy::Exists),
+        Ok(_) => return Err(Fail::from("made over another")),
+    }
     Ok(())
 }
