@@ -1,0 +1,6 @@
+pub mod AppendLemmas
+pub mod PairLemmas
+pub mod SettleLemmas
+pub mod ReadLemmas
+pub mod CreateLemmas
+pub mod CauseLemmas

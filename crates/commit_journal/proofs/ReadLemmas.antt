@@ -1,0 +1,131 @@
+-- What the bytes that were read say of the file.
+use Rattle.std.proofs.Common.{◌≡◌, ◌≢◌, ◌≤◌, ◌<◌, ℕ, zero, suc, ◌+◌, ◌-◌, ◌==◌, Bool, true, false, not, cond, nat_le, IsTrue, ◌↔◌, List, [], ◌∷◌, ◌++◌, length, get_or, take, drop, refl, sym, ◌∙◌, ap, subst, arith}
+use Rattle.std.proofs.lemmas.Bool.Decides.{nat_tests}
+use Rattle.std.proofs.lemmas.List.{take_at, drop_at, take_all, map-append}
+use Rattle.std.proofs.lemmas.Slice.Eq.{bytes_eq-Decides}
+use Rattle.std.specs.Cmp.Lexicographic.{pointwise}
+use Rattle.std.specs.Prelude.{nat_eq}
+use Rattle.std.specs.Int.{w32, w64, from_be_bytes}
+use Rattle.sha2.specs.Sha256.{sha256}
+use Rattle.record_code.specs.Record.{Record, most_payload}
+use Rattle.record_code.specs.Reading.{byte, slice, size_at, record_at, computed_digest, kept_digest, next_gate, IsRecordAt, first_gate}
+use Rattle.record_code.proofs.Slices.{length-slice, get_or-slice, slice-append}
+use Rattle.commit_journal.specs.declared.header.Header.{Header}
+use Rattle.commit_journal.specs.Pair.{magic, generation, file_gate, HasHeader}
+use Rattle.record_code.specs.declared.payloads.Placed.{Placed}
+use Rattle.record_code.specs.Reading.{Reads}
+use Rattle.record_code.proofs.ReadingLemmas.{reads_push}
+use Rattle.commit_journal.specs.Attach.{IsHeaderOf, IsDamage, record_of, records_of}
+
+kept_size : (n : ℕ) → n ≤ most_payload → n ≡ cond (nat_le n most_payload) n 0
+kept_size n le = grind (arith, nat_tests)
+
+no_size : (n : ℕ) → most_payload < n → 0 ≡ cond (nat_le n most_payload) n 0
+no_size n lt = grind (arith, nat_tests)
+
+pub size_is : (f : List ℕ) (g n : ℕ) (number : List ℕ) → number ≡ slice f (g + 2) 4 → n ≡ from_be_bytes w32 number → n ≤ most_payload → n ≡ size_at f g
+unfolding size_at
+size_is f g n number is value le = kept_size n le ∙ ap (λ (m : ℕ). cond (nat_le m most_payload) m 0) (value ∙ ap (from_be_bytes w32) is)
+
+pub size_none : (f : List ℕ) (g n : ℕ) (number : List ℕ) → number ≡ slice f (g + 2) 4 → n ≡ from_be_bytes w32 number → most_payload < n → 0 ≡ size_at f g
+unfolding size_at
+size_none f g n number is value lt = no_size n lt ∙ ap (λ (m : ℕ). cond (nat_le m most_payload) m 0) (value ∙ ap (from_be_bytes w32) is)
+
+magic_front : (f : List ℕ) → take 8 (slice f 0 17) ≡ slice f 0 8
+unfolding slice
+magic_front f = refl
+
+pub header_is : (file bytes : List ℕ) (len : ℕ) (h : Header) → len ≡ length file → bytes ≡ slice file 0 17
+    → (IsTrue h.begins ↔ (take 8 bytes ≡ magic)) → (IsTrue h.is_sound ↔ ((first_gate ≤ len) × (take 8 bytes ≡ magic))) → h.generation ≡ from_be_bytes w64 (take 8 (drop 8 bytes)) → h.is_open ≡ (get_or bytes 16 0 == 1)
+    → IsHeaderOf file h
+unfolding slice generation
+header_is file bytes len h size is begins sound number gate = record {
+  magic_is = (
+    λ it. sym (ap (λ (l : List ℕ). take 8 l) is) ∙ begins.0 it,
+    λ has. begins.1 (ap (λ (l : List ℕ). take 8 l) is ∙ has),
+  );
+  sound = (
+    λ yes_sound. let both = sound.0 yes_sound in record { long = subst (λ (n : ℕ). first_gate ≤ n) size both.0; begins = sym (ap (λ (l : List ℕ). take 8 l) is) ∙ both.1 },
+    λ has. sound.1 (subst (λ (n : ℕ). first_gate ≤ n) (sym size) has.long, ap (λ (l : List ℕ). take 8 l) is ∙ has.begins),
+  );
+  number = number ∙ ap (λ (l : List ℕ). from_be_bytes w64 (take 8 (drop 8 l))) is;
+  gate = gate ∙ ap (λ (l : List ℕ). get_or l 16 0 == 1) is;
+}
+
+module _ (f : List ℕ) (g : ℕ) (bytes front back : List ℕ) (is : bytes ≡ slice f (g + 1) (37 + size_at f g)) (front_is : front ≡ take (length bytes - 32) bytes) (back_is : back ≡ drop (length bytes - 32) bytes) where
+  n : ℕ
+  n = size_at f g
+
+  middle : length bytes - 32 ≡ 5 + n
+  unfolding n
+  middle = omega (arith, ap length is, length-slice f (g + 1) (37 + size_at f g))
+
+  cut : bytes ≡ slice f (g + 1) (5 + n) ++ slice f (g + 1 + (5 + n)) 32
+  unfolding n
+  cut = let e : 37 + size_at f g ≡ (5 + size_at f g) + 32 = omega arith in is ∙ ap (λ (m : ℕ). slice f (g + 1) m) e ∙ slice-append f (g + 1) (5 + size_at f g) 32
+
+  pub front_slice : front ≡ slice f (g + 1) (5 + size_at f g)
+  unfolding n
+  front_slice = front_is ∙ ap (λ (m : ℕ). take m bytes) middle ∙ ap (λ (l : List ℕ). take (5 + n) l) cut ∙ take_at (slice f (g + 1) (5 + n)) (slice f (g + 1 + (5 + n)) 32) (5 + n) (length-slice f (g + 1) (5 + n))
+
+  pub back_slice : back ≡ kept_digest f g
+  unfolding n kept_digest
+  back_slice =
+      let place : g + 1 + (5 + n) ≡ g + 6 + n = omega arith in
+      back_is ∙ ap (λ (m : ℕ). drop m bytes) middle ∙ ap (λ (l : List ℕ). drop (5 + n) l) cut ∙ drop_at (slice f (g + 1) (5 + n)) (slice f (g + 1 + (5 + n)) 32) (5 + n) (length-slice f (g + 1) (5 + n))
+      ∙ ap (λ (m : ℕ). slice f m 32) place
+
+  module _ (kept computed : List ℕ) (kept_is : kept ≡ back) (computed_is : computed ≡ sha256 front) (opened : byte f g ≡ 1) where
+    digest_is : computed ≡ computed_digest f g
+    unfolding computed_digest
+    digest_is = computed_is ∙ ap sha256 front_slice
+
+    pub damage_is : (ne : Bool) → ne ≡ not (pointwise nat_eq kept computed) → ne ≡ true → IsDamage f g g kept computed
+    damage_is ne told differ = record {
+      place = refl;
+      opened = opened;
+      kept_is = kept_is ∙ back_slice;
+      computed_is = digest_is;
+      differ = λ same. let e : true ≡ not (pointwise nat_eq kept computed) = sym differ ∙ told in
+          let s : pointwise nat_eq kept computed ≡ true = (bytes_eq-Decides kept computed).1 same in absurd (let w : true ≡ not true = e ∙ ap not s in cc);
+    }
+
+    pub record_is : (ne : Bool) (kind : ℕ) (payload : List ℕ) → ne ≡ not (pointwise nat_eq kept computed) → ne ≡ false → kind ≡ get_or front 0 0 → payload ≡ take (length front - 5) (drop 5 front)
+        → IsRecordAt f g (record { kind = kind; payload = payload })
+    unfolding n record_at
+    record_is ne kind payload told same kind_is payload_is = record {
+      is_open = opened;
+      is = subst (λ (l : List ℕ). let r : Record = record { kind = kind; payload = payload } in let s : Record = record { kind = byte f (g + 1); payload = l } in r ≡ s) rest
+          (subst (λ (k : ℕ). let r : Record = record { kind = kind; payload = payload } in let s : Record = record { kind = k; payload = payload } in r ≡ s) first refl);
+      right = sym digest_is ∙ sym equal ∙ kept_is ∙ back_slice;
+    }
+      where
+        equal : kept ≡ computed
+        equal = (bytes_eq-Decides kept computed).0 (flip (pointwise nat_eq kept computed) (sym told ∙ same))
+          where
+            flip : (b : Bool) → not b ≡ false → b ≡ true
+            flip true e = refl
+            flip false e = absurd (cc)
+
+        first : kind ≡ byte f (g + 1)
+        first = let e : g + 1 + 0 ≡ g + 1 = omega arith in kind_is ∙ ap (λ (l : List ℕ). get_or l 0 0) front_slice ∙ get_or-slice f (g + 1) (5 + n) 0 0 (omega arith) ∙ ap (λ (m : ℕ). byte f m) e
+
+        rest : payload ≡ slice f (g + 6) (size_at f g)
+        rest =
+            let size : length front - 5 ≡ n = omega (arith, ap length front_slice, length-slice f (g + 1) (5 + n)) in
+            let place : g + 1 + 5 ≡ g + 6 = omega arith in
+            payload_is ∙ ap (λ (m : ℕ). take m (drop 5 front)) size ∙ ap (λ (l : List ℕ). take n (drop 5 l)) (front_slice ∙ slice-append f (g + 1) 5 n)
+            ∙ ap (λ (l : List ℕ). take n l) (drop_at (slice f (g + 1) 5) (slice f (g + 1 + 5) n) 5 (length-slice f (g + 1) 5))
+            ∙ take_all n (slice f (g + 1 + 5) n) (omega (arith, length-slice f (g + 1 + 5) n))
+            ∙ ap (λ (m : ℕ). slice f m n) place
+
+pub is_one : (n : ℕ) (b : Bool) → b ≡ (n == 1) → b ≡ true → n ≡ 1
+is_one n b told is = let e : (n == 1) ≡ true = sym told ∙ is in grind (arith, nat_tests)
+
+-- one record more was read
+pub read_more : (f : List ℕ) (placed placed' : List Placed) (p : Placed) (gate next : ℕ) → Reads f first_gate (records_of placed) gate → IsRecordAt f gate (record_of p)
+    → next ≡ next_gate f gate → placed' ≡ placed ++ p ∷ [] → Reads f first_gate (records_of placed') next
+read_more f placed placed' p gate next reads at is more =
+    subst (λ (n : ℕ). Reads f first_gate (records_of placed') n) (sym is)
+    (subst (λ (rs : List Record). Reads f first_gate rs (next_gate f gate)) (sym (ap records_of more ∙ map-append record_of placed (p ∷ [])))
+    (reads_push f first_gate (records_of placed) gate (record_of p) reads at))

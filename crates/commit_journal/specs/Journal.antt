@@ -1,0 +1,83 @@
+-- What a contract sees of a journal on two disks.
+use Rattle.std.specs.Prelude.{◌≡◌, ◌≤◌, ◌<◌, ◌+◌, ◌-◌, ◌^◌, ◌⊎◌, min, Bool, IsTrue, ℕ, List, [], ◌∷◌, ◌++◌, length}
+use Rattle.disk_model.specs.Disk.{History, state_of, contents_of, IsImage, Rose}
+use Rattle.record_code.specs.Record.{Record, body}
+use Rattle.commit_journal.specs.declared.flight.Flight.{Flight}
+use Rattle.commit_journal.specs.declared.flight.Flight.TheVariants.{Nothing, Record as InFlight}
+use Rattle.commit_journal.specs.declared.settling.Settled.{Settled}
+use Rattle.commit_journal.specs.declared.settling.Settled.TheVariants.{Kept, NotKept}
+use Rattle.commit_journal.specs.Pair.{first_of, second_of, IsSettled, IsBeforeOrAfter, Rests, Waits, LeavesPair}
+
+-- the disk that counts and the other one, and what is in flight
+pub record JournalView (D : Type 0) : Type 0 where
+  pub counting : D
+  pub other : D
+  pub b_counts : Bool
+  pub gate : ℕ
+  pub flight : Flight
+  pub limit : ℕ
+
+-- both disks tell what they hold
+abbrev pub Tell : {D : Type 0} → (D → Bool) → JournalView D → Type 0
+Tell tells v = IsTrue (tells v.counting) × IsTrue (tells v.other)
+
+-- nothing is in flight
+abbrev pub IsIdle : {D : Type 0} → JournalView D → Type 0
+IsIdle v = v.flight ≡ Nothing
+
+-- a record or an image is in flight
+abbrev pub IsInFlight : Flight → Type 0
+IsInFlight Nothing = ⊥
+IsInFlight (InFlight next) = Unit {0}
+
+-- the gate behind a record at this gate, or the last place for one
+abbrev pub gate_behind : ℕ → Record → ℕ
+gate_behind gate r = min (gate + length (body 0 r)) (2 ^ 62 - 1)
+
+-- the journal has these records, and nothing is in flight
+pub record Has {D : Type 0} (history : D → History) (v : JournalView D) (rs : List Record) : Type 0 where
+  pub idle : v.flight ≡ Nothing
+  pub rests : Rests v.b_counts (history v.counting) (history v.other) v.gate rs
+
+-- the journal has these records, and this one is in flight
+pub record Awaits {D : Type 0} (history : D → History) (v : JournalView D) (rs : List Record) (r : Record) : Type 0 where
+  pub flight : v.flight ≡ InFlight (gate_behind v.gate r)
+  pub waits : Waits v.b_counts (history v.counting) (history v.other) v.gate rs r
+
+-- the history of A, and that of B
+abbrev pub a_of : {D : Type 0} → (D → History) → JournalView D → History
+a_of history v = first_of v.b_counts (history v.counting) (history v.other)
+
+abbrev pub b_of : {D : Type 0} → (D → History) → JournalView D → History
+b_of history v = second_of v.b_counts (history v.counting) (history v.other)
+
+-- each pair of images since the old journal has P
+abbrev pub LeavesBoth : {D : Type 0} → (D → History) → JournalView D → JournalView D → (List ℕ → List ℕ → Type 0) → Type 0
+LeavesBoth history old new P = LeavesPair (a_of history old) (b_of history old) (a_of history new) (b_of history new) P
+
+-- what is true of the file that counts and its gate
+abbrev pub IsWhole : {D : Type 0} → (D → Bool) → (D → History) → D → ℕ → Flight → Type 0
+IsWhole tells history counting gate Nothing =
+    (gate < 2 ^ 62) × (IsTrue (tells counting) → (rs : List Record) × IsSettled (history counting) rs gate)
+IsWhole tells history counting gate (InFlight next) =
+    (gate < 2 ^ 62)
+    × (next < 2 ^ 62)
+    × (IsTrue (tells counting) → (rs : List Record) × (r : Record)
+    × (next ≡ gate_behind gate r)
+    × ((c : List ℕ) → IsImage (state_of (history counting)) c → IsBeforeOrAfter (contents_of (history counting)) rs r gate c))
+
+-- no count of faults fell, and a failure comes only where one of them rose
+pub record PairCause (counting counting' other other' : ℕ) (failed : Type 0) : Type 0 where
+  pub counting_later : counting ≤ counting'
+  pub other_later : other ≤ other'
+  pub rose : failed → Rose counting counting' ⊎ Rose other other'
+
+-- the place of the gate behind a record in flight
+abbrev pub next_of : Flight → ℕ → ℕ
+next_of Nothing gate = gate
+next_of (InFlight next) gate = next
+
+-- what the journal has once it is settled
+abbrev pub HasSettled : {D : Type 0} → (D → History) → JournalView D → List Record → Record → Settled → Type 0
+HasSettled history v rs r Kept = Has history v (rs ++ r ∷ [])
+HasSettled history v rs r NotKept = Has history v rs
