@@ -1,0 +1,4 @@
+pub mod RowFacts
+pub mod Tests
+pub mod ChildLemmas
+pub mod PlaceLemmas
