@@ -1,17 +1,17 @@
 -- Following a path step by step.
-use Rattle.std.proofs.Common.{◌≡◌, ℕ, Bool, List, [], ◌∷◌, ◌++◌, Option, Some, None, refl, ap, ◌∙◌, position, length, drop}
+use Rattle.std.proofs.Common.{◌≡◌, ℕ, List, Option, ap, ◌∙◌, position}
 use Rattle.cfg_base.specs.declared.path.Step.{Step}
 use Rattle.cfg_schema.specs.declared.table.Line.{Line}
 use Rattle.cfg_schema.specs.declared.level.Level.{Level}
 use Rattle.cfg_schema.specs.declared.place.Place.{Place}
 use Rattle.cfg_schema.specs.Profile.{profile, level_in}
-use Rattle.cfg_schema.specs.Place.{fits, entered_by, place_after, and_then, place_from, place_of}
+use Rattle.cfg_schema.specs.Place.{fits, entered_by, place_after}
 
 -- the row found in these lines is that of the profile
 pub led : (here : Place) (step : Step) (number : ℕ) (lines : List Line) (level : Level) (result : Option Place)
-  → lines ≡ profile → number ≡ here.row → level ≡ level_in lines number here.in_group
-  → result ≡ entered_by here (position (fits level step) lines)
-  → result ≡ place_after here step
+    → lines ≡ profile → number ≡ here.row → level ≡ level_in lines number here.in_group
+    → result ≡ entered_by here (position (fits level step) lines)
+    → result ≡ place_after here step
 led here step number lines level result a b c d =
     d
     ∙ ap (λ (l : Level). entered_by here (position (fits l step) lines)) c

@@ -1,5 +1,5 @@
 -- The row that a path follows. The rules are this project's own.
-use Rattle.std.specs.Prelude.{◌≡◌, ℕ, Bool, true, false, ◌||◌, ◌&&◌, ◌==◌, List, [], ◌∷◌, length, Option, Some, None, position}
+use Rattle.std.specs.Prelude.{ℕ, Bool, false, ◌||◌, ◌&&◌, ◌==◌, List, [], ◌∷◌, length, Option, Some, None, position, IsTrue}
 use Rattle.cfg_base.specs.declared.kind.Shape.{Shape}
 use Rattle.cfg_base.specs.declared.kind.Shape.TheVariants.{Container, Fixed, Keyed, Bare, Leaf, Flag, Many}
 use Rattle.cfg_base.specs.declared.path.Step.{Step}
@@ -8,7 +8,7 @@ use Rattle.cfg_schema.specs.declared.level.Level.{Level}
 use Rattle.cfg_schema.specs.declared.place.Place.{Place}
 use Rattle.cfg_schema.specs.declared.rows.TheConstants.{GROUP}
 use Rattle.cfg_schema.specs.Keyword.{spelled}
-use Rattle.cfg_schema.specs.Profile.{profile, stands, level_of, same_word}
+use Rattle.cfg_schema.specs.Profile.{profile, line_at, stands, level_of, same_word}
 
 -- a step has the words of a row of this shape, head and Fixed name; any name does for a Keyed or Bare row
 abbrev pub has_words : Shape → List ℕ → List ℕ → Step → Bool
@@ -19,6 +19,11 @@ has_words Container head name step = same_word head step.head && (length step.na
 has_words Leaf head name step = same_word head step.head && (length step.name == 0)
 has_words Flag head name step = same_word head step.head && (length step.name == 0)
 has_words Many head name step = same_word head step.head && (length step.name == 0)
+
+-- a step has the words of a row of the profile
+abbrev pub HasWords : ℕ → Step → Type 0
+HasWords id step =
+    IsTrue (has_words (line_at profile id).shape (spelled (line_at profile id).head) (spelled (line_at profile id).name) step)
 
 -- a row stands at a level and a step follows it
 abbrev pub fits : Level → Step → Line → Bool

@@ -1,10 +1,10 @@
 -- The rows of the profile and the levels that they open. The selection of statements, the order in
 -- which they are printed and these rules are this project's own.
-use Rattle.std.specs.Prelude.{◌≡◌, ◌≢◌, ℕ, ◌<◌, ◌==◌, Bool, true, false, not, ◌&&◌, ◌||◌, List, [], ◌∷◌, length, map, filter, IsTrue, slice_index_or, nat_eq}
+use Rattle.std.specs.Prelude.{ℕ, ◌<◌, ◌==◌, Bool, true, false, not, ◌&&◌, ◌||◌, List, length, map, filter, IsTrue, slice_index_or, nat_eq}
 use Rattle.std.specs.List.{list_any}
 use Rattle.std.specs.Cmp.Lexicographic.{pointwise}
 use Rattle.cfg_base.specs.declared.kind.Shape.{Shape}
-use Rattle.cfg_base.specs.declared.kind.Shape.TheVariants.{Container, Fixed, Keyed, Bare, Leaf, Flag, Many}
+use Rattle.cfg_base.specs.declared.kind.Shape.TheVariants.{Container, Fixed, Keyed, Bare}
 use Rattle.cfg_base.specs.declared.kind.Kind.TheVariants.{Name}
 use Rattle.cfg_schema.specs.declared.keyword.Keyword.TheVariants.{Nothing}
 use Rattle.cfg_schema.specs.declared.table.Line.{Line}

@@ -9,9 +9,7 @@ use crate::rows::{Row, RowId};
 use crate::table::{Line, lines};
 
 fn fitting(lines: &[Line], level: &Level, word: &[u8], next: &[u8]) -> Option<usize>
-    ensures {
-        result ≡ position (λ line. begins level.now word.now line && goes_on next.now line) lines.now
-    }
+    ensures { result ≡ position (λ line. begins level.now word.now line && goes_on next.now line) lines.now }
 {
     lines
         .iter()

@@ -46,7 +46,9 @@ macro_rules! kind {
     ($kind:ident) => { Kind::$kind };
 }
 
-/// A row: its number, its level, its words, its shape with its kind.
+/// A row: its number, its level, its words, its shape with its kind. An `outside` row stands at the
+/// top outside groups alone, an `everywhere` row at each level outside groups that has other rows. A
+/// row `as` another one has the rows of that one below it.
 macro_rules! row {
     ($number:literal top) => {
         line!($number, 0, Top, $number, Nothing, Nothing, Container, (Name), (Name), false)

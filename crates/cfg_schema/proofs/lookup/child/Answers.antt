@@ -1,5 +1,3 @@
-use Rattle.std.proofs.Common.{◌≡◌}
-use Rattle.cfg_schema.specs.Child.{child_of}
 use Rattle.cfg_schema.proofs.ChildLemmas.{answered, answered_begins}
 use Rattle.cfg_schema.proofs.lookup.child.Goals as goal
 
