@@ -1,5 +1,5 @@
 -- The tests of the table, run once, and what they tell of each row.
-use Rattle.std.proofs.Common.{◌≡◌, ℕ, zero, suc, ◌<◌, ◌+◌, nat_eq, Bool, true, false, List, [], ◌∷◌, ◌++◌, length, take, map, filter, refl, arith, ap, ◌∙◌, sym, subst, eqb-true, cond, append-nil}
+use Rattle.std.proofs.Common.{None, ◌≡◌, ℕ, zero, suc, ◌<◌, ◌+◌, nat_eq, Bool, true, false, List, [], ◌∷◌, ◌++◌, length, take, map, filter, refl, arith, ap, ◌∙◌, sym, subst, eqb-true, cond, append-nil}
 use Rattle.std.specs.List.{list_all}
 use Rattle.std.proofs.lemmas.List.{take_more, map-append}
 use Rattle.std.proofs.lemmas.List.Elements.{filter-append}
@@ -7,6 +7,7 @@ use Rattle.cfg_schema.specs.declared.table.Line.{Line}
 use Rattle.cfg_schema.specs.declared.level.Level.{Level}
 use Rattle.cfg_schema.specs.declared.rows.TheConstants.{ROWS}
 use Rattle.cfg_schema.specs.Profile.{profile, line_at, no_line, stands, rows_in}
+use Rattle.cfg_schema.specs.Place.{top_place, ordered_row}
 use Rattle.cfg_schema.specs.Facts.{numbered, is_sound, apart, height, rises_from}
 use Rattle.cfg_schema.proofs.TestLemmas.{both}
 
@@ -29,6 +30,11 @@ profile_apart = refl
 pub profile_ordered : map (λ (line : Line). line.number) (filter (λ (line : Line). line.ordered) profile) ≡ 10 ∷ 77 ∷ []
 unfolding profile
 profile_ordered = refl
+
+-- no row at the top is ordered
+pub top_unordered : ordered_row top_place ≡ None
+unfolding profile
+top_unordered = refl
 
 pub profile_rises : list_all (rises_from profile false) profile ≡ true
 unfolding profile height

@@ -57,3 +57,8 @@ place_from (step ∷ rest) here = and_then (place_from rest) (place_after here s
 -- the row that a path follows, where it follows rows
 abbrev pub place_of : List Step → Option Place
 place_of path = place_from path top_place
+
+-- the row below a place whose names keep the user's order, where there is one
+abbrev pub ordered_row : Place → Option ℕ
+ordered_row here =
+    position (λ line. stands (level_of here.row here.in_group) line && line.ordered) profile

@@ -2,7 +2,7 @@ ghost use Rattle.std.specs.Prelude.{◌≡◌, ◌∷◌, [], length, ◌&&◌, 
 ghost use Rattle.cfg_schema.specs.declared.rows.TheConstants.{ROWS};
 ghost use Rattle.cfg_schema.specs.Keyword.{spelled};
 ghost use Rattle.cfg_schema.specs.Profile.{profile, stands, same_word};
-ghost use Rattle.cfg_schema.specs.Place.{has_words, fits, top_place, entered, entered_by, place_after, place_from, place_of};
+ghost use Rattle.cfg_schema.specs.Place.{has_words, fits, top_place, entered, entered_by, place_after, place_from, place_of, ordered_row};
 
 use crate::level::{Level, level_in};
 use crate::rows::{GROUP, RowId};
@@ -43,6 +43,24 @@ fn fitting(lines: &[Line], level: &Level, step: &Step) -> Option<usize>
     lines.iter().position(|line| fits(level, step, line))
 }
 
+fn ordered(lines: &[Line], level: &Level) -> Option<usize>
+    ensures { result ≡ position (λ line. stands level.now line && line.ordered) lines.now }
+{
+    lines
+        .iter()
+        .position(|line| level.takes(line) && line.ordered)
+}
+
+fn ordered_in(lines: &[Line], level: &Level) -> Option<RowId>
+    requires { length lines.now ≡ ROWS }
+    ensures { result ≡ position (λ line. stands level.now line && line.ordered) lines.now }
+{
+    match ordered(lines, level) {
+        Some(place) => Some(RowId::at(place)),
+        None => None,
+    }
+}
+
 impl Place {
     /// The top.
     pub fn top() -> Place
@@ -80,6 +98,15 @@ impl Place {
         let lines = lines();
         let level = level_in(lines, self.row.number(), self.in_group);
         self.after_at(lines, &level, step)
+    }
+
+    /// The row below here whose names keep the user's order, where there is one.
+    pub fn ordered_row(self) -> Option<RowId>
+        ensures { result ≡ ordered_row self }
+    {
+        let lines = lines();
+        let level = level_in(lines, self.row.number(), self.in_group);
+        ordered_in(lines, &level)
     }
 
     /// The place that these steps lead to from the top, where they follow rows.
