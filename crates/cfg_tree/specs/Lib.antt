@@ -1,0 +1,7 @@
+pub mod Statements
+pub mod Shown
+pub mod Typed
+pub mod Tree
+pub mod Change
+pub mod Children
+pub mod Resolve

@@ -1,0 +1,11 @@
+-- The statements that a tree map holds.
+use Rattle.std.specs.FinMap as map
+use Rattle.std.specs.BTreeMap.{BTreeMap}
+use Rattle.std.specs.Prelude.{List}
+use Rattle.cfg_base.specs.declared.path.Step.{Step}
+use Rattle.cfg_base.specs.declared.value.Value.{Value}
+use Rattle.cfg_tree.specs.Statements.{Statements}
+
+-- the entries of a tree map as a finite map
+abbrev pub shown : BTreeMap (List Step) Value → Statements
+shown m = map.from_entries m.entries

@@ -1,0 +1,15 @@
+//! The statements of a configuration.
+#![tactic(auto)]
+
+mod fault;
+mod front;
+mod limit;
+mod steps;
+mod target;
+mod tree;
+
+pub use fault::TreeFault;
+pub use limit::MAX_STATEMENTS;
+pub use steps::Steps;
+pub use target::{Target, WordsFault};
+pub use tree::Tree;

@@ -1,0 +1,69 @@
+ghost use Rattle.std.specs.Prelude.{◌≡◌, ◌+◌, ◌↔◌, OnOk, OnErr, IfOk, IfErr, IsTrue};
+ghost use Rattle.std.specs.Option.{option_copied};
+ghost use Rattle.std.specs.FinMap as map;
+ghost use Rattle.cfg_tree.specs.Statements.{Statements, size_of};
+
+use cfg_base::{NoMemory, Path, Value};
+use std::alloc::Global;
+use std::collections::BTreeMap;
+use std::marker::Model;
+
+/// The statements of a configuration: a map from paths to values.
+#[derive(Debug, Drop)]
+pub struct Tree {
+    statements: BTreeMap<Path, Value>,
+}
+
+impl Model for Tree {
+    ghost use Rattle.std.specs.FinMap as map;
+    ghost use Rattle.cfg_tree.specs.Statements.{Statements, statements_code};
+    ghost use Rattle.cfg_tree.specs.Tree.{IsTree};
+
+    ghost Value = { Statements };
+
+    ghost coded = { statements_code };
+
+    ghost view = { λ t. map.from_entries t.statements.entries };
+
+    ghost invariant = { λ t. IsTree (map.from_entries t.statements.entries) };
+}
+
+impl Tree {
+    /// No statements.
+    pub fn empty(alloc: Global) -> Tree
+        ensures { result ≡ map.empty }
+    {
+        Tree {
+            statements: BTreeMap::new(alloc),
+        }
+    }
+
+    /// The value at a path, where it is there.
+    pub fn at(&self, path: &Path) -> Option<&Value>
+        ensures { option_copied result ≡ map.get self.now path.now }
+    {
+        self.statements.get(path)
+    }
+
+    /// How many statements there are.
+    pub fn count(&self) -> u32
+        ensures { result ≡ size_of self.now }
+    {
+        self.statements.len() as u32
+    }
+
+    /// Whether two trees have the same statements.
+    pub fn same(&self, other: &Tree) -> bool
+        ensures { IsTrue result ↔ (self.now ≡ other.now) }
+    {
+        self.statements == other.statements
+    }
+
+    /// A copy of the tree.
+    pub fn copy(&self) -> Result<Tree, NoMemory>
+        ensures { IfOk result (λ tree. tree ≡ self.now) }
+    {
+        let statements = self.statements.clone()?;
+        Ok(Tree { statements })
+    }
+}
