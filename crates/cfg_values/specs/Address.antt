@@ -1,6 +1,6 @@
 -- IPv4 addresses, as four numbers joined by dots; prefixes, as an address and a length; OSPF areas.
 -- Which short forms are read is this project's own.
-use Rattle.std.specs.Prelude.{◌≡◌, ◌<◌, ◌≤◌, ◌-◌, ◌⊎◌, ℕ, List, ◌∷◌, ◌++◌, length, map, replicate}
+use Rattle.std.specs.Prelude.{◌≡◌, ◌<◌, ◌≤◌, ◌-◌, ◌⊎◌, ℕ, List, [], ◌∷◌, ◌++◌, length, map, replicate}
 use Rattle.std.specs.List.{join_with_byte, AllByRecursion}
 use Rattle.std.specs.Fmt.{decimal}
 use Rattle.std.specs.Int.{w32, to_be_bytes}
@@ -29,28 +29,38 @@ pub record Network : Type 0 where
   pub quad : List ℕ
   pub bits : ℕ
 
--- one to four numbers joined by dots, a slash, and the length without leading zeros; missing numbers are 0
-pub record IsNetwork (bytes : List ℕ) (network : Network) : Type 0 where
-  pub front : List ℕ
-  pub some : 0 < length front
-  pub at_most_four : length front ≤ 4
-  pub octets : AreOctets front
-  pub within : network.bits ≤ 32
-  pub filled_up : network.quad ≡ filled front
-  pub spelled : bytes ≡ dotted front ++ 47 ∷ decimal network.bits
+-- the network of that address and length
+abbrev pub network : List ℕ → ℕ → Network
+network quad bits = record { quad = quad; bits = bits }
+
+-- one to four numbers 0 to 255 without leading zeros, joined by dots
+pub record IsFront (bytes numbers : List ℕ) : Type 0 where
+  pub some : 0 < length numbers
+  pub at_most_four : length numbers ≤ 4
+  pub octets : AreOctets numbers
+  pub spelled : bytes ≡ dotted numbers
+
+-- such numbers, a slash, and the length 0 to 32 without leading zeros; missing numbers are 0
+pub record IsNetwork (bytes : List ℕ) (net : Network) : Type 0 where
+  pub text : List ℕ
+  pub numbers : List ℕ
+  pub front : IsFront text numbers
+  pub filled_up : net.quad ≡ filled numbers
+  pub within : net.bits ≤ 32
+  pub spelled : bytes ≡ text ++ 47 ∷ decimal net.bits
 
 -- an address alone, whose length is 32
-pub record IsHostRoute (bytes : List ℕ) (network : Network) : Type 0 where
-  pub address : IsAddress bytes network.quad
-  pub whole : network.bits ≡ 32
+pub record IsHostRoute (bytes : List ℕ) (net : Network) : Type 0 where
+  pub address : IsAddress bytes net.quad
+  pub whole : net.bits ≡ 32
 
 -- a prefix: with its length, or an address alone
 abbrev pub IsPrefix : List ℕ → Network → Type 0
-IsPrefix bytes network = IsHostRoute bytes network ⊎ IsNetwork bytes network
+IsPrefix bytes net = IsHostRoute bytes net ⊎ IsNetwork bytes net
 
 -- the four numbers, a slash and the length
 abbrev pub prefix_text : Network → List ℕ
-prefix_text network = dotted network.quad ++ 47 ∷ decimal network.bits
+prefix_text net = dotted net.quad ++ 47 ∷ decimal net.bits
 
 -- a number below 2 ^ 32, whose four bytes are the address, the highest first
 pub record IsNumberedArea (bytes quad : List ℕ) : Type 0 where
@@ -61,3 +71,11 @@ pub record IsNumberedArea (bytes quad : List ℕ) : Type 0 where
 -- an area: an address, or its number
 abbrev pub IsArea : List ℕ → List ℕ → Type 0
 IsArea bytes quad = IsAddress bytes quad ⊎ IsNumberedArea bytes quad
+
+-- the number that the bytes write stands after the others, and there are at most four
+pub record AddsOctet (bytes before after : List ℕ) : Type 0 where
+  pub number : ℕ
+  pub octet : number < 256
+  pub spelled : bytes ≡ decimal number
+  pub added : after ≡ before ++ number ∷ []
+  pub at_most_four : length after ≤ 4

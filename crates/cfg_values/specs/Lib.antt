@@ -1,4 +1,5 @@
 pub mod Number
+pub mod Cut
 pub mod Address
 pub mod Interface
 pub mod Choice

@@ -6,6 +6,14 @@
 //! (`cfg_tree`).
 #![tactic(auto)]
 
+mod address;
+mod choice;
+mod cut;
 mod fault;
+mod interface;
+mod number;
+mod octets;
+mod pattern;
+mod plain;
 
 pub use fault::ValueFault;

@@ -1,0 +1,4 @@
+pub mod NumberLemmas
+pub mod CutLemmas
+pub mod DotLemmas
+pub mod AddressLemmas
