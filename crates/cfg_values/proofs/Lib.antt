@@ -2,3 +2,5 @@ pub mod NumberLemmas
 pub mod CutLemmas
 pub mod DotLemmas
 pub mod AddressLemmas
+pub mod ChoiceLemmas
+pub mod InterfaceLemmas

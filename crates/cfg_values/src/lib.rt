@@ -15,5 +15,6 @@ mod number;
 mod octets;
 mod pattern;
 mod plain;
+mod value;
 
 pub use fault::ValueFault;

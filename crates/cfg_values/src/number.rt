@@ -1,7 +1,13 @@
 //! Numbers in decimal digits.
-ghost use Rattle.std.specs.Prelude.{◌≡◌, ◌≢◌, ◌<◌, ◌≤◌, ◌^◌, ◌↔◌, ℕ, length, slice_index, IsTrue, IfSome, IfNone};
+ghost use Rattle.std.specs.Prelude.{◌≡◌, ◌≢◌, ◌<◌, ◌≤◌, ◌^◌, ◌↔◌, ℕ, length, slice_index, IsTrue, IfOk, IfSome, IfNone, string_bytes, MatchResult};
 ghost use Rattle.std.specs.Fmt.{decimal};
 ghost use Rattle.cfg_values.specs.Number.{IsNumber, IsNumberWithin};
+ghost use Rattle.cfg_values.specs.Spelling.{IsCanonicalOf, IsCause};
+
+use crate::fault::ValueFault;
+use crate::plain::word_of;
+use cfg_base::{Kind, Word};
+use std::alloc::{AllocError, Global};
 
 /// The most digits that a number has.
 const MAX_DIGITS: usize = 10;
@@ -57,4 +63,38 @@ pub fn small_number(bytes: &[u8], most: u8) -> Option<u8>
         return None;
     }
     Some(number as u8)
+}
+
+/// The digits of a number, without leading zeros.
+pub fn number_text(alloc: Global, number: u32) -> Result<String, AllocError>
+    ensures { IfOk result (λ text. string_bytes text ≡ decimal number) }
+{
+    format!(in alloc; "{number}")
+}
+
+/// The word of a number.
+fn spell_number(alloc: Global, number: u32) -> Result<Word, AllocError>
+    ensures { IfOk result (λ word. word ≡ decimal number) }
+{
+    let text = number_text(alloc, number)?;
+    word_of(alloc, text.as_bytes())
+}
+
+/// Reads a number of the range.
+pub fn read_number(
+    alloc: Global,
+    from: u32,
+    to: u32,
+    bytes: &[u8],
+) -> Result<Word, ValueFault>
+    ensures {
+        MatchResult result
+            (IsCanonicalOf (Kind.Number from to) bytes.now)
+            (IsCause (Kind.Number from to) bytes.now)
+    }
+{
+    match number_within(bytes, from, to) {
+        Some(number) => Ok(spell_number(alloc, number)?),
+        None => Err(ValueFault::NotOfKind(Kind::Number { from, to })),
+    }
 }
