@@ -1,12 +1,12 @@
 -- Addresses and prefixes: each text spells one, and each is read from its canonical text.
-use Rattle.std.proofs.Common.{◌≡◌, ◌<◌, ◌≤◌, ◌∙◌, sym, ap, subst, refl, ℕ, List, [], ◌∷◌, length, ◌++◌, eqb, false, arith, lit<, ◌+◌, ◌*◌, ◌-◌, zero, suc, length-append, ⊎_elim, replicate}
+use Rattle.std.proofs.Common.{◌≡◌, ◌≤◌, ◌∙◌, sym, ap, subst, refl, ℕ, List, [], ◌∷◌, length, ◌++◌, eqb, false, arith, lit<, ◌*◌, ◌-◌, zero, suc, length-append, ⊎_elim, replicate}
 use Rattle.std.specs.Prelude.{All}
 use Rattle.std.specs.Fmt.{decimal}
 use Rattle.std.proofs.lemmas.List.{length-replicate, append-nil}
 use Rattle.std.specs.Int.{w32, to_be_bytes}
 use Rattle.std.proofs.lemmas.Fmt.{length-decimal-le}
 use Rattle.cfg_values.specs.Cut.{IsCut}
-use Rattle.cfg_values.specs.Address.{AreOctets, IsAddress, IsArea, IsFront, IsHostRoute, IsNetwork, IsPrefix, Network, dotted, filled, prefix_text}
+use Rattle.cfg_values.specs.Address.{AreOctets, IsAddress, IsArea, IsFront, IsNetwork, IsPrefix, Network, dotted, filled, prefix_text}
 use Rattle.cfg_values.proofs.DotLemmas.{no_mark_in_dotted, front_from_address}
 
 -- no slash stands in numbers that are joined by dots
@@ -27,8 +27,12 @@ pub length-dotted-le : (numbers : List ℕ) → AreOctets numbers → length (do
 length-dotted-le [] octets = omega arith
 length-dotted-le (n ∷ []) octets = omega (arith, length-decimal-le 3 n (omega arith) (omega arith) (omega arith))
 length-dotted-le (n ∷ m ∷ numbers) octets =
-    omega (arith, length-decimal-le 3 n (omega arith) (omega arith) (omega arith), length-dotted-le (m ∷ numbers) octets.1,
-        length-append (decimal n) (46 ∷ dotted (m ∷ numbers)))
+    omega (
+      arith,
+      length-decimal-le 3 n (omega arith) (omega arith) (omega arith),
+      length-dotted-le (m ∷ numbers) octets.1,
+      length-append (decimal n) (46 ∷ dotted (m ∷ numbers)),
+    )
 
 -- an address's own text spells it
 pub address_again : (bytes quad : List ℕ) → IsAddress bytes quad → IsAddress (dotted quad) quad
@@ -41,7 +45,7 @@ be_bytes-octets n = (omega arith, (omega arith, (omega arith, (omega arith, tt))
 pub area_again : (bytes quad : List ℕ) → IsArea bytes quad → IsAddress (dotted quad) quad
 area_again bytes quad area = ⊎_elim (λ address. address_again bytes quad address)
     (λ numbered. subst (λ q. IsAddress (dotted q) q) (sym numbered.split)
-        (record { four = refl; octets = be_bytes-octets numbered.number; spelled = refl })) area
+    (record { four = refl; octets = be_bytes-octets numbered.number; spelled = refl })) area
 
 -- octets, and zeros after them
 pub octets-append : (numbers others : List ℕ) → AreOctets numbers → AreOctets others → AreOctets (numbers ++ others)

@@ -1,5 +1,5 @@
 -- A test of each word of a set tells whether the bytes are one of them.
-use Rattle.std.proofs.Common.{◌≡◌, ◌<◌, sym, ◌∙◌, ap, subst, refl, ℕ, zero, suc, List, [], ◌∷◌, map, length, Bool, true, false, ◌||◌, arith, IsTrue}
+use Rattle.std.proofs.Common.{◌≡◌, ◌<◌, ◌∙◌, ap, refl, ℕ, zero, suc, List, [], ◌∷◌, map, length, Bool, true, false, ◌||◌, arith}
 use Rattle.std.specs.Prelude.{Contains, slice_index_or}
 use Rattle.std.specs.List.{list_any}
 use Rattle.std.specs.Str.{bytes_eq}
@@ -20,8 +20,8 @@ pub any_contains : {X : Type 0} (f : X → List ℕ) (b : List ℕ) (words : Lis
 any_contains f b [] e = absurd (false≢true e)
 any_contains f b (word ∷ words) e =
     or_cases (bytes_eq (f word) b) (list_any (λ w. bytes_eq (f w) b) words) (Contains (map f (word ∷ words)) b) e
-        (λ here. (0, omega arith, (bytes_eq-Decides (f word) b).0 here))
-        (λ there. let rest = any_contains f b words there in (suc rest.0, omega (arith, rest.1), rest.2))
+    (λ here. (0, omega arith, (bytes_eq-Decides (f word) b).0 here))
+    (λ there. let rest = any_contains f b words there in (suc rest.0, omega (arith, rest.1), rest.2))
 
 pub contains_any : {X : Type 0} (f : X → List ℕ) (b : List ℕ) (words : List X) (k : ℕ) → k < length (map f words)
     → slice_index_or (map f words) k b ≡ b → list_any (λ word. bytes_eq (f word) b) words ≡ true

@@ -1,5 +1,5 @@
 -- Where a text is cut in two at a mark, it is cut in one way.
-use Rattle.std.proofs.Common.{◌≡◌, ◌<◌, ◌∙◌, sym, ap, subst, refl, ℕ, List, ◌∷◌, length, ◌++◌, true, false, eqb, get_or, drop, arith, length-append}
+use Rattle.std.proofs.Common.{◌≡◌, ◌<◌, ◌∙◌, sym, ap, refl, ℕ, List, ◌∷◌, length, ◌++◌, true, false, eqb, get_or, drop, arith, length-append}
 use Rattle.std.specs.Prelude.{All}
 use Rattle.std.specs.List.{slice_split}
 use Rattle.std.proofs.lemmas.Bool.{false≢true}
@@ -16,7 +16,7 @@ pub not_cut : (mark : ℕ) (bytes before after : List ℕ) → All (λ b. eqb b 
 not_cut mark bytes before after none joined =
     let within : length before < length bytes = omega (arith, ap length joined, length-append before (mark ∷ after)) in
     let here : get_or bytes (length before) 0 ≡ mark =
-        ap (λ bs. get_or bs (length before) 0) joined ∙ get_or_at before mark after 0 (length before) refl in
+    ap (λ bs. get_or bs (length before) 0) joined ∙ get_or_at before mark after 0 (length before) refl in
     false≢true (sym (none (length before) 0 within) ∙ ap (λ b. eqb b mark) here ∙ eqb_same mark)
 
 -- what stands before the mark is determined

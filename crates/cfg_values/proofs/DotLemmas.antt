@@ -1,25 +1,16 @@
 -- Numbers that are joined by dots, and the parts between the dots.
-use Rattle.std.proofs.Common.{◌≡◌, ◌<◌, ◌≤◌, ◌^◌, ◌∙◌, sym, ap, subst, refl, ℕ, List, [], ◌∷◌, length, map, ◌++◌, Bool, true, false, eqb, get_or, drop, arith, append_assoc, length-append, lit<}
+use Rattle.std.proofs.Common.{◌≡◌, ◌<◌, ◌≤◌, ◌∙◌, sym, ap, subst, refl, ℕ, List, [], ◌∷◌, length, map, ◌++◌, false, eqb, get_or, drop, arith, append_assoc, length-append, lit<}
 use Rattle.std.proofs.lemmas.Bool.{false≢true}
 use Rattle.std.specs.Prelude.{All, IfNone, IsSome, Option, Some, None}
 use Rattle.std.specs.List.{slice_split, join_with_byte}
 use Rattle.std.specs.Fmt.{decimal}
-use Rattle.std.proofs.lemmas.Str.Parse.{digit_at}
-use Rattle.std.proofs.lemmas.Fmt.{decimal_is_IsNumeral, decimal_injective}
+use Rattle.std.proofs.lemmas.Fmt.{decimal_injective}
 use Rattle.std.proofs.lemmas.List.Elements.{All-nil, All-append, All-cons}
-use Rattle.std.proofs.lemmas.List.{get_or_default, map_push}
+use Rattle.std.proofs.lemmas.List.{map_push}
 use Rattle.std.proofs.lemmas.List.Splits.{slice_split_none, slice_split_at, join_with_byte-slice_split}
-use Rattle.std.proofs.lemmas.Bool.Decides.{nat_tests}
+use Rattle.cfg_values.proofs.NumberLemmas.{no_mark_in_decimal}
 use Rattle.cfg_values.specs.Cut.{IsCut}
 use Rattle.cfg_values.specs.Address.{AreOctets, IsAddress, IsFront, AddsOctet, dotted}
-
--- a byte below the digits stands nowhere in a number
-pub no_mark_in_decimal : (mark n : ℕ) → mark < 48 → n < 2 ^ 64 → All (λ b. eqb b mark ≡ false) (decimal n)
-no_mark_in_decimal mark n low small k d within =
-    let numeral = decimal_is_IsNumeral n small in
-    let digit = digit_at (decimal n) k numeral.0.1 within in
-    let same = get_or_default (decimal n) k d 0 within in
-    grind (arith, nat_tests)
 
 -- the parts between the dots
 abbrev pub parts_of : List ℕ → List (List ℕ)
@@ -63,7 +54,7 @@ read_on bytes numbers rest part after more read cut adds = record {
   parts =
       read.parts ∙ ap (λ parts. map decimal numbers ++ parts) (parts_of-cut rest part after cut ∙ ap (λ p. p ∷ parts_of after) adds.spelled)
       ∙ sym (ap (λ ns. map decimal ns ++ parts_of after) adds.added ∙ ap (λ parts. parts ++ parts_of after) (map_push decimal numbers adds.number)
-          ∙ append_assoc (map decimal numbers) (decimal adds.number ∷ []) (parts_of after));
+      ∙ append_assoc (map decimal numbers) (decimal adds.number ∷ []) (parts_of after));
 }
 
 -- the last number is read
@@ -101,7 +92,7 @@ pub not_front : (bytes numbers rest part : List ℕ) (parts : List (List ℕ)) �
 not_front bytes numbers rest part parts read split full all front =
     let whole = ap parts_of front.spelled ∙ parts_of-dotted all front.octets front.some in
     let next = next_number numbers all part parts front.octets
-        (ap (λ ps. map decimal numbers ++ ps) (sym split) ∙ sym read.parts ∙ whole) in
+    (ap (λ ps. map decimal numbers ++ ps) (sym split) ∙ sym read.parts ∙ whole) in
     omega (arith, full next.number next.octet next.spelled, next.more, front.at_most_four)
 
 -- what follows from what a clause says of a `None`
@@ -141,7 +132,7 @@ no_mark_in_dotted mark [] low other octets = All-nil (λ b. eqb b mark ≡ false
 no_mark_in_dotted mark (n ∷ []) low other octets = no_mark_in_decimal mark n low (omega arith)
 no_mark_in_dotted mark (n ∷ m ∷ numbers) low other octets =
     All-append (λ b. eqb b mark ≡ false) (decimal n) (46 ∷ dotted (m ∷ numbers)) (no_mark_in_decimal mark n low (omega arith))
-        (All-cons (λ b. eqb b mark ≡ false) 46 (dotted (m ∷ numbers)) other (no_mark_in_dotted mark (m ∷ numbers) low other octets.1))
+    (All-cons (λ b. eqb b mark ≡ false) 46 (dotted (m ∷ numbers)) other (no_mark_in_dotted mark (m ∷ numbers) low other octets.1))
 
 -- what holds where an option isn't there
 pub absent : {X P : Type 0} (r : Option X) → (¬ (IsSome r) → P) → IfNone r P

@@ -4,3 +4,4 @@ pub mod DotLemmas
 pub mod AddressLemmas
 pub mod ChoiceLemmas
 pub mod InterfaceLemmas
+pub mod SpellingLemmas

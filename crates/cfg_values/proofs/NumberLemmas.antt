@@ -1,16 +1,16 @@
 -- Digits and the numbers that they write, both ways.
-use Rattle.std.proofs.Common.{◌≡◌, ◌<◌, ◌≤◌, ◌^◌, ◌∙◌, sym, ap, subst, ℕ, List, length, get_or, take, true, false, ◌+◌, ◌-◌, ◌*◌, arith, refl, ⊎_elim, lit<, inl, inr, ◌⊎◌, zero, suc}
-use Rattle.std.specs.Str.Parse.{AllDigits, IsNumeral, digits_value}
+use Rattle.std.proofs.Common.{◌≡◌, ◌<◌, ◌≤◌, ◌^◌, ◌∙◌, sym, ap, subst, ℕ, List, length, get_or, take, true, false, ◌+◌, ◌-◌, ◌*◌, arith, refl, ⊎_elim, lit<, inl, inr, ◌⊎◌, zero, suc, eqb}
+use Rattle.std.specs.Str.Parse.{AllDigits, digits_value}
 use Rattle.std.specs.Char.{is_ascii_digit, digit_value}
 use Rattle.std.proofs.lemmas.Str.{digit_value_digit}
 use Rattle.std.proofs.lemmas.Int.Digits.{digits_more, digits_value_more}
 use Rattle.std.specs.Fmt.{decimal}
 use Rattle.std.proofs.lemmas.Str.Parse.{IsNumeralModel, numerals_by_value, tells_digits, digits_value_short, digit_at}
 use Rattle.std.proofs.lemmas.Fmt.{decimal-digits_value, decimal_is_IsNumeral, length-decimal-le, first_decimal, decimal_digit}
-use Rattle.std.proofs.lemmas.List.{length-take}
+use Rattle.std.proofs.lemmas.List.{length-take, get_or_default}
+use Rattle.std.specs.Prelude.{All}
 use Rattle.std.proofs.lemmas.Bool.Decides.{nat_tests}
-use Rattle.std.proofs.lemmas.Bool.{cases_eq}
-use Rattle.cfg_values.specs.Number.{IsNumber}
+use Rattle.cfg_values.specs.Number.{IsNumber, IsNumberWithin}
 
 -- `AllDigits` and `digits_value` tell and read decimal digits
 pub own_digits : IsNumeralModel (AllDigits 10) (digits_value 10)
@@ -68,7 +68,7 @@ zero_or_more (suc n) = inr (omega arith)
 pub no_leading_zero : (n : ℕ) → n < 2 ^ 64 → 1 < length (decimal n) → get_or (decimal n) 0 0 ≡ 48 → ⊥
 no_leading_zero n small long first =
     ⊎_elim (λ none. omega (arith, ap length (decimal_digit 0 (lit< tt)), ap (λ m. length (decimal m)) none))
-        (λ some. omega (arith, first_decimal n some small)) (zero_or_more n)
+    (λ some. omega (arith, first_decimal n some small)) (zero_or_more n)
 
 -- the number of those digits is the only one that is written so
 pub number_only : (bytes : List ℕ) (m n : ℕ) → IsNumber bytes m → n < 10 ^ 10 → bytes ≡ decimal n → m ≡ n
@@ -77,3 +77,18 @@ number_only bytes m n h small e = IsNumber-unique bytes m n h (subst (λ b. IsNu
 -- a length that is some and not above 1 is 1
 pub one_digit : (n : ℕ) → 0 < n → (1 < n → ⊥) → n ≡ 1
 one_digit n some few = omega arith
+
+-- a byte below the digits stands nowhere in digits
+pub no_mark_in_digits : (mark : ℕ) (bytes : List ℕ) → mark < 48 → AllDigits 10 bytes → All (λ b. eqb b mark ≡ false) bytes
+no_mark_in_digits mark bytes low digits k d within =
+    let digit = digit_at bytes k digits within in
+    let same = get_or_default bytes k d 0 within in
+    grind (arith, nat_tests)
+
+-- a byte below the digits stands nowhere in a number
+pub no_mark_in_decimal : (mark n : ℕ) → mark < 48 → n < 2 ^ 64 → All (λ b. eqb b mark ≡ false) (decimal n)
+no_mark_in_decimal mark n low small = no_mark_in_digits mark (decimal n) low (decimal_is_IsNumeral n small).0.1
+
+-- a number of a range, written without leading zeros, reads as itself
+pub within_again : (from to : ℕ) (bytes : List ℕ) (n : ℕ) → IsNumberWithin from to bytes n → IsNumberWithin from to (decimal n) n
+within_again from to bytes n h = record { read = IsNumber-decimal n (number_below bytes n h.read); low = h.low; high = h.high }

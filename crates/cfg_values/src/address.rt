@@ -44,10 +44,8 @@ fn area_of(bytes: &[u8]) -> Option<[u8; 4]>
 /// The prefix of one to four numbers and a length.
 fn network_of(front: &[u8], bits: &[u8]) -> Option<Prefix>
     ensures some { IfSome result (λ p. IsNetwork (front.now ++ 47 ∷ bits.now) (network p.quad p.bits)) }
-    ensures none {
-        IfNone result
-            ((numbers : List ℕ) (n : ℕ) → IsFront front.now numbers → n ≤ 32 → bits.now ≢ decimal n)
-    }
+    ensures none { IfNone result
+        ((numbers : List ℕ) (n : ℕ) → IsFront front.now numbers → n ≤ 32 → bits.now ≢ decimal n) }
 {
     let octets = octets_of(front)?;
     let bits = small_number(bits, MAX_BITS)?;
@@ -108,9 +106,7 @@ fn spell_prefix(alloc: Global, prefix: Prefix) -> Result<Word, AllocError>
 
 /// Reads an address.
 pub fn read_address(alloc: Global, bytes: &[u8]) -> Result<Word, ValueFault>
-    ensures {
-        MatchResult result (IsCanonicalOf Kind.Address bytes.now) (IsCause Kind.Address bytes.now)
-    }
+    ensures { MatchResult result (IsCanonicalOf Kind.Address bytes.now) (IsCause Kind.Address bytes.now) }
 {
     match address_of(bytes) {
         Some(quad) => Ok(spell_address(alloc, quad)?),
@@ -130,9 +126,7 @@ pub fn read_area(alloc: Global, bytes: &[u8]) -> Result<Word, ValueFault>
 
 /// Reads a prefix.
 pub fn read_prefix(alloc: Global, bytes: &[u8]) -> Result<Word, ValueFault>
-    ensures {
-        MatchResult result (IsCanonicalOf Kind.Prefix bytes.now) (IsCause Kind.Prefix bytes.now)
-    }
+    ensures { MatchResult result (IsCanonicalOf Kind.Prefix bytes.now) (IsCause Kind.Prefix bytes.now) }
 {
     match prefix_of(bytes) {
         Some(prefix) => Ok(spell_prefix(alloc, prefix)?),

@@ -11,7 +11,13 @@ fn words_of(choice: Choice) -> &'static [&'static [u8]]
     ensures { map (λ word. word.now) result.now ≡ words_of choice }
 {
     match choice {
-        Choice::Permission => &[b"all", b"clear", b"configure", b"view", b"view-configuration"],
+        Choice::Permission => &[
+            b"all",
+            b"clear",
+            b"configure",
+            b"view",
+            b"view-configuration",
+        ],
         Choice::RootLogin => &[b"allow", b"deny", b"deny-password"],
         Choice::GroupType => &[b"external", b"internal"],
         Choice::Protocol => &[b"bgp", b"direct", b"local", b"ospf", b"static"],

@@ -53,9 +53,7 @@ pub fn is_interface(bytes: &[u8]) -> bool
 fn numbered_unit(name: &[u8], digits: &[u8]) -> Option<u32>
     ensures some { IfSome result (λ unit. IsNumberWithin 0 16385 digits.now unit) }
     ensures name { IfSome result (λ unit. IsInterface name.now) }
-    ensures none {
-        IfNone result ((unit : ℕ) → IsInterface name.now → ¬ (IsNumberWithin 0 16385 digits.now unit))
-    }
+    ensures none { IfNone result ((unit : ℕ) → IsInterface name.now → ¬ (IsNumberWithin 0 16385 digits.now unit)) }
 {
     if !is_interface(name) {
         return None;
@@ -90,9 +88,7 @@ fn spell_unit(alloc: Global, name: &[u8], unit: u32) -> Result<Word, AllocError>
 
 /// Reads the units that the bytes name.
 pub fn read_units(alloc: Global, bytes: &[u8]) -> Result<Word, ValueFault>
-    ensures {
-        MatchResult result (IsCanonicalOf Kind.IfUnit bytes.now) (IsCause Kind.IfUnit bytes.now)
-    }
+    ensures { MatchResult result (IsCanonicalOf Kind.IfUnit bytes.now) (IsCause Kind.IfUnit bytes.now) }
 {
     if bytes == EVERY_UNIT {
         return Ok(word_of(alloc, bytes)?);

@@ -11,6 +11,7 @@ mod choice;
 mod cut;
 mod fault;
 mod interface;
+mod laws;
 mod number;
 mod octets;
 mod pattern;
@@ -18,3 +19,9 @@ mod plain;
 mod value;
 
 pub use fault::ValueFault;
+pub use laws::spellings_stand_for_one_value;
+pub use pattern::is_pattern;
+pub use value::read_value;
+
+#[cfg(test)]
+mod tests;

@@ -81,17 +81,10 @@ fn spell_number(alloc: Global, number: u32) -> Result<Word, AllocError>
 }
 
 /// Reads a number of the range.
-pub fn read_number(
-    alloc: Global,
-    from: u32,
-    to: u32,
-    bytes: &[u8],
-) -> Result<Word, ValueFault>
-    ensures {
-        MatchResult result
-            (IsCanonicalOf (Kind.Number from to) bytes.now)
-            (IsCause (Kind.Number from to) bytes.now)
-    }
+pub fn read_number(alloc: Global, from: u32, to: u32, bytes: &[u8]) -> Result<Word, ValueFault>
+    ensures { MatchResult result
+        (IsCanonicalOf (Kind.Number from to) bytes.now)
+        (IsCause (Kind.Number from to) bytes.now) }
 {
     match number_within(bytes, from, to) {
         Some(number) => Ok(spell_number(alloc, number)?),

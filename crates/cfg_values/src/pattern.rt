@@ -9,7 +9,10 @@ const MAX_INNER: usize = 62;
 fn is_bare_byte(byte: u8) -> bool
     ensures { result ≡ is_bare_byte byte }
 {
-    let special = matches!(byte, b'{' | b'}' | b'[' | b']' | b';' | b'"' | b'#' | b'\\' | b'<' | b'>');
+    let special = matches!(
+        byte,
+        b'{' | b'}' | b'[' | b']' | b';' | b'"' | b'#' | b'\\' | b'<' | b'>'
+    );
     matches!(byte, b'!'..=b'~') && !special
 }
 

@@ -84,12 +84,7 @@ pub fn word_of(alloc: Global, bytes: &[u8]) -> Result<Word, AllocError>
 }
 
 /// The bytes as a word where they fit the kind, whose spellings are all canonical.
-pub fn as_read(
-    alloc: Global,
-    kind: Kind,
-    fits: bool,
-    bytes: &[u8],
-) -> Result<Word, ValueFault>
+pub fn as_read(alloc: Global, kind: Kind, fits: bool, bytes: &[u8]) -> Result<Word, ValueFault>
     requires short { IsTrue fits → length bytes.now ≤ 255 }
     requires kept { IsTrue fits → IsCanonical kind bytes.now }
     requires all { IsSpelling kind bytes.now → IsTrue fits }

@@ -26,3 +26,16 @@ fn read(alloc: Global, kind: Kind, bytes: &[u8]) -> Result<Word, ValueFault>
         Kind::OneOf(choice) => as_read(alloc, kind, is_choice(choice, bytes), bytes),
     }
 }
+
+/// The canonical spelling of the value that the bytes spell.
+pub fn read_value(alloc: Global, kind: Kind, bytes: &[u8]) -> Result<Word, ValueFault>
+    ensures canonical { IfOk result (λ word. IsCanonicalOf kind bytes.now word) }
+    ensures refused { IsErrOf result (ValueFault.NotOfKind kind) ↔ ¬ (IsSpelling kind bytes.now) }
+    ensures cause { IfErr result (λ fault. IsCause kind bytes.now fault) }
+
+    // What is canonical reads as itself, and nothing else does.
+    ensures own { IfOk result (λ word. IsCanonical kind word) }
+    ensures kept { IfOk result (λ word. (word ≡ bytes.now) ↔ IsCanonical kind bytes.now) }
+{
+    read(alloc, kind, bytes)
+}

@@ -9,5 +9,12 @@ word_of-requires c =
     let text = ap length (c.as_bytes.ensures.value ∙ c.in_ok-text.ensures) in
     let address = ap length (c.as_str.ensures.value ∙ c.in_ok-address.ensures) in
     let bits = length-decimal-le 3 c.args.prefix.bits (omega arith) (omega arith) (omega arith) in
-    omega (arith, text, address, bits, length-append c.as_str.result.now (47 ∷ decimal c.args.prefix.bits),
-        length-dotted-le c.args.prefix.quad c.requires.quad.octets, c.requires.quad.four)
+    omega (
+      arith,
+      text,
+      address,
+      bits,
+      length-append c.as_str.result.now (47 ∷ decimal c.args.prefix.bits),
+      length-dotted-le c.args.prefix.quad c.requires.quad.octets,
+      c.requires.quad.four,
+    )

@@ -19,7 +19,7 @@ overflow_add-number c =
 pub loop-byte-preserved : goal.loop-byte-preserved
 loop-byte-preserved c =
     digit_read _ _ _ _ c.loop-byte-test.true c.loop-byte.invariant.0 c.loop-byte.invariant.1
-        c.if-not-is_ascii_digit.ensures.value c.from.ensures
+    c.if-not-is_ascii_digit.ensures.value c.from.ensures
 
 pub returns-clause-below : goal.returns-clause-below
 returns-clause-below c =

@@ -1,6 +1,5 @@
-use Rattle.std.proofs.Common.{arith, subst, sym, rules, ◌∙◌, ap, ◌<◌, ◌≡◌, length, get_or}
+use Rattle.std.proofs.Common.{arith, subst, sym, ◌∙◌, ◌<◌, ◌≡◌, length, get_or}
 use Rattle.std.proofs.lemmas.Bool.{false≢true}
-use Rattle.std.specs.Fmt.{decimal}
 use Rattle.cfg_values.specs.Number.{IsNumber}
 use Rattle.cfg_values.proofs.NumberLemmas.{IsNumber-decimal, number_only, number_written, no_leading_zero, one_digit}
 use Rattle.cfg_values.proofs.number.small_number.Goals as goal
@@ -13,7 +12,7 @@ returns-then-has_leading_zero-clause-none c n small e =
 pub returns-in_err-number-clause-none : goal.returns-in_err-number-clause-none
 returns-in_err-number-clause-none c =
     rw c.from_residual.ensures
-        (λ n small e. c.in_err-number.ensures.none n (subst (λ b. IsNumber b n) (sym e) (IsNumber-decimal n (omega arith))))
+    (λ n small e. c.in_err-number.ensures.none n (subst (λ b. IsNumber b n) (sym e) (IsNumber-decimal n (omega arith))))
 
 pub returns-then-number-from-clause-none : goal.returns-then-number-from-clause-none
 returns-then-number-from-clause-none c n small e =
@@ -23,5 +22,5 @@ returns-then-number-from-clause-none c n small e =
 pub returns-clause-written : goal.returns-clause-written
 returns-clause-written c =
     number_written _ _ c.in_ok-number.ensures.number
-        (λ first. one_digit _ c.in_ok-number.ensures.number.digits.0
-            (λ long. false≢true (sym c.if-has_leading_zero.false ∙ c.has_leading_zero.ensures.1 (long, first))))
+    (λ first. one_digit _ c.in_ok-number.ensures.number.digits.0
+    (λ long. false≢true (sym c.if-has_leading_zero.false ∙ c.has_leading_zero.ensures.1 (long, first))))

@@ -1,4 +1,4 @@
-use Rattle.std.proofs.Common.{length, map}
+use Rattle.std.proofs.Common.{length}
 use Rattle.cfg_values.proofs.DotLemmas.{IsReadUpTo}
 use Rattle.cfg_values.proofs.octets.octets_of.Given as goal
 
