@@ -1,0 +1,7 @@
+pub mod NumberLemmas
+pub mod CutLemmas
+pub mod DotLemmas
+pub mod AddressLemmas
+pub mod ChoiceLemmas
+pub mod InterfaceLemmas
+pub mod SpellingLemmas

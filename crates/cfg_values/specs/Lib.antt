@@ -1,0 +1,7 @@
+pub mod Number
+pub mod Cut
+pub mod Address
+pub mod Interface
+pub mod Choice
+pub mod Pattern
+pub mod Spelling
