@@ -20,9 +20,9 @@ led here step number lines level result a b c d =
 
 -- the ordered row found in these lines is that of the profile
 pub ordered_there : (here : Place) (number : ℕ) (lines : List Line) (level : Level) (result : Option ℕ)
-  → lines ≡ profile → number ≡ here.row → level ≡ level_in lines number here.in_group
-  → result ≡ position (λ line. stands level line && line.ordered) lines
-  → result ≡ ordered_row here
+    → lines ≡ profile → number ≡ here.row → level ≡ level_in lines number here.in_group
+    → result ≡ position (λ line. stands level line && line.ordered) lines
+    → result ≡ ordered_row here
 ordered_there here number lines level result a b c d =
     d
     ∙ ap (λ (l : Level). position (λ line. stands l line && line.ordered) lines) c

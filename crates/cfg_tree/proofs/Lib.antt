@@ -1,1 +1,4 @@
 pub mod MapLemmas
+pub mod TreeLemmas
+pub mod SameLemmas
+pub mod BelowLemmas

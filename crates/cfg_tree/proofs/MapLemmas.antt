@@ -4,7 +4,7 @@ use Rattle.std.specs.FinMap as map
 use Rattle.std.specs.FinMap.{IsAntisymmetric, slice_cmp-IsAntisymmetric, nat_cmp-IsAntisymmetric}
 use Rattle.std.specs.FinMap.Entries.{by_order, put, find, below_all, is_sorted}
 use Rattle.std.specs.Map.{lookup, keys_of}
-use Rattle.std.specs.BTreeMap.{BTreeMap, is_at, insert_entry, IsOrdered}
+use Rattle.std.specs.BTreeMap.{BTreeMap, is_at, insert_entry, IsOrdered, get, Updates}
 use Rattle.std.specs.List.{AllByRecursion}
 use Rattle.std.specs.List.Sorted.{IsStrictlySortedBy}
 use Rattle.std.specs.declared.cmp.Ordering.{Ordering}
@@ -17,9 +17,11 @@ use Rattle.cfg_base.specs.Order.{word_cmp, step_cmp, path_cmp, paths_total, step
 use Rattle.cfg_base.specs.declared.path.Step.{Step}
 use Rattle.cfg_base.specs.declared.value.Value.{Value}
 use Rattle.cfg_tree.specs.Statements.{Statements}
-use Rattle.cfg_tree.specs.Shown.{shown}
+use Rattle.std.specs.Option.{option_map}
+use Rattle.cfg_tree.specs.Shown.{shown, with_names}
+use Rattle.cfg_tree.specs.Change.{with_order, with_order_of}
 
-word_same : IsAntisymmetric word_cmp
+pub word_same : IsAntisymmetric word_cmp
 word_same = slice_cmp-IsAntisymmetric nat_cmp-IsAntisymmetric
 
 -- both orders tie
@@ -40,7 +42,7 @@ step_same s t e =
 pub path_same : IsAntisymmetric path_cmp
 path_same = slice_cmp-IsAntisymmetric step_same
 
-is_equal : (o : Ordering) → is_eq o ≡ true → o ≡ Equal
+pub is_equal : (o : Ordering) → is_eq o ≡ true → o ≡ Equal
 is_equal Less e = cc
 is_equal Equal e = refl
 is_equal Greater e = cc
@@ -86,3 +88,58 @@ len_is es h = map.len-entries (map.from_entries es) ∙ ap length (entries_is es
 -- maps that answer alike are one
 pub same_statements : (m n : Statements) → ((q : List Step) → map.get m q ≡ map.get n q) → m ≡ n
 same_statements m n = map.same_map paths_total path_same m n
+
+-- two keys tie in either order
+flipped : (k q : List Step) → is_at (path_cmp k) q ≡ eq_by_cmp path_cmp q k
+flipped k q = (eq_by_cmp_equiv paths_total).symm k q
+
+-- what `insert` of the tree map makes
+pub inserted : (m n : BTreeMap (List Step) Value) (k : List Step) (v : Value) → Updates path_cmp m n k (Some v)
+    → shown n ≡ map.insert (shown m) k v
+inserted m n k v u = same_statements _ _ (λ q.
+    get_is n q
+    ∙ u.0 q
+    ∙ ap (λ (b : Bool). cond b (Some v) (get path_cmp m q)) (flipped k q)
+    ∙ ap (λ (o : Option Value). cond (eq_by_cmp path_cmp q k) (Some v) o) (sym (get_is m q))
+    ∙ sym (map.get-insert paths_total (shown m) k v q))
+
+-- what `remove` of the tree map makes
+pub taken : (m n : BTreeMap (List Step) Value) (k : List Step) → Updates path_cmp m n k None
+    → shown n ≡ map.remove (shown m) k
+taken m n k u = same_statements _ _ (λ q.
+    get_is n q
+    ∙ u.0 q
+    ∙ ap (λ (b : Bool). cond b None (get path_cmp m q)) (flipped k q)
+    ∙ ap (λ (o : Option Value). cond (eq_by_cmp path_cmp q k) None o) (sym (get_is m q))
+    ∙ sym (map.get-remove paths_total (shown m) k q))
+
+-- what a write of the order at a key makes
+module _ (m n : BTreeMap (List Step) Value) (p : List Step) (names : List (List ℕ))
+    (at : get path_cmp n p ≡ option_map (with_names names) (get path_cmp m p))
+    (others : (q : List Step) → is_at (path_cmp p) q ≡ false → get path_cmp n q ≡ get path_cmp m q) where
+  unwritten : (q : List Step) (b : Bool) → is_at (path_cmp p) q ≡ b → get path_cmp m p ≡ None → map.get (shown n) q ≡ map.get (shown m) q
+  unwritten q true e none =
+      let same = (same_path p q).0 e
+      in let there : map.get (shown n) p ≡ map.get (shown m) p =
+      get_is n p ∙ at ∙ ap (λ (o : Option Value). option_map (with_names names) o) none ∙ sym none ∙ sym (get_is m p)
+      in subst (λ (x : List Step). map.get (shown n) x ≡ map.get (shown m) x) same there
+  unwritten q false e none = get_is n q ∙ others q e ∙ sym (get_is m q)
+
+  written : (v : Value) (q : List Step) (b : Bool) → is_at (path_cmp p) q ≡ b → get path_cmp m p ≡ Some v
+      → map.get (shown n) q ≡ cond b (Some (with_names names v)) (map.get (shown m) q)
+  written v q true e some =
+      let same = (same_path p q).0 e
+      in let there : map.get (shown n) p ≡ Some (with_names names v) =
+      get_is n p ∙ at ∙ ap (λ (o : Option Value). option_map (with_names names) o) some
+      in subst (λ (x : List Step). map.get (shown n) x ≡ Some (with_names names v)) same there
+  written v q false e some = get_is n q ∙ others q e ∙ sym (get_is m q)
+
+  ordered_at : (o : Option Value) → get path_cmp m p ≡ o → shown n ≡ with_order_of (shown m) p (λ _. names) o
+  ordered_at None e = same_statements _ _ (λ q. unwritten q _ refl e)
+  ordered_at (Some v) e = same_statements _ _ (λ q.
+      written v q _ refl e
+      ∙ ap (λ (b : Bool). cond b (Some (with_names names v)) (map.get (shown m) q)) (flipped p q)
+      ∙ sym (map.get-insert paths_total (shown m) p (with_names names v) q))
+
+  pub ordered : shown n ≡ with_order (shown m) p (λ _. names)
+  ordered = subst (λ (o : Option Value). shown n ≡ with_order_of (shown m) p (λ _. names) o) (sym (get_is m p)) (ordered_at _ refl)

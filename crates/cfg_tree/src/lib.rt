@@ -5,6 +5,7 @@ mod fault;
 mod front;
 mod limit;
 mod steps;
+mod store;
 mod target;
 mod tree;
 

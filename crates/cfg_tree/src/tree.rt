@@ -3,15 +3,15 @@ ghost use Rattle.std.specs.Option.{option_copied};
 ghost use Rattle.std.specs.FinMap as map;
 ghost use Rattle.cfg_tree.specs.Statements.{Statements, size_of};
 
+use crate::store::Entries;
 use cfg_base::{NoMemory, Path, Value};
 use std::alloc::Global;
-use std::collections::BTreeMap;
 use std::marker::Model;
 
 /// The statements of a configuration: a map from paths to values.
 #[derive(Debug, Drop)]
 pub struct Tree {
-    statements: BTreeMap<Path, Value>,
+    statements: Entries,
 }
 
 impl Model for Tree {
@@ -34,7 +34,7 @@ impl Tree {
         ensures { result ≡ map.empty }
     {
         Tree {
-            statements: BTreeMap::new(alloc),
+            statements: Entries::new(alloc),
         }
     }
 
@@ -56,7 +56,8 @@ impl Tree {
     pub fn same(&self, other: &Tree) -> bool
         ensures { IsTrue result ↔ (self.now ≡ other.now) }
     {
-        self.statements == other.statements
+        let alike = self.statements.len() == other.statements.len();
+        alike && self.statements == other.statements
     }
 
     /// A copy of the tree.
