@@ -7,8 +7,8 @@ use Rattle.std.specs.Cmp.Lexicographic.{slice_cmp}
 use Rattle.std.specs.declared.cmp.Ordering.{Ordering}
 use Rattle.std.specs.declared.cmp.Ordering.TheVariants.{Less, Equal, Greater}
 use Rattle.std.specs.Ordering.{eq_by_cmp, is_eq, is_le, ordering_then, ordering_reverse}
-use Rattle.cfg_schema.proofs.TestLemmas.{both, both_true}
-use Rattle.cfg_tree.proofs.MapLemmas.{is_equal, step_same}
+use Rattle.cfg_schema.proofs.TestLemmas.{both, both_true, second_false}
+use Rattle.cfg_tree.proofs.MapLemmas.{is_equal, step_same, same_step}
 use Rattle.std.specs.List.{AllByRecursion}
 use Rattle.std.specs.List.Sorted.{IsStrictlySortedBy}
 use Rattle.std.specs.Map.{keys_of}
@@ -134,3 +134,40 @@ found_other p k v so_far all left rest next f e =
     ∙ ap (λ (c : Bool). so_far ++ cond c (k ∷ front_of (is_below p) (keys_of rest)) []) f
     ∙ ap (λ (xs : List (List Step × Value)). so_far ++ front_of (is_below p) (keys_of xs)) (sym next)
     ∙ e
+
+-- a child of what is below a path is below it
+pub below_more : (p q : List Step) (s : Step) → is_below p q ≡ true → is_below p (q ++ s ∷ []) ≡ true
+below_more [] q s h = refl
+below_more (x ∷ p) [] s h = cc
+below_more (x ∷ p) (y ∷ q) s h =
+    let parts = both (eq_by_cmp step_cmp x y) _ h in both_true _ _ parts.0 (below_more p q s parts.1)
+
+below_top : (p : List Step) → is_below p [] ≡ true → p ≡ []
+below_top [] h = refl
+below_top (x ∷ p) h = cc
+
+-- what is below a path, and its parent isn't, is the path
+pub below_first : (p q : List Step) (s : Step) → is_below p (q ++ s ∷ []) ≡ true → is_below p q ≡ false → p ≡ q ++ s ∷ []
+below_first [] q s h k = cc
+below_first (x ∷ p) [] s h k =
+    let parts = both (eq_by_cmp step_cmp x s) _ h
+    in let none = below_top p parts.1
+    in ap (λ (t : Step). t ∷ p) ((same_step x s).0 parts.0) ∙ ap (λ (ts : List Step). s ∷ ts) none
+below_first (x ∷ p) (y ∷ q) s h k =
+    let parts = both (eq_by_cmp step_cmp x y) _ h
+    in let rest = below_first p q s parts.1 (second_false _ _ k parts.0)
+    in ap (λ (t : Step). t ∷ p) ((same_step x y).0 parts.0) ∙ ap (λ (ts : List Step). y ∷ ts) rest
+
+-- a path is at itself
+pub below_self : (p : List Step) → is_below p p ≡ true
+below_self [] = refl
+below_self (x ∷ p) = both_true _ _ ((same_step x x).1 refl) (below_self p)
+
+-- its parent isn't below it
+pub parent_apart : (q : List Step) (s : Step) → is_below (q ++ s ∷ []) q ≡ false
+parent_apart [] s = refl
+parent_apart (y ∷ q) s = and_false _ _ (parent_apart q s)
+  where
+    and_false : (a b : Bool) → b ≡ false → (a && b) ≡ false
+    and_false true b h = h
+    and_false false b h = refl

@@ -5,3 +5,4 @@ pub mod Tree
 pub mod Change
 pub mod Children
 pub mod Resolve
+pub mod Renaming

@@ -4,6 +4,7 @@
 mod fault;
 mod front;
 mod limit;
+mod reorder;
 mod steps;
 mod store;
 mod target;
