@@ -108,7 +108,7 @@ keys_cond : (c : Bool) (e : List Step × Value) (es : List (List Step × Value))
 keys_cond true e es ks h = ap (λ (xs : List (List Step)). e.0 ∷ xs) h
 keys_cond false e es ks h = h
 
-keys_filter : (t : List Step → Bool) (es : List (List Step × Value)) → keys_of (filter (λ e. t e.0) es) ≡ filter t (keys_of es)
+pub keys_filter : (t : List Step → Bool) (es : List (List Step × Value)) → keys_of (filter (λ e. t e.0) es) ≡ filter t (keys_of es)
 keys_filter t [] = refl
 keys_filter t (e ∷ es) = keys_cond (t e.0) e (filter (λ x. t x.0) es) _ (keys_filter t es)
 

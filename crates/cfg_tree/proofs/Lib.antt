@@ -6,3 +6,5 @@ pub mod PathLemmas
 pub mod PutLemmas
 pub mod OrderLemmas
 pub mod RemoveLemmas
+pub mod StepLemmas
+pub mod ClearLemmas

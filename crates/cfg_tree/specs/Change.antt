@@ -1,5 +1,5 @@
 -- What a put and a removal make of the statements, and when a put is refused.
-use Rattle.std.specs.Prelude.{◌≡◌, ℕ, ◌≤◌, ◌<◌, ◌+◌, Bool, true, false, not, ◌&&◌, List, [], ◌∷◌, ◌++◌, Option, Some, None, IsSome, IsNone, is_some, is_none, filter, Result, Ok, Err, if◌then◌else◌}
+use Rattle.std.specs.Prelude.{◌≡◌, ℕ, ◌≤◌, ◌<◌, ◌+◌, Bool, true, false, not, ◌&&◌, List, [], ◌∷◌, ◌++◌, length, Option, Some, None, IsSome, IsNone, is_some, is_none, filter, Result, Ok, Err, if◌then◌else◌}
 use Rattle.std.specs.FinMap as map
 use Rattle.cfg_base.specs.declared.path.Step.{Step}
 use Rattle.cfg_base.specs.declared.value.Value.{Value}
@@ -71,6 +71,21 @@ pub record IsReady (m : Statements) (path : List Step) (value : Value) : Type 0 
 pub record Fits (path : List Step) (value : Value) : Type 0 where
   pub typed : IsTypedPath path
   pub words : (here : Place) → place_of path ≡ Some here → AreWordsOf here.row value.words
+
+-- all of it but the kinds: the parent follows rows, and the words are counted, and a bare name is no head
+pub record IsAlmostFit (path : List Step) (value : Value) : Type 0 where
+  pub steps : 0 < length path
+  pub parent : IsTypedPath (parent_of path)
+  pub words : (here : Place) → place_of path ≡ Some here → AreCounted (row_of here.row).shape value.words
+  pub bare : (here : Place) → place_of (parent_of path) ≡ Some here → (last_of path).head ≡ []
+    → IsNoHead here.row here.in_group (last_of path).name
+
+-- which of it fails
+abbrev pub IsFitFault : List Step → Value → TreeFault → Type 0
+IsFitFault path value (Unknown refused) = (refused ≡ path) × (place_of path ≡ None)
+IsFitFault path value (BadValue refused) = (refused ≡ path) × IsSome (place_of path) × ¬ (Fits path value)
+IsFitFault path value TooMany = ⊥
+IsFitFault path value NoMemory = Unit {0}
 
 -- why a value isn't put: the path follows no row; it does, and a name or a word isn't of its kind; all is
 -- of its kind, and one statement more would be too many

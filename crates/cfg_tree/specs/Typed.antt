@@ -7,6 +7,7 @@ use Rattle.cfg_base.specs.declared.kind.Kind.TheVariants.{OneOf}
 use Rattle.cfg_base.specs.declared.kind.Shape.{Shape}
 use Rattle.cfg_base.specs.declared.kind.Shape.TheVariants.{Container, Fixed, Keyed, Bare, Leaf, Flag, Many}
 use Rattle.cfg_schema.specs.declared.place.Place.{Place}
+use Rattle.cfg_schema.specs.declared.rows.Row.{Row}
 use Rattle.cfg_schema.specs.Profile.{row_of, same_word}
 use Rattle.cfg_schema.specs.Child.{IsNoHead}
 use Rattle.cfg_schema.specs.Place.{top_place, place_after, place_of}
@@ -29,6 +30,15 @@ IsNameOf in_group kind bytes word = IsCanonicalOf kind bytes word ⊎ (IsWildcar
 -- a name as it is kept
 abbrev pub IsName : Bool → Kind → List ℕ → Type 0
 IsName in_group kind word = IsNameOf in_group kind word word
+
+-- a name of the row, where its statements have names
+abbrev pub IsNameBy : Bool → Shape → Kind → List ℕ → Type 0
+IsNameBy in_group Keyed kind name = IsName in_group kind name
+IsNameBy in_group Bare kind name = IsName in_group kind name
+IsNameBy in_group _ kind name = Unit {0}
+
+abbrev pub HasName : Bool → Row → List ℕ → Type 0
+HasName in_group row name = IsNameBy in_group row.shape row.name_kind name
 
 -- what the name of a step is below a place, where the step follows that row; a bare name is no head
 abbrev pub IsNamed : Place → ℕ → Shape → List ℕ → Type 0

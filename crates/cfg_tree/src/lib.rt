@@ -1,6 +1,7 @@
 //! The statements of a configuration.
 #![tactic(auto)]
 
+mod change;
 mod fault;
 mod front;
 mod limit;
@@ -9,6 +10,7 @@ mod steps;
 mod store;
 mod target;
 mod tree;
+mod typed;
 
 pub use fault::TreeFault;
 pub use limit::MAX_STATEMENTS;

@@ -53,7 +53,8 @@ pub fn set_order(entries: &mut Entries, path: &Path, order: Words)
 
 /// The paths at and below a path, in their order.
 pub fn keys_below(alloc: Global, entries: &Entries, path: &Path) -> Result<Vec<Path>, AllocError>
-    ensures { IfOk result (λ keys. keys.items ≡ filter (is_below path.now) (tree.keys entries.now)) }
+    ensures ok { IfOk result (λ keys. keys.items ≡ filter (is_below path.now) (tree.keys entries.now)) }
+    ensures ordered { tree.IsOrdered path_cmp entries.now }
 {
     let mut keys = Vec::new(alloc);
     for (key, _) in entries.range(path..) {

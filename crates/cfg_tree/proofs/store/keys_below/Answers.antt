@@ -3,8 +3,8 @@ use Rattle.cfg_tree.proofs.BelowLemmas.{found_below, found_end, found_other}
 use Rattle.cfg_tree.proofs.store.keys_below.Goals as goal
 use Rattle.cfg_tree.proofs.store.keys_below.Goals.{Joined-next, in-None, in-Some+then-not-is_below}
 
-pub returns : goal.returns
-returns c =
+pub returns-clause-ok : goal.returns-clause-ok
+returns-clause-ok c =
     let all = found_below c.args.path.now c.args.entries.now.entries _ c.range-key-items.ensures.ordered
     (c.into_iter-key-iterator.ensures.into_iter_gives ∙ c.range-key-items.ensures.between tt)
     in elim c.match-next.branch [
