@@ -72,8 +72,8 @@ impl Place {
         }
     }
 
-    fn entered(self, row: RowId) -> Place
-        ensures { result ≡ entered self row }
+    fn entered(&self, row: RowId) -> Place
+        ensures { result ≡ entered self.now row }
     {
         Place {
             row,
@@ -81,9 +81,9 @@ impl Place {
         }
     }
 
-    fn after_at(self, lines: &[Line], level: &Level, step: &Step) -> Option<Place>
+    fn after_at(&self, lines: &[Line], level: &Level, step: &Step) -> Option<Place>
         requires { length lines.now ≡ ROWS }
-        ensures { result ≡ entered_by self (position (fits level.now step.now) lines.now) }
+        ensures { result ≡ entered_by self.now (position (fits level.now step.now) lines.now) }
     {
         match fitting(lines, level, step) {
             Some(place) => Some(self.entered(RowId::at(place))),
@@ -92,8 +92,8 @@ impl Place {
     }
 
     /// The place that a step leads to from here, where it follows a row.
-    pub fn after(self, step: &Step) -> Option<Place>
-        ensures { result ≡ place_after self step.now }
+    pub fn after(&self, step: &Step) -> Option<Place>
+        ensures { result ≡ place_after self.now step.now }
     {
         let lines = lines();
         let level = level_in(lines, self.row.number(), self.in_group);
@@ -101,8 +101,8 @@ impl Place {
     }
 
     /// The row below here whose names keep the user's order, where there is one.
-    pub fn ordered_row(self) -> Option<RowId>
-        ensures { result ≡ ordered_row self }
+    pub fn ordered_row(&self) -> Option<RowId>
+        ensures { result ≡ ordered_row self.now }
     {
         let lines = lines();
         let level = level_in(lines, self.row.number(), self.in_group);

@@ -8,3 +8,4 @@ pub mod OrderLemmas
 pub mod RemoveLemmas
 pub mod StepLemmas
 pub mod ClearLemmas
+pub mod TypedLemmas

@@ -37,9 +37,6 @@ IsNameBy in_group Keyed kind name = IsName in_group kind name
 IsNameBy in_group Bare kind name = IsName in_group kind name
 IsNameBy in_group _ kind name = Unit {0}
 
-abbrev pub HasName : Bool → Row → List ℕ → Type 0
-HasName in_group row name = IsNameBy in_group row.shape row.name_kind name
-
 -- what the name of a step is below a place, where the step follows that row; a bare name is no head
 abbrev pub IsNamed : Place → ℕ → Shape → List ℕ → Type 0
 IsNamed here id Keyed name = IsName here.in_group (row_of id).name_kind name
@@ -72,3 +69,7 @@ AreCanonical kind words = All (IsCanonical kind) words
 -- the words that a statement of a row has
 abbrev pub AreWordsOf : ℕ → List (List ℕ) → Type 0
 AreWordsOf id words = AreCounted (row_of id).shape words × AreCanonical (row_of id).value_kind words
+
+-- the name and the words are of the row's kinds
+abbrev pub IsRight : Row → Bool → List ℕ → List (List ℕ) → Type 0
+IsRight row in_group name words = IsNameBy in_group row.shape row.name_kind name × AreCanonical row.value_kind words
