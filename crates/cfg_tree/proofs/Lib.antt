@@ -9,3 +9,4 @@ pub mod RemoveLemmas
 pub mod StepLemmas
 pub mod ClearLemmas
 pub mod TypedLemmas
+pub mod RoomLemmas

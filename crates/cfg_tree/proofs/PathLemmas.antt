@@ -86,7 +86,7 @@ renamed change v = record v { order = change v.order }
 
 -- what a map answers after a change of an order
 pub order_at : (m : Statements) (a : List Step) (f : List (List ℕ) → List (List ℕ))
-  → map.get (with_order m a f) a ≡ option_map (renamed f) (map.get m a)
+    → map.get (with_order m a f) a ≡ option_map (renamed f) (map.get m a)
 order_at m a f = by_value _ refl
   where
     by_value : (o : Option Value) → map.get m a ≡ o → map.get (with_order_of m a f o) a ≡ option_map (renamed f) o
@@ -94,7 +94,7 @@ order_at m a f = by_value _ refl
     by_value (Some v) e = get_here m a (renamed f v)
 
 pub order_other : (m : Statements) (a q : List Step) (f : List (List ℕ) → List (List ℕ)) → q ≢ a
-  → map.get (with_order m a f) q ≡ map.get m q
+    → map.get (with_order m a f) q ≡ map.get m q
 order_other m a q f h = by_value (map.get m a)
   where
     by_value : (o : Option Value) → map.get (with_order_of m a f o) q ≡ map.get m q

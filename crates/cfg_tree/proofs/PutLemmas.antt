@@ -22,8 +22,8 @@ use Rattle.cfg_tree.proofs.PathLemmas.{split, same_ends, child_longer, child_dif
 
 -- an order is the same where the children are
 pub order_same : (m n : Statements) (q : List Step) (head : Option (List ℕ)) (names : List (List ℕ))
-  → ((name : List ℕ) (h : List ℕ) → head ≡ Some h → is_some (map.get n (q ++ step_of h name ∷ [])) ≡ is_some (map.get m (q ++ step_of h name ∷ [])))
-  → IsOrderBy m q head names → IsOrderBy n q head names
+    → ((name : List ℕ) (h : List ℕ) → head ≡ Some h → is_some (map.get n (q ++ step_of h name ∷ [])) ≡ is_some (map.get m (q ++ step_of h name ∷ [])))
+    → IsOrderBy m q head names → IsOrderBy n q head names
 order_same m n q None names same_children e = e
 order_same m n q (Some h) names same_children order = record {
   once = order.once;
@@ -53,8 +53,8 @@ pub record Puts (m n : Statements) (path : List Step) (value : Value) (adds : Bo
   pub size : size_of n ≤ MAX_STATEMENTS
 
 module _ (m n : Statements) (path : List Step) (value : Value) (adds : Bool)
-  (tree : IsTree m) (ready : IsReady m path value) (fits : Fits path value) (put : Puts m n path value adds)
-  (adds_is : adds ≡ (is_none (map.get m path) && is_ordered path)) where
+    (tree : IsTree m) (ready : IsReady m path value) (fits : Fits path value) (put : Puts m n path value adds)
+    (adds_is : adds ≡ (is_none (map.get m path) && is_ordered path)) where
   path_is : path ≡ parent_of path ++ last_of path ∷ []
   path_is = split path ready.parent.steps
 
@@ -67,7 +67,7 @@ module _ (m n : Statements) (path : List Step) (value : Value) (adds : Bool)
   there q differs =
       same_or_not q (parent_of path) (is_some (map.get n q) ≡ is_some (map.get m q))
       (λ e. subst (λ (x : List Step). is_some (map.get n x) ≡ is_some (map.get m x)) (sym e)
-        (ap is_some put.parent ∙ mapped _ (map.get m (parent_of path))))
+      (ap is_some put.parent ∙ mapped _ (map.get m (parent_of path))))
       (λ h. ap is_some (put.others q differs h))
 
   here_there : is_some (map.get n path) ≡ true
@@ -88,9 +88,9 @@ module _ (m n : Statements) (path : List Step) (value : Value) (adds : Bool)
   parents q h =
       same_or_not q path (HasParent n q)
       (λ e. subst (λ (x : List Step). HasParent n x) (sym e)
-        record { steps = ready.parent.steps; parent = λ long. stays _ (ready.parent.parent long) })
+      record { steps = ready.parent.steps; parent = λ long. stays _ (ready.parent.parent long) })
       (λ differs. let old = tree.statements.parents q (was q differs h)
-        in record { steps = old.steps; parent = λ long. stays _ (old.parent long) })
+      in record { steps = old.steps; parent = λ long. stays _ (old.parent long) })
 
   top_differs : [] ≢ path
   top_differs e = let k = ap (λ (xs : List Step). length xs) e in let some = ready.parent.steps in omega (arith, k, some)
@@ -123,13 +123,13 @@ module _ (m n : Statements) (path : List Step) (value : Value) (adds : Bool)
   was_there (Some v) b c e f g = refl
 
   kept_child : adds ≡ false → (name h : List ℕ) → ordered_head (place_of (parent_of path)) ≡ Some h
-    → is_some (map.get n (parent_of path ++ step_of h name ∷ [])) ≡ is_some (map.get m (parent_of path ++ step_of h name ∷ []))
+      → is_some (map.get n (parent_of path ++ step_of h name ∷ [])) ≡ is_some (map.get m (parent_of path ++ step_of h name ∷ []))
   kept_child no_more name h e =
       same_or_not (parent_of path ++ step_of h name ∷ []) path _
       (λ is_path.
-        let ends = (same_ends (parent_of path) (parent_of path) (step_of h name) (last_of path) (is_path ∙ path_is)).1
-        in let before = was_there (map.get m path) (is_ordered path) adds no_more adds_is (is_ordered_by h e (ap (λ (t : Step). t.head) ends))
-        in subst (λ (x : List Step). is_some (map.get n x) ≡ is_some (map.get m x)) (sym is_path) (here_there ∙ sym before))
+      let ends = (same_ends (parent_of path) (parent_of path) (step_of h name) (last_of path) (is_path ∙ path_is)).1
+      in let before = was_there (map.get m path) (is_ordered path) adds no_more adds_is (is_ordered_by h e (ap (λ (t : Step). t.head) ends))
+      in subst (λ (x : List Step). is_some (map.get n x) ≡ is_some (map.get m x)) (sym is_path) (here_there ∙ sym before))
       (λ differs. there _ differs)
 
   -- the names of the parent's ordered children, where the path is no new one of them
@@ -154,28 +154,28 @@ module _ (m n : Statements) (path : List Step) (value : Value) (adds : Bool)
   not_same xs ys false e h = refl
 
   more_by : (w : Value) (oh : Option (List ℕ)) → ordered_head (place_of (parent_of path)) ≡ oh → is_none (map.get m path) ≡ true
-    → has_head oh (last_of path) ≡ true → IsOrderBy m (parent_of path) oh w.order
-    → IsOrderBy n (parent_of path) oh (put_last (last_of path).name w.order)
+      → has_head oh (last_of path) ≡ true → IsOrderBy m (parent_of path) oh w.order
+      → IsOrderBy n (parent_of path) oh (put_last (last_of path).name w.order)
   more_by w None e new headed order = cc
   more_by w (Some h) e new headed order =
       let heads = same _ _ headed
       in let path_by : path ≡ parent_of path ++ step_of h (last_of path).name ∷ [] =
-           path_is ∙ ap (λ (x : List ℕ). parent_of path ++ step_of x (last_of path).name ∷ []) (sym heads)
+      path_is ∙ ap (λ (x : List ℕ). parent_of path ++ step_of x (last_of path).name ∷ []) (sym heads)
       in let unlisted_yet = order.each (last_of path).name ∙ ap (λ (x : List Step). is_some (map.get m x)) (sym path_by) ∙ absent _ new
       in record {
         once = IsDistinct-push words_equiv w.order (last_of path).name order.once unlisted_yet;
         each = λ name.
-          lists-push w.order (last_of path).name name
-          ∙ same_or_not (parent_of path ++ step_of h name ∷ []) path
+            lists-push w.order (last_of path).name name
+            ∙ same_or_not (parent_of path ++ step_of h name ∷ []) path
             ((lists w.order name || same_word name (last_of path).name) ≡ is_some (map.get n (parent_of path ++ step_of h name ∷ [])))
             (λ is_path.
-              let ends = (same_ends (parent_of path) (parent_of path) (step_of h name) (last_of path) (is_path ∙ path_is)).1
-              in or_true _ _ (same_is _ _ (ap (λ (t : Step). t.name) ends))
-                ∙ sym here_there ∙ ap (λ (x : List Step). is_some (map.get n x)) (sym is_path))
+            let ends = (same_ends (parent_of path) (parent_of path) (step_of h name) (last_of path) (is_path ∙ path_is)).1
+            in or_true _ _ (same_is _ _ (ap (λ (t : Step). t.name) ends))
+            ∙ sym here_there ∙ ap (λ (x : List Step). is_some (map.get n x)) (sym is_path))
             (λ differs.
-              let other : name ≢ (last_of path).name = λ same_name.
-                   differs (ap (λ (x : List ℕ). parent_of path ++ step_of h x ∷ []) same_name ∙ sym path_by)
-              in or_false _ _ (not_same name (last_of path).name _ refl other) ∙ order.each name ∙ sym (there _ differs));
+            let other : name ≢ (last_of path).name = λ same_name.
+            differs (ap (λ (x : List ℕ). parent_of path ++ step_of h x ∷ []) same_name ∙ sym path_by)
+            in or_false _ _ (not_same name (last_of path).name _ refl other) ∙ order.each name ∙ sym (there _ differs));
       }
 
   -- and where it is
@@ -188,7 +188,7 @@ module _ (m n : Statements) (path : List Step) (value : Value) (adds : Bool)
   same_some v w e = cc
 
   parent_by : (v : Value) (o : Option Value) (b : Bool) → map.get m (parent_of path) ≡ o → adds ≡ b
-    → option_map (renamed (if b then put_last (last_of path).name else (λ names. names))) o ≡ Some v → IsOrderOf n (parent_of path) v.order
+      → option_map (renamed (if b then put_last (last_of path).name else (λ names. names))) o ≡ Some v → IsOrderOf n (parent_of path) v.order
   parent_by v None b e f g = cc
   parent_by v (Some w) true e f g =
       subst (λ (x : Value). IsOrderOf n (parent_of path) x.order) (same_some _ _ g) (more_names w f e)
@@ -202,14 +202,14 @@ module _ (m n : Statements) (path : List Step) (value : Value) (adds : Bool)
   orders q v e =
       same_or_not q path (IsOrderOf n q v.order)
       (λ is_path.
-        let is_value = same_some value v (sym put.here ∙ ap (λ (x : List Step). map.get n x) (sym is_path) ∙ e)
-        in subst (λ (x : List Step). IsOrderOf n x v.order) (sym is_path)
-          (subst (λ (x : Value). IsOrderOf n path x.order) is_value order_here))
+      let is_value = same_some value v (sym put.here ∙ ap (λ (x : List Step). map.get n x) (sym is_path) ∙ e)
+      in subst (λ (x : List Step). IsOrderOf n x v.order) (sym is_path)
+      (subst (λ (x : Value). IsOrderOf n path x.order) is_value order_here))
       (λ differs. same_or_not q (parent_of path) (IsOrderOf n q v.order)
-        (λ is_parent. subst (λ (x : List Step). IsOrderOf n x v.order) (sym is_parent) (order_parent v (subst (λ (x : List Step). map.get n x ≡ Some v) is_parent e)))
-        (λ not_parent. order_same m n q (ordered_head (place_of q)) v.order
-          (λ name h _. others_children q (step_of h name) not_parent)
-          (tree.statements.orders q v (sym (put.others q differs not_parent) ∙ e))))
+      (λ is_parent. subst (λ (x : List Step). IsOrderOf n x v.order) (sym is_parent) (order_parent v (subst (λ (x : List Step). map.get n x ≡ Some v) is_parent e)))
+      (λ not_parent. order_same m n q (ordered_head (place_of q)) v.order
+      (λ name h _. others_children q (step_of h name) not_parent)
+      (tree.statements.orders q v (sym (put.others q differs not_parent) ∙ e))))
 
   paths : (q : List Step) → IsSome (map.get n q) → IsTypedPath q
   paths q h =
@@ -218,8 +218,8 @@ module _ (m n : Statements) (path : List Step) (value : Value) (adds : Bool)
       (λ differs. tree.typed.paths q (was q differs h))
 
   words_by : (v : Value) (o : Option Value) (here : Place) → map.get m (parent_of path) ≡ o
-    → option_map (renamed (if adds then put_last (last_of path).name else (λ names. names))) o ≡ Some v
-    → place_of (parent_of path) ≡ Some here → AreWordsOf here.row v.words
+      → option_map (renamed (if adds then put_last (last_of path).name else (λ names. names))) o ≡ Some v
+      → place_of (parent_of path) ≡ Some here → AreWordsOf here.row v.words
   words_by v None here e g placed = cc
   words_by v (Some w) here e g placed =
       subst (λ (x : Value). AreWordsOf here.row x.words) (same_some _ _ g) (tree.typed.words (parent_of path) w here e placed)
@@ -228,14 +228,14 @@ module _ (m n : Statements) (path : List Step) (value : Value) (adds : Bool)
   words q v here e placed =
       same_or_not q path (AreWordsOf here.row v.words)
       (λ is_path.
-        let is_value = same_some value v (sym put.here ∙ ap (λ (x : List Step). map.get n x) (sym is_path) ∙ e)
-        in subst (λ (x : Value). AreWordsOf here.row x.words) is_value
-          (fits.words here (ap (λ (x : List Step). place_of x) (sym is_path) ∙ placed)))
+      let is_value = same_some value v (sym put.here ∙ ap (λ (x : List Step). map.get n x) (sym is_path) ∙ e)
+      in subst (λ (x : Value). AreWordsOf here.row x.words) is_value
+      (fits.words here (ap (λ (x : List Step). place_of x) (sym is_path) ∙ placed)))
       (λ differs. same_or_not q (parent_of path) (AreWordsOf here.row v.words)
-        (λ is_parent. words_by v _ here refl
-          (sym put.parent ∙ ap (λ (x : List Step). map.get n x) (sym is_parent) ∙ e)
-          (ap (λ (x : List Step). place_of x) (sym is_parent) ∙ placed))
-        (λ not_parent. tree.typed.words q v here (sym (put.others q differs not_parent) ∙ e) placed))
+      (λ is_parent. words_by v _ here refl
+      (sym put.parent ∙ ap (λ (x : List Step). map.get n x) (sym is_parent) ∙ e)
+      (ap (λ (x : List Step). place_of x) (sym is_parent) ∙ placed))
+      (λ not_parent. tree.typed.words q v here (sym (put.others q differs not_parent) ∙ e) placed))
 
   pub put_keeps : IsTree n
   put_keeps = record {

@@ -26,7 +26,7 @@ pub record Removes (m n : Statements) (path : List Step) : Type 0 where
   pub below : (q : List Step) → is_below path q ≡ true → map.get n q ≡ None
   pub others : (q : List Step) → is_below path q ≡ false → (is_ordered path ≡ true → q ≢ parent_of path) → map.get n q ≡ map.get m q
   pub parent : is_below path (parent_of path) ≡ false → is_ordered path ≡ true
-    → map.get n (parent_of path) ≡ option_map (renamed (without (last_of path).name)) (map.get m (parent_of path))
+      → map.get n (parent_of path) ≡ option_map (renamed (without (last_of path).name)) (map.get m (parent_of path))
   pub size : size_of n ≤ MAX_STATEMENTS
 
 lists-without : (name : List ℕ) (names : List (List ℕ)) (other : List ℕ) → lists (without name names) other ≡ (lists names other && not (same_word name other))
@@ -34,8 +34,8 @@ lists-without name [] other = refl
 lists-without name (x ∷ names) other = by_tests _ _ refl refl (lists-without name names other)
   where
     by_tests : (a b : Bool) → same_word name x ≡ a → same_word other x ≡ b
-      → lists (without name names) other ≡ (lists names other && not (same_word name other))
-      → lists (cond (not a) (x ∷ without name names) (without name names)) other ≡ ((b || lists names other) && not (same_word name other))
+        → lists (without name names) other ≡ (lists names other && not (same_word name other))
+        → lists (cond (not a) (x ∷ without name names) (without name names)) other ≡ ((b || lists names other) && not (same_word name other))
     by_tests true true e f go =
         let equal = same_is name other (same _ _ e ∙ sym (same _ _ f))
         in go ∙ ap (λ (c : Bool). lists names other && not c) equal ∙ never (lists names other) ∙ sym (ap (λ (c : Bool). not c) equal)
@@ -57,7 +57,7 @@ all-without y name [] h = h
 all-without y name (x ∷ names) h = by_test (not (same_word name x)) (all-without y name names h.1)
   where
     by_test : (c : Bool) → AllByRecursion (λ z. same_word y z ≡ false) (without name names)
-      → AllByRecursion (λ z. same_word y z ≡ false) (cond c (x ∷ without name names) (without name names))
+        → AllByRecursion (λ z. same_word y z ≡ false) (cond c (x ∷ without name names) (without name names))
     by_test true go = (h.0, go)
     by_test false go = go
 
@@ -134,25 +134,28 @@ module _ (m n : Statements) (path : List Step) (tree : IsTree m) (gone : Removes
   has_steps q s e = let k = ap (λ (xs : List Step). length xs) e in omega (arith, k, child_longer q s)
 
   ordered_by : (q : List Step) (h name : List ℕ) → ordered_head (place_of q) ≡ Some h → path ≡ q ++ step_of h name ∷ []
-    → (is_ordered path ≡ true) × (parent_of path ≡ q) × (last_of path ≡ step_of h name)
+      → (is_ordered path ≡ true) × (parent_of path ≡ q) × (last_of path ≡ step_of h name)
   ordered_by q h name e is_path =
       let ends = same_ends (parent_of path) q (last_of path) (step_of h name) (sym (split path (has_steps q _ is_path)) ∙ is_path)
-      in ( ap (λ (x : List Step). has_head (ordered_head (place_of x)) (last_of path)) ends.0
-           ∙ ap (λ (o : Option (List ℕ)). has_head o (last_of path)) e
-           ∙ same_is h (last_of path).head (sym (ap (λ (t : Step). t.head) ends.1))
-         , ends.0, ends.1 )
+      in (
+        ap (λ (x : List Step). has_head (ordered_head (place_of x)) (last_of path)) ends.0
+            ∙ ap (λ (o : Option (List ℕ)). has_head o (last_of path)) e
+            ∙ same_is h (last_of path).head (sym (ap (λ (t : Step). t.head) ends.1)),
+        ends.0,
+        ends.1,
+      )
 
   clash_here : is_ordered path ≡ true → is_ordered path ≡ false → ⊥
   clash_here t u = cc
 
   -- the children of another path than the parent are there where they were
   others_children : (q : List Step) → is_below path q ≡ false → (is_ordered path ≡ true → q ≢ parent_of path)
-    → (name h : List ℕ) → ordered_head (place_of q) ≡ Some h
-    → is_some (map.get n (q ++ step_of h name ∷ [])) ≡ is_some (map.get m (q ++ step_of h name ∷ []))
+      → (name h : List ℕ) → ordered_head (place_of q) ≡ Some h
+      → is_some (map.get n (q ++ step_of h name ∷ [])) ≡ is_some (map.get m (q ++ step_of h name ∷ []))
   others_children q apart differs name h e = by_test _ refl
     where
       by_test : (b : Bool) → is_below path (q ++ step_of h name ∷ []) ≡ b
-        → is_some (map.get n (q ++ step_of h name ∷ [])) ≡ is_some (map.get m (q ++ step_of h name ∷ []))
+          → is_some (map.get n (q ++ step_of h name ∷ [])) ≡ is_some (map.get m (q ++ step_of h name ∷ []))
       by_test true f =
           let ordered = ordered_by q h name e (below_first path q (step_of h name) f apart)
           in absurd (differs ordered.0 (sym ordered.1))
@@ -175,38 +178,38 @@ module _ (m n : Statements) (path : List Step) (tree : IsTree m) (gone : Removes
 
   -- the parent's order without the name is that of the children that are left
   order_by : (w : Value) (oh : Option (List ℕ)) → 0 < length path → is_below path (parent_of path) ≡ false
-    → ordered_head (place_of (parent_of path)) ≡ oh → has_head oh (last_of path) ≡ true
-    → IsOrderBy m (parent_of path) oh w.order → IsOrderBy n (parent_of path) oh (without (last_of path).name w.order)
+      → ordered_head (place_of (parent_of path)) ≡ oh → has_head oh (last_of path) ≡ true
+      → IsOrderBy m (parent_of path) oh w.order → IsOrderBy n (parent_of path) oh (without (last_of path).name w.order)
   order_by w None long apart e headed order = cc
   order_by w (Some h) long apart e headed order =
       let heads = same _ _ headed
       in let path_by : path ≡ parent_of path ++ step_of h (last_of path).name ∷ [] =
-           split path long ∙ ap (λ (x : List ℕ). parent_of path ++ step_of x (last_of path).name ∷ []) (sym heads)
+      split path long ∙ ap (λ (x : List ℕ). parent_of path ++ step_of x (last_of path).name ∷ []) (sym heads)
       in record {
         once = distinct-without (last_of path).name w.order order.once;
         each = λ name.
-          lists-without (last_of path).name w.order name
-          ∙ same_or_not (parent_of path ++ step_of h name ∷ []) path
+            lists-without (last_of path).name w.order name
+            ∙ same_or_not (parent_of path ++ step_of h name ∷ []) path
             ((lists w.order name && not (same_word (last_of path).name name)) ≡ is_some (map.get n (parent_of path ++ step_of h name ∷ [])))
             (λ is_path.
-              let ends = same_ends (parent_of path) (parent_of path) (step_of h name) (last_of path) (is_path ∙ split path long)
-              in dropped (lists w.order name) _ (same_is _ _ (sym (ap (λ (t : Step). t.name) ends.1)))
-                ∙ sym (ap is_some (gone.below path (below_self path)))
-                ∙ ap (λ (x : List Step). is_some (map.get n x)) (sym is_path))
+            let ends = same_ends (parent_of path) (parent_of path) (step_of h name) (last_of path) (is_path ∙ split path long)
+            in dropped (lists w.order name) _ (same_is _ _ (sym (ap (λ (t : Step). t.name) ends.1)))
+            ∙ sym (ap is_some (gone.below path (below_self path)))
+            ∙ ap (λ (x : List Step). is_some (map.get n x)) (sym is_path))
             (λ differs.
-              let other : (last_of path).name ≢ name = λ same_name.
-                   differs (ap (λ (x : List ℕ). parent_of path ++ step_of h x ∷ []) (sym same_name) ∙ sym path_by)
-              in let outside = not_the_path name h differs apart _ refl
-              in kept (lists w.order name) _ (not_same (last_of path).name name _ refl other) ∙ order.each name ∙ sym (there _ outside));
+            let other : (last_of path).name ≢ name = λ same_name.
+            differs (ap (λ (x : List ℕ). parent_of path ++ step_of h x ∷ []) (sym same_name) ∙ sym path_by)
+            in let outside = not_the_path name h differs apart _ refl
+            in kept (lists w.order name) _ (not_same (last_of path).name name _ refl other) ∙ order.each name ∙ sym (there _ outside));
       }
     where
       not_the_path : (name h : List ℕ) → parent_of path ++ step_of h name ∷ [] ≢ path → is_below path (parent_of path) ≡ false
-        → (b : Bool) → is_below path (parent_of path ++ step_of h name ∷ []) ≡ b → is_below path (parent_of path ++ step_of h name ∷ []) ≡ false
+          → (b : Bool) → is_below path (parent_of path ++ step_of h name ∷ []) ≡ b → is_below path (parent_of path ++ step_of h name ∷ []) ≡ false
       not_the_path name h differs apart true f = absurd (differs (sym (below_first path (parent_of path) (step_of h name) f apart)))
       not_the_path name h differs apart false f = f
 
   parent_order : (v : Value) (o : Option Value) → 0 < length path → is_ordered path ≡ true → is_below path (parent_of path) ≡ false
-    → map.get m (parent_of path) ≡ o → option_map (renamed (without (last_of path).name)) o ≡ Some v → IsOrderOf n (parent_of path) v.order
+      → map.get m (parent_of path) ≡ o → option_map (renamed (without (last_of path).name)) o ≡ Some v → IsOrderOf n (parent_of path) v.order
   parent_order v None long ordered apart e f = cc
   parent_order v (Some w) long ordered apart e f =
       subst (λ (x : Value). IsOrderOf n (parent_of path) x.order) (same_some _ _ f)
@@ -234,15 +237,15 @@ module _ (m n : Statements) (path : List Step) (tree : IsTree m) (gone : Removes
       by_order is_parent true f =
           let apart_there = ap (λ (x : List Step). is_below path x) (sym is_parent) ∙ apart
           in subst (λ (x : List Step). IsOrderOf n x v.order) (sym is_parent)
-            (parent_order v _ (long_by path f) f apart_there refl
-              (sym (gone.parent apart_there f) ∙ ap (λ (x : List Step). map.get n x) (sym is_parent) ∙ e))
+          (parent_order v _ (long_by path f) f apart_there refl
+          (sym (gone.parent apart_there f) ∙ ap (λ (x : List Step). map.get n x) (sym is_parent) ∙ e))
       by_order is_parent false f = elsewhere (λ t. absurd (clash_here t f))
 
   paths : (q : List Step) → IsSome (map.get n q) → IsTypedPath q
   paths q h = tree.typed.paths q (was q h)
 
   parent_words : (v : Value) (o : Option Value) (here : Place) → map.get m (parent_of path) ≡ o
-    → option_map (renamed (without (last_of path).name)) o ≡ Some v → place_of (parent_of path) ≡ Some here → AreWordsOf here.row v.words
+      → option_map (renamed (without (last_of path).name)) o ≡ Some v → place_of (parent_of path) ≡ Some here → AreWordsOf here.row v.words
   parent_words v None here e f placed = cc
   parent_words v (Some w) here e f placed =
       subst (λ (x : Value). AreWordsOf here.row x.words) (same_some _ _ f) (tree.typed.words (parent_of path) w here e placed)
@@ -263,8 +266,8 @@ module _ (m n : Statements) (path : List Step) (tree : IsTree m) (gone : Removes
       by_order is_parent true f =
           let apart_there = ap (λ (x : List Step). is_below path x) (sym is_parent) ∙ apart
           in parent_words v _ here refl
-            (sym (gone.parent apart_there f) ∙ ap (λ (x : List Step). map.get n x) (sym is_parent) ∙ e)
-            (ap (λ (x : List Step). place_of x) (sym is_parent) ∙ placed)
+          (sym (gone.parent apart_there f) ∙ ap (λ (x : List Step). map.get n x) (sym is_parent) ∙ e)
+          (ap (λ (x : List Step). place_of x) (sym is_parent) ∙ placed)
       by_order is_parent false f = elsewhere (λ t. absurd (clash_here t f))
 
   pub remove_keeps : IsTree n

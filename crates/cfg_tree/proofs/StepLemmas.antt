@@ -38,7 +38,7 @@ unchanged None = refl
 unchanged (Some v) = refl
 
 put_size : (m : Statements) (path : List Step) (v : Value) → size_of m ≤ MAX_STATEMENTS → (map.get m path ≡ None → size_of m < MAX_STATEMENTS)
-  → size_of (map.insert m path v) ≤ MAX_STATEMENTS
+    → size_of (map.insert m path v) ≤ MAX_STATEMENTS
 put_size m path v few room =
     subst (λ (k : ℕ). k ≤ MAX_STATEMENTS) (sym (map.len-insert paths_total m path v)) (by_value _ refl)
   where
@@ -47,13 +47,13 @@ put_size m path v few room =
     by_value (Some w) e = few
 
 put_by : (m : Statements) (path : List Step) (value : Value) → 0 < length path → IsTree m → (map.get m path ≡ None → size_of m < MAX_STATEMENTS)
-  → (b : Bool) → Puts m (if b then with_order (map.insert m path value) (parent_of path) (put_last (last_of path).name) else map.insert m path value) path value b
+    → (b : Bool) → Puts m (if b then with_order (map.insert m path value) (parent_of path) (put_last (last_of path).name) else map.insert m path value) path value b
 put_by m path value long tree room true = record {
   here = order_other _ (parent_of path) path _ (differs_from_parent path long) ∙ get_here m path value;
   others = λ q d e. order_other _ (parent_of path) q _ e ∙ get_other m path q value d;
   parent =
-    order_at _ (parent_of path) _
-    ∙ ap (option_map (renamed (put_last (last_of path).name))) (get_other m path (parent_of path) value (λ e. differs_from_parent path long (sym e)));
+      order_at _ (parent_of path) _
+      ∙ ap (option_map (renamed (put_last (last_of path).name))) (get_other m path (parent_of path) value (λ e. differs_from_parent path long (sym e)));
   size = subst (λ (k : ℕ). k ≤ MAX_STATEMENTS) (sym (size-order _ (parent_of path) _)) (put_size m path value tree.few room);
 }
 put_by m path value long tree room false = record {
@@ -65,20 +65,20 @@ put_by m path value long tree room false = record {
 
 -- what a put leaves
 pub puts : (m : Statements) (path : List Step) (value : Value) → 0 < length path → IsTree m → (map.get m path ≡ None → size_of m < MAX_STATEMENTS)
-  → Puts m (put_at m path value) path value (is_none (map.get m path) && is_ordered path)
+    → Puts m (put_at m path value) path value (is_none (map.get m path) && is_ordered path)
 puts m path value long tree room = put_by m path value long tree room (is_none (map.get m path) && is_ordered path)
 
 -- a change of the parent's order that was made of the map before is one of the map after
 reorder_some : (n : Statements) (parent : List Step) (f : List (List ℕ) → List (List ℕ)) (v : Value) (names : List (List ℕ))
-  → map.get n parent ≡ Some v → names ≡ f v.order → with_order n parent (λ _. names) ≡ with_order n parent f
+    → map.get n parent ≡ Some v → names ≡ f v.order → with_order n parent (λ _. names) ≡ with_order n parent f
 reorder_some n parent f v names e is_names =
     ap (with_order_of n parent (λ _. names)) e
     ∙ ap (λ (ns : List (List ℕ)). map.insert n parent (record v { order = ns })) is_names
     ∙ sym (ap (with_order_of n parent f) e)
 
 pub reorder_done : (m n : Statements) (path : List Step) (change : Change) (r : Option Reorder) (b : Bool)
-  → IsReorderBy b m path change r → map.get n (parent_of path) ≡ map.get m (parent_of path)
-  → reordered_by r n ≡ (if b then with_order n (parent_of path) (changed change (last_of path).name) else n)
+    → IsReorderBy b m path change r → map.get n (parent_of path) ≡ map.get m (parent_of path)
+    → reordered_by r n ≡ (if b then with_order n (parent_of path) (changed change (last_of path).name) else n)
 reorder_done m n path change r false e same_parent = ap (λ (x : Option Reorder). reordered_by x n) e
 reorder_done m n path change None true e same_parent =
     sym (ap (with_order_of n (parent_of path) (changed change (last_of path).name)) (same_parent ∙ e))
@@ -88,7 +88,7 @@ reorder_done m n path change (Some r) true e same_parent =
 
 -- a put as the code makes it
 pub stored : (m n : Statements) (path : List Step) (value : Value) (new : Bool) (r : Option Reorder) → 0 < length path
-  → new ≡ is_none (map.get m path) → IsListing new m path r → n ≡ map.insert m path value → reordered_by r n ≡ put_at m path value
+    → new ≡ is_none (map.get m path) → IsListing new m path r → n ≡ map.insert m path value → reordered_by r n ≡ put_at m path value
 stored m n path value new r long is_new listing e =
     ap (reordered_by r) e ∙ by_new new listing ∙ ap (λ (b : Bool). listed b (map.insert m path value) path) is_new
   where
@@ -119,8 +119,8 @@ below_out : (path q : List Step) → is_below path q ≡ true → is_below path 
 below_out path q e f is_parent = let d = ap (λ (x : List Step). is_below path x) (sym is_parent) ∙ e in cc
 
 remove_by : (m : Statements) (path : List Step) → (b : Bool) → is_ordered path ≡ b → (b ≡ true → 0 < length path)
-  → size_of (cleared m path) ≤ MAX_STATEMENTS
-  → Removes m (if b then with_order (cleared m path) (parent_of path) (without (last_of path).name) else cleared m path) path
+    → size_of (cleared m path) ≤ MAX_STATEMENTS
+    → Removes m (if b then with_order (cleared m path) (parent_of path) (without (last_of path).name) else cleared m path) path
 remove_by m path true e long few = record {
   below = λ q h. order_other _ (parent_of path) q _ (below_out path q h (parent_out path (long refl))) ∙ cleared_below m path q h;
   others = λ q h d. order_other _ (parent_of path) q _ (d e) ∙ cleared_other m path q h;
@@ -147,11 +147,11 @@ removes m path few = remove_by m path _ refl (long_if path) few
 
 -- a removal as the code makes it
 pub unstored : (m n : Statements) (path : List Step) (r : Option Reorder) → IsReorderBy (is_ordered path) m path Without r
-  → n ≡ cleared m path → reordered_by r n ≡ removed m path
+    → n ≡ cleared m path → reordered_by r n ≡ removed m path
 unstored m n path r l e = ap (reordered_by r) e ∙ by_order _ refl l
   where
     by_order : (b : Bool) → is_ordered path ≡ b → IsReorderBy b m path Without r
-      → reordered_by r (cleared m path) ≡ (if b then with_order (cleared m path) (parent_of path) (without (last_of path).name) else cleared m path)
+        → reordered_by r (cleared m path) ≡ (if b then with_order (cleared m path) (parent_of path) (without (last_of path).name) else cleared m path)
     by_order true f l = reorder_done m _ path Without r true l (cleared_other m path (parent_of path) (parent_out path (long_if path f)))
     by_order false f l = ap (λ (x : Option Reorder). reordered_by x (cleared m path)) l
 

@@ -78,7 +78,7 @@ pub record IsAlmostFit (path : List Step) (value : Value) : Type 0 where
   pub parent : IsTypedPath (parent_of path)
   pub words : (here : Place) → place_of path ≡ Some here → AreCounted (row_of here.row).shape value.words
   pub bare : (here : Place) → place_of (parent_of path) ≡ Some here → (last_of path).head ≡ []
-    → IsNoHead here.row here.in_group (last_of path).name
+      → IsNoHead here.row here.in_group (last_of path).name
 
 -- which of it fails
 abbrev pub IsFitFault : List Step → Value → TreeFault → Type 0
@@ -94,6 +94,12 @@ IsPutFault m path value (Unknown refused) = (refused ≡ path) × (place_of path
 IsPutFault m path value (BadValue refused) = (refused ≡ path) × IsSome (place_of path) × ¬ (Fits path value)
 IsPutFault m path value TooMany = Fits path value × (map.get m path ≡ None) × (size_of m ≡ MAX_STATEMENTS)
 IsPutFault m path value NoMemory = Unit {0}
+
+-- whether a path is new, and there is room for it where it is; or there is none
+abbrev pub HasRoom : Statements → List Step → Result Bool TreeFault → Type 0
+HasRoom m path (Ok new) = (new ≡ is_none (map.get m path)) × (map.get m path ≡ None → size_of m < MAX_STATEMENTS)
+HasRoom m path (Err TooMany) = (map.get m path ≡ None) × (MAX_STATEMENTS ≤ size_of m)
+HasRoom m path (Err _) = ⊥
 
 -- what a put gives: the value stands at the path, which adds a statement only where there is room
 pub record IsPut (m n : Statements) (path : List Step) (value : Value) : Type 0 where

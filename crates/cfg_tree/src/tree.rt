@@ -2,7 +2,10 @@ ghost use Rattle.std.specs.Prelude.{◌≡◌, ◌+◌, ◌↔◌, OnOk, OnErr, 
 ghost use Rattle.std.specs.Option.{option_copied};
 ghost use Rattle.std.specs.FinMap as map;
 ghost use Rattle.cfg_tree.specs.Statements.{Statements, size_of};
+ghost use Rattle.cfg_tree.specs.Change.{removed, IsReady, IsPut, IsPutFault};
 
+use crate::change::{put_in, remove_in};
+use crate::fault::TreeFault;
 use crate::store::Entries;
 use cfg_base::{NoMemory, Path, Value};
 use std::alloc::Global;
@@ -11,6 +14,7 @@ use std::marker::Model;
 /// The statements of a configuration: a map from paths to values.
 #[derive(Debug, Drop)]
 pub struct Tree {
+    alloc: Global,
     statements: Entries,
 }
 
@@ -34,6 +38,7 @@ impl Tree {
         ensures { result ≡ map.empty }
     {
         Tree {
+            alloc,
             statements: Entries::new(alloc),
         }
     }
@@ -65,6 +70,28 @@ impl Tree {
         ensures { IfOk result (λ tree. tree ≡ self.now) }
     {
         let statements = self.statements.clone()?;
-        Ok(Tree { statements })
+        Ok(Tree {
+            alloc: self.alloc,
+            statements,
+        })
+    }
+
+    /// Puts a value at a path whose parent is there.
+    pub fn put(&mut self, path: &Path, value: Value) -> Result<(), TreeFault>
+        requires { IsReady self.old path.now value }
+        ensures ok { OnOk result (IsPut self.old self.new path.now value) }
+        ensures err { IfErr result (λ fault. IsPutFault self.old path.now value fault) }
+        ensures unchanged { OnErr result (self.new ≡ self.old) }
+    {
+        put_in(self.alloc, &mut self.statements, path, value)
+    }
+
+    /// Takes a path and all below it away, and tells how many paths went.
+    pub fn remove(&mut self, path: &Path) -> Result<u32, NoMemory>
+        ensures ok { OnOk result (self.new ≡ removed self.old path.now) }
+        ensures count { IfOk result (λ count. count + size_of self.new ≡ size_of self.old) }
+        ensures unchanged { OnErr result (self.new ≡ self.old) }
+    {
+        remove_in(self.alloc, &mut self.statements, path)
     }
 }

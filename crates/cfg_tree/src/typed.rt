@@ -71,17 +71,21 @@ struct Last {
 }
 
 fn last_place(above: &[Step], last: &Step) -> Option<Last>
-    ensures {
-        MatchOption result (and_then (λ here. place_after here last.now) (place_of above.now) ≡ None)
-        (λ found. (place_of above.now ≡ Some found.here) × (place_after found.here last.now ≡ Some found.next))
-    }
+    ensures { MatchOption result (and_then (λ here. place_after here last.now) (place_of above.now) ≡ None)
+        (λ found. (place_of above.now ≡ Some found.here) × (place_after found.here last.now ≡ Some found.next)) }
 {
     let here = Place::of(above)?;
     let next = here.after(last)?;
     Some(Last { here, next })
 }
 
-fn is_right(alloc: Global, row: Row, in_group: bool, name: &Word, words: &[Word]) -> Result<bool, NoMemory>
+fn is_right(
+    alloc: Global,
+    row: Row,
+    in_group: bool,
+    name: &Word,
+    words: &[Word],
+) -> Result<bool, NoMemory>
     ensures { IfOk result (λ answer. Decides answer (IsRight row in_group name.now words.now)) }
 {
     if !is_name_by(alloc, in_group, row.shape, row.name_kind, name.as_bytes())? {
@@ -99,11 +103,18 @@ pub fn check(alloc: Global, path: &Path, value: &Value) -> Result<(), TreeFault>
     let steps = path.steps();
     let (above, _) = steps.split_at(steps.len() - 1);
     let last = &steps[steps.len() - 1];
-    let Some(found) = last_place(above, last) else {
-        return Err(TreeFault::Unknown(path.clone()?));
+    let found = match last_place(above, last) {
+        None => return Err(TreeFault::Unknown(path.clone()?)),
+        Some(found) => found,
     };
     let row = row(found.next.row);
-    if is_right(alloc, row, found.here.in_group, &last.name, value.words.as_slice())? {
+    if is_right(
+        alloc,
+        row,
+        found.here.in_group,
+        &last.name,
+        value.words.as_slice(),
+    )? {
         Ok(())
     } else {
         Err(TreeFault::BadValue(path.clone()?))

@@ -10,5 +10,5 @@ pub returns-clause-ok : goal.returns-clause-ok
 returns-clause-ok c =
     c.carry_out.ensures
     ∙ stored (shown c.args.entries.now) _ c.args.path.now c.args.value c.args.new c.in_ok-reorder.reorder
-      c.requires.steps c.requires.is_new c.in_ok-reorder.ensures
-      (c.in_ok-put_entry.ensures.ok ∙ ap (λ (p : List Step). map.insert (shown c.args.entries.now) p c.args.value) c.in_ok-clone.ensures.cases)
+    c.requires.steps c.requires.is_new c.in_ok-reorder.ensures
+    (c.in_ok-put_entry.ensures.ok ∙ ap (λ (p : List Step). map.insert (shown c.args.entries.now) p c.args.value) c.in_ok-clone.ensures.cases)

@@ -10,9 +10,9 @@ pub returns-clause-ok : goal.returns-clause-ok
 returns-clause-ok c =
     c.carry_out.ensures
     ∙ unstored (shown c.args.entries.now) _ c.args.path.now c.in_ok-reorder.reorder c.in_ok-reorder.ensures
-      (c.take_all.ensures
-      ∙ ap (λ (ks : List (List Step)). without_all (shown c.args.entries.now) ks) c.deref.ensures.value
-      ∙ all_taken c.args.entries.now c.args.path.now _ c.keys_below.ensures.ordered c.in_ok-keys.ensures.ok)
+    (c.take_all.ensures
+    ∙ ap (λ (ks : List (List Step)). without_all (shown c.args.entries.now) ks) c.deref.ensures.value
+    ∙ all_taken c.args.entries.now c.args.path.now _ c.keys_below.ensures.ordered c.in_ok-keys.ensures.ok)
 
 pub returns-clause-count : goal.returns-clause-count
 returns-clause-count c =
