@@ -72,7 +72,8 @@ impl Place {
         }
     }
 
-    fn entered(&self, row: RowId) -> Place
+    /// The place of a row below here.
+    pub fn entered(&self, row: RowId) -> Place
         ensures { result ≡ entered self.now row }
     {
         Place {

@@ -10,3 +10,4 @@ pub mod StepLemmas
 pub mod ClearLemmas
 pub mod TypedLemmas
 pub mod RoomLemmas
+pub mod ChildrenLemmas

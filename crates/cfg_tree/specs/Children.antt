@@ -23,15 +23,16 @@ abbrev pub order_in : Option Value → List (List ℕ)
 order_in None = []
 order_in (Some value) = value.order
 
--- the children that follow a row
-abbrev pub children_by : Statements → List Step → ℕ → List Step
-children_by m path id =
-    (if (row_of id).ordered then map (step_of (head_of id)) (order_in (finite.get m path))
-    else filter (λ step. same_word (head_of id) step.head) (steps_below m path))
+-- the steps of a row: in the user's order where it is ordered, else those with its head
+abbrev pub row_steps : ℕ → List (List ℕ) → List Step → List Step
+row_steps id names steps =
+    (if (row_of id).ordered then map (step_of (head_of id)) names
+    else filter (λ step. same_word (head_of id) step.head) steps)
 
 abbrev pub children_at : Statements → List Step → Option Place → List Step
 children_at m path None = []
-children_at m path (Some here) = flat_map (children_by m path) (rows_below here.row here.in_group)
+children_at m path (Some here) =
+    flat_map (λ id. row_steps id (order_in (finite.get m path)) (steps_below m path)) (rows_below here.row here.in_group)
 
 -- the steps of the children of a path in printing order
 abbrev pub children_of : Statements → List Step → List Step

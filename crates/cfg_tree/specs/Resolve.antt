@@ -1,5 +1,5 @@
 -- Which statement words name below a level. The rules are this project's own.
-use Rattle.std.specs.Prelude.{Option, Some, true, ◌≡◌, ◌⊎◌, ◌≤◌, ◌<◌, ℕ, List, [], ◌∷◌, ◌++◌, length, drop, slice_index_or, Result, Ok, Err, MatchBool, ◌==◌, nat_lt, Contains}
+use Rattle.std.specs.Prelude.{Bool, Option, Some, None, true, ◌≡◌, ◌⊎◌, ◌≤◌, ◌<◌, ℕ, List, [], ◌∷◌, ◌++◌, length, drop, slice_index_or, Result, Ok, Err, MatchBool, ◌==◌, nat_lt, Contains}
 use Rattle.std.specs.List.{AllZip}
 use Rattle.cfg_base.specs.declared.path.Step.{Step}
 use Rattle.cfg_base.specs.declared.kind.Kind.{Kind}
@@ -25,6 +25,16 @@ use Rattle.cfg_tree.specs.Tree.{step_of}
 -- the first word, or no bytes
 abbrev pub first_of : List (List ℕ) → List ℕ
 first_of words = slice_index_or words 0 []
+
+-- the word that the bytes spell, where they are a spelling of the kind
+abbrev pub SpelledBy : Kind → List ℕ → Option (List ℕ) → Type 0
+SpelledBy kind bytes (Some word) = IsCanonicalOf kind bytes word
+SpelledBy kind bytes None = ¬ (IsSpelling kind bytes)
+
+-- the name that the bytes are, where they are one of the kind or a wildcard name
+abbrev pub NamedBy : Bool → Kind → List ℕ → Option (List ℕ) → Type 0
+NamedBy in_group kind bytes (Some word) = IsNameOf in_group kind bytes word
+NamedBy in_group kind bytes None = (word : List ℕ) → ¬ (IsNameOf in_group kind bytes word)
 
 -- words name a level: they are the head and the name that the word is a spelling of, or a wildcard name
 pub record Named (here : Place) (id : ℕ) (head bytes : List ℕ) (used : ℕ) (front : Front) : Type 0 where

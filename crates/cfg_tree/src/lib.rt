@@ -2,10 +2,12 @@
 #![tactic(auto)]
 
 mod change;
+mod children;
 mod fault;
 mod front;
 mod limit;
 mod reorder;
+mod resolve;
 mod steps;
 mod store;
 mod target;

@@ -2,10 +2,13 @@ ghost use Rattle.std.specs.Prelude.{◌≡◌, ◌+◌, ◌↔◌, OnOk, OnErr, 
 ghost use Rattle.std.specs.Option.{option_copied};
 ghost use Rattle.std.specs.FinMap as map;
 ghost use Rattle.cfg_tree.specs.Statements.{Statements, size_of};
+ghost use Rattle.cfg_tree.specs.Children.{children_of};
 ghost use Rattle.cfg_tree.specs.Change.{removed, IsReady, IsPut, IsPutFault};
 
 use crate::change::{put_in, remove_in};
+use crate::children::children_in;
 use crate::fault::TreeFault;
+use crate::steps::Steps;
 use crate::store::Entries;
 use cfg_base::{NoMemory, Path, Value};
 use std::alloc::Global;
@@ -93,5 +96,13 @@ impl Tree {
         ensures unchanged { OnErr result (self.new ≡ self.old) }
     {
         remove_in(self.alloc, &mut self.statements, path)
+    }
+
+    /// The steps of the children of a path, in printing order.
+    pub fn children(&self, path: &Path) -> Result<Steps, NoMemory>
+        ensures { IfOk result (λ steps. steps ≡ children_of self.now path.now) }
+    {
+        let steps = children_in(self.alloc, &self.statements, path)?;
+        Ok(Steps::from(steps))
     }
 }

@@ -22,7 +22,7 @@ fn is_canonical(alloc: Global, kind: Kind, bytes: &[u8]) -> Result<bool, NoMemor
     }
 }
 
-fn is_open(kind: Kind) -> bool
+pub fn is_open(kind: Kind) -> bool
     ensures { Decides result (IsOpenKind kind) }
 {
     !matches!(kind, Kind::OneOf(_))
