@@ -11,3 +11,5 @@ pub mod ClearLemmas
 pub mod TypedLemmas
 pub mod RoomLemmas
 pub mod ChildrenLemmas
+pub mod SpelledLemmas
+pub mod ReadsLemmas

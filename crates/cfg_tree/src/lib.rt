@@ -6,8 +6,8 @@ mod children;
 mod fault;
 mod front;
 mod limit;
+mod reading;
 mod reorder;
-mod resolve;
 mod steps;
 mod store;
 mod target;
@@ -16,6 +16,7 @@ mod typed;
 
 pub use fault::TreeFault;
 pub use limit::MAX_STATEMENTS;
+pub use reading::resolve;
 pub use steps::Steps;
 pub use target::{Target, WordsFault};
 pub use tree::Tree;
