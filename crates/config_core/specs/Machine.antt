@@ -1,9 +1,8 @@
 -- One step of the machine: what an event makes of the state, and the reply to it.
 -- Junos OS CLI User Guide, on entering and leaving configuration mode, set, commit and show configuration.
-use Rattle.std.specs.Prelude.{◌≡◌, ℕ, ◌+◌, ◌-◌, ◌≤◌, ◌<◌, nat_lt, List, [], length, Bool, if◌then◌else◌, Option, None, Some, is_some, option_and_then, slice_get, slice_set, Result, Ok, Err}
+use Rattle.std.specs.Prelude.{ℕ, ◌+◌, ◌-◌, ◌≤◌, ◌<◌, nat_lt, List, [], length, Bool, if◌then◌else◌, Option, None, Some, is_some, option_and_then, slice_get, slice_set, Result, Ok, Err}
 use Rattle.cfg_base.specs.Sound.{IsSound}
 use Rattle.cfg_base.specs.declared.command.Mode.{Mode}
-use Rattle.cfg_base.specs.declared.command.Op.{Op}
 use Rattle.cfg_base.specs.declared.command.Command.{Command}
 use Rattle.cfg_base.specs.declared.command.Command.TheVariants.{Configure, ShowActive, Logout, Exit, Change, Commit as CommitOf}
 use Rattle.config_core.specs.declared.commit.Commit.{Commit}

@@ -1,14 +1,10 @@
 -- A step that is prepared and not yet carried out.
-use Rattle.std.specs.Prelude.{◌≡◌, ℕ, ◌+◌, ◌<◌, ◌≤◌, List, length, Option}
-use Rattle.cfg_base.specs.declared.command.Mode.{Mode}
-use Rattle.config_core.specs.declared.commit.Commit.{Commit}
+use Rattle.std.specs.Prelude.{◌≡◌, ℕ, ◌+◌, ◌<◌}
 use Rattle.config_core.specs.declared.effect.Effect.{Effect}
 use Rattle.config_core.specs.declared.effect.Effect.TheVariants.{Stay, Move, Edit, Append}
 use Rattle.config_core.specs.declared.ledger.TheConstants.{MAX_ENTRIES}
-use Rattle.config_core.specs.declared.reply.Reply.{Reply}
 use Rattle.config_core.specs.Kept.{append_entry}
 use Rattle.config_core.specs.Plan.{Plan}
-use Rattle.config_core.specs.declared.caller.Caller.{Caller}
 use Rattle.config_core.specs.State.{State}
 use Rattle.config_core.specs.Machine.{IsCaller, Turned, with_mode}
 

@@ -1,4 +1,4 @@
-ghost use Rattle.std.specs.Prelude.{◌≡◌, ◌<◌, ◌≤◌, ◌+◌, [], ◌∷◌, length, List, ℕ, map, IfOk, Some, None, slice_index_or, IfSome};
+ghost use Rattle.std.specs.Prelude.{◌≡◌, ◌<◌, map, IfOk};
 ghost use Rattle.cfg_base.specs.Sound.{IsSoundOp};
 ghost use Rattle.config_core.specs.declared.effect.Effect.TheVariants.{Stay};
 ghost use Rattle.config_core.specs.declared.reply.Refusal.TheVariants.{WrongMode};

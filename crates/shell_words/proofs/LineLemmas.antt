@@ -1,9 +1,8 @@
 -- What the pieces of a line begin with.
 use Rattle.std.proofs.Common.{◌≡◌, ℕ, ◌+◌, ◌<◌, ◌≤◌, length, Option, List, [], ◌∷◌, take, drop, Bool, true, false, cond, refl, sym, subst, ◌∙◌, ap, add_comm, add-one, arith}
-use Rattle.std.specs.List.{prefix_len}
 use Rattle.std.proofs.lemmas.List.{drop-drop, length-take}
 use Rattle.std.proofs.lemmas.Bool.Decides.{nat_tests}
-use Rattle.shell_words.specs.Line.{is_blank, is_bare, bare_len, Piece, Gap, Run, Stray, onto_run, onto_pieces, pieces_of, tokens_at, word_of, TakesToken}
+use Rattle.shell_words.specs.Line.{is_blank, is_bare, bare_len, Piece, Gap, Run, Stray, onto_run, pieces_of, tokens_at, word_of, TakesToken}
 
 -- no byte is both
 pub bare_is_not_blank : (b : ℕ) → is_bare b ≡ true → is_blank b ≡ false

@@ -1,5 +1,5 @@
 -- How a command line is cut into words. The words are this project's own.
-use Rattle.std.specs.Prelude.{ℕ, ◌+◌, List, [], ◌∷◌, length, map, Bool, ◌||◌, ◌&&◌, ◌==◌, ◌≡◌, ◌<◌, ◌≤◌, drop, not, nat_le, nat_lt, if◌then◌else◌, Option, None, Some}
+use Rattle.std.specs.Prelude.{ℕ, ◌+◌, List, [], ◌∷◌, length, Bool, ◌||◌, ◌&&◌, ◌==◌, ◌≡◌, ◌<◌, ◌≤◌, drop, not, nat_le, nat_lt, if◌then◌else◌, Option, None, Some}
 use Rattle.std.specs.List.{prefix_len}
 use Rattle.shell_words.specs.declared.token.Token.{Token}
 

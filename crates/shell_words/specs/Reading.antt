@@ -1,6 +1,6 @@
 -- What a line asks, in operational and in configuration mode.
 -- Junos OS CLI User Guide, on the commands of operational and of configuration mode.
-use Rattle.std.specs.Prelude.{◌≡◌, ℕ, ◌-◌, List, [], ◌∷◌, length, map, min, Bool, true, false, ◌||◌, ◌&&◌, ◌==◌, not, if◌then◌else◌, Option, None, Some, is_some, is_none, unwrap_or, Result, Ok, Err, slice_get, nat_eq, codes}
+use Rattle.std.specs.Prelude.{◌≡◌, ℕ, ◌-◌, List, [], ◌∷◌, length, map, min, Bool, true, false, ◌||◌, ◌&&◌, ◌==◌, if◌then◌else◌, Option, None, Some, is_some, is_none, unwrap_or, Result, Ok, Err, nat_eq, codes}
 use Rattle.std.specs.List.{list_any}
 use Rattle.std.specs.Cmp.Lexicographic.{pointwise}
 use Rattle.cfg_base.specs.declared.command.Mode.TheVariants.{Shared}

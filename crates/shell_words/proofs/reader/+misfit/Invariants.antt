@@ -1,4 +1,3 @@
-use Rattle.std.proofs.Common.{length}
 use Rattle.shell_words.proofs.reader.+misfit.Given as goal
 
 abbrev pub decreases-misfit : goal.decreases-misfit

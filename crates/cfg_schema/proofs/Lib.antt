@@ -1,0 +1,5 @@
+pub mod RowFacts
+pub mod TestLemmas
+pub mod ChildLemmas
+pub mod PlaceLemmas
+pub mod LevelLemmas

@@ -1,0 +1,5 @@
+pub mod Keyword
+pub mod Profile
+pub mod Child
+pub mod Place
+pub mod Facts
