@@ -97,7 +97,13 @@ fn enter(rt: &impl Abort, core: &mut Core, caller: u32) -> Result<(), Fail>
     requires { IsCaller core.old caller }
     ensures { OnOk result (length core.new.callers ≡ length core.old.callers) }
 {
-    replies(rt, core, caller, Command::Configure(Mode::Shared), Reply::Entered(Mode::Shared))
+    replies(
+        rt,
+        core,
+        caller,
+        Command::Configure(Mode::Shared),
+        Reply::Entered(Mode::Shared),
+    )
 }
 
 #[test]
@@ -114,7 +120,13 @@ fn each_session_has_a_mode_of_its_own(rt: HostRuntime) -> Result<(), Fail> {
     let mut core = machine(rt.alloc())?;
     let nothing = text(rt.alloc(), "")?;
     enter(&rt, &mut core, ALICE)?;
-    replies(&rt, &mut core, ALICE, Command::Configure(Mode::Shared), wrong_mode())?;
+    replies(
+        &rt,
+        &mut core,
+        ALICE,
+        Command::Configure(Mode::Shared),
+        wrong_mode(),
+    )?;
     replies(&rt, &mut core, ALICE, Command::ShowActive, wrong_mode())?;
     replies(&rt, &mut core, BOB, Command::Commit, wrong_mode())?;
     replies(&rt, &mut core, BOB, Command::ShowActive, nothing)
@@ -187,9 +199,15 @@ fn each_commit_is_an_entry(rt: HostRuntime) -> Result<(), Fail> {
     replies(&rt, &mut core, ALICE, Command::Commit, Reply::Committed)?;
     replies(&rt, &mut core, ALICE, Command::Commit, Reply::Committed)?;
     let last = core.ledger().last();
-    assert_eq!(rt; (core.ledger().count(), last.number, last.via), (3, 3, Via::Cli));
+    assert_eq!(rt;
+        (core.ledger().count(), last.number, last.via),
+        (3, 3, Via::Cli)
+    );
     assert_eq!(rt; last.user.as_word().as_bytes(), b"alice".as_slice());
-    assert_eq!(rt; (last.moment, core.greatest()), (Moment::of(1000), Moment::of(1000)));
+    assert_eq!(rt;
+        (last.moment, core.greatest()),
+        (Moment::of(1000), Moment::of(1000))
+    );
     Ok(())
 }
 
