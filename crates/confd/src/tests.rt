@@ -86,6 +86,10 @@ fn plain(input: &[u8]) -> Trial<'_> {
     }
 }
 
+fn blanks(alloc: Global, count: usize) -> Result<Vec<u8>, Fail> {
+    Ok(vec![in alloc; b' '; count]?)
+}
+
 /// The run ended with that status, and wrote that.
 fn check(rt: &impl Abort, ran: &Ran, status: u8, output: &[u8]) {
     assert_eq!(rt; ran.ends.len(), 1);
@@ -125,21 +129,17 @@ fn failing_read_ends_a_session(rt: HostRuntime) -> Result<(), Fail> {
 
 #[test]
 fn input_past_its_limit_ends_a_session(rt: HostRuntime) -> Result<(), Fail> {
-    let alloc = rt.alloc();
-    let limit = INPUT_LIMIT as usize;
-    let long = vec![in alloc; b' '; limit + 1]?;
-    check(
-        &rt,
-        &serve(&rt, alloc, &[b"serve", b"d"], &plain(&long))?,
-        7,
-        b"",
-    );
-    check(
-        &rt,
-        &serve(&rt, alloc, &[b"serve", b"d"], &plain(&long[..limit]))?,
-        0,
-        b"error: line too long\n",
-    );
+    let long = blanks(rt.alloc(), INPUT_LIMIT as usize + 1)?;
+    let ran = serve(&rt, rt.alloc(), &[b"serve", b"d"], &plain(&long))?;
+    check(&rt, &ran, 7, b"");
+    Ok(())
+}
+
+#[test]
+fn input_of_its_limit_is_read_to_its_end(rt: HostRuntime) -> Result<(), Fail> {
+    let long = blanks(rt.alloc(), INPUT_LIMIT as usize)?;
+    let ran = serve(&rt, rt.alloc(), &[b"serve", b"d"], &plain(&long))?;
+    check(&rt, &ran, 0, b"error: line too long\n");
     Ok(())
 }
 
