@@ -1,0 +1,16 @@
+pub mod MapLemmas
+pub mod TreeLemmas
+pub mod SameLemmas
+pub mod BelowLemmas
+pub mod PathLemmas
+pub mod PutLemmas
+pub mod OrderLemmas
+pub mod RemoveLemmas
+pub mod StepLemmas
+pub mod ClearLemmas
+pub mod TypedLemmas
+pub mod RoomLemmas
+pub mod ChildrenLemmas
+pub mod SpelledLemmas
+pub mod ReadsLemmas
+pub mod TopLemmas

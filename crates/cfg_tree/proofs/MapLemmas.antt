@@ -1,0 +1,145 @@
+-- Maps from paths: what a look-up in the entries tells, and that maps which answer alike are one.
+use Rattle.std.proofs.Common.{◌≡◌, ◌≢◌, ℕ, suc, ◌+◌, Bool, true, false, cond, not, T, List, [], ◌∷◌, length, map as each, refl, sym, ap, subst, ◌∙◌, Option, Some, None, arith}
+use Rattle.std.specs.FinMap as map
+use Rattle.std.specs.FinMap.{IsAntisymmetric, slice_cmp-IsAntisymmetric, nat_cmp-IsAntisymmetric}
+use Rattle.std.specs.FinMap.Entries.{by_order, put, find, below_all, is_sorted}
+use Rattle.std.specs.Map.{lookup, keys_of}
+use Rattle.std.specs.BTreeMap.{BTreeMap, is_at, insert_entry, IsOrdered, get, Updates}
+use Rattle.std.specs.List.{AllByRecursion}
+use Rattle.std.specs.List.Sorted.{IsStrictlySortedBy}
+use Rattle.std.specs.declared.cmp.Ordering.{Ordering}
+use Rattle.std.specs.declared.cmp.Ordering.TheVariants.{Less, Equal, Greater}
+use Rattle.std.specs.Ordering.{eq_by_cmp, is_eq, is_lt, ordering_then, on, then_cmp}
+use Rattle.std.specs.Bool.{Decides}
+use Rattle.std.specs.Cmp.{IsTotalOrder, eq_by_cmp_equiv, tied_itself}
+use Rattle.std.proofs.lemmas.Map.Keys.{sorted_head, sorted_tail}
+use Rattle.cfg_base.specs.Order.{word_cmp, step_cmp, path_cmp, paths_total, steps_total}
+use Rattle.cfg_base.specs.declared.path.Step.{Step}
+use Rattle.cfg_base.specs.declared.value.Value.{Value}
+use Rattle.cfg_tree.specs.Statements.{Statements}
+use Rattle.std.specs.Option.{option_map}
+use Rattle.cfg_tree.specs.Shown.{shown, with_names}
+use Rattle.cfg_tree.specs.Change.{with_order, with_order_of}
+
+pub word_same : IsAntisymmetric word_cmp
+word_same = slice_cmp-IsAntisymmetric nat_cmp-IsAntisymmetric
+
+-- both orders tie
+tied : (one two : Ordering) → ordering_then one two ≡ Equal → (one ≡ Equal) × (two ≡ Equal)
+tied Less two e = cc
+tied Equal two e = (refl, e)
+tied Greater two e = cc
+
+step_of_words : (s t : Step) → s.head ≡ t.head → s.name ≡ t.name → s ≡ t
+step_of_words s t h n = λ i. record { head = h i; name = n i }
+
+pub step_same : IsAntisymmetric step_cmp
+step_same s t e =
+    let parts = tied (word_cmp s.head t.head) (word_cmp s.name t.name) e
+    in step_of_words s t (word_same _ _ parts.0) (word_same _ _ parts.1)
+
+-- paths that tie are equal
+pub path_same : IsAntisymmetric path_cmp
+path_same = slice_cmp-IsAntisymmetric step_same
+
+pub is_equal : (o : Ordering) → is_eq o ≡ true → o ≡ Equal
+is_equal Less e = cc
+is_equal Equal e = refl
+is_equal Greater e = cc
+
+module _ {K : Type 0} {R : K → K → Ordering} (o : IsTotalOrder R) (same : IsAntisymmetric R) where
+  pub ties_decide : (x y : K) → Decides (eq_by_cmp R x y) (x ≡ y)
+  ties_decide x y = (λ e. same x y (is_equal _ e), λ e. subst (λ (z : K). eq_by_cmp R x z ≡ true) e (ap is_eq (tied_itself o x)))
+
+pub same_path : (p q : List Step) → Decides (eq_by_cmp path_cmp p q) (p ≡ q)
+same_path = ties_decide paths_total path_same
+
+pub same_step : (s t : Step) → Decides (eq_by_cmp step_cmp s t) (s ≡ t)
+same_step = ties_decide steps_total step_same
+
+-- the first entry at a key, told in two ways
+find_lookup : (es : List (List Step × Value)) (q : List Step) → find path_cmp q es ≡ lookup (is_at (path_cmp q)) es
+find_lookup [] q = refl
+find_lookup (e ∷ es) q = ap (cond (is_eq (path_cmp q e.0)) (Some e.1)) (find_lookup es q)
+
+-- what a look-up in the entries tells
+pub get_is : (m : BTreeMap (List Step) Value) (q : List Step) → map.get (shown m) q ≡ lookup (is_at (path_cmp q)) m.entries
+get_is m q = map.get-from_entries paths_total m.entries q ∙ find_lookup m.entries q
+
+put_first : (k : List Step) (v : Value) (es : List (List Step × Value)) → AllByRecursion (λ y. path_cmp k y ≡ Less) (keys_of es) → put path_cmp k v es ≡ (k, v) ∷ es
+put_first k v [] h = refl
+put_first k v (e ∷ es) h = ap (λ (o : Ordering). by_order o ((k, v) ∷ e ∷ es) ((e.0, v) ∷ es) (e ∷ put path_cmp k v es)) h.0
+
+no_length : (es : List (List Step × Value)) → length es ≡ 0 → es ≡ []
+no_length [] e = refl
+no_length (x ∷ es) e = absurd (omega arith)
+
+-- entries in order are those of their map
+pub entries_is : (es : List (List Step × Value)) → IsStrictlySortedBy path_cmp (keys_of es) → map.entries (map.from_entries {R = path_cmp} es) ≡ es
+entries_is [] h = no_length _ (sym (map.len-entries (map.empty {X = Value} {R = path_cmp})) ∙ map.len-empty path_cmp Value)
+entries_is (e ∷ es) h =
+    map.entries-insert paths_total (map.from_entries es) e.0 e.1
+    ∙ ap (put path_cmp e.0 e.1) (entries_is es (sorted_tail path_cmp e.0 (keys_of es) h))
+    ∙ put_first e.0 e.1 es (sorted_head path_cmp e.0 (keys_of es) h)
+
+pub len_is : (es : List (List Step × Value)) → IsStrictlySortedBy path_cmp (keys_of es) → map.len (map.from_entries {R = path_cmp} es) ≡ length es
+len_is es h = map.len-entries (map.from_entries es) ∙ ap length (entries_is es h)
+
+-- maps that answer alike are one
+pub same_statements : (m n : Statements) → ((q : List Step) → map.get m q ≡ map.get n q) → m ≡ n
+same_statements m n = map.same_map paths_total path_same m n
+
+-- two keys tie in either order
+flipped : (k q : List Step) → is_at (path_cmp k) q ≡ eq_by_cmp path_cmp q k
+flipped k q = (eq_by_cmp_equiv paths_total).symm k q
+
+-- what `insert` of the tree map makes
+pub inserted : (m n : BTreeMap (List Step) Value) (k : List Step) (v : Value) → Updates path_cmp m n k (Some v)
+    → shown n ≡ map.insert (shown m) k v
+inserted m n k v u = same_statements _ _ (λ q.
+    get_is n q
+    ∙ u.0 q
+    ∙ ap (λ (b : Bool). cond b (Some v) (get path_cmp m q)) (flipped k q)
+    ∙ ap (λ (o : Option Value). cond (eq_by_cmp path_cmp q k) (Some v) o) (sym (get_is m q))
+    ∙ sym (map.get-insert paths_total (shown m) k v q))
+
+-- what `remove` of the tree map makes
+pub taken : (m n : BTreeMap (List Step) Value) (k : List Step) → Updates path_cmp m n k None
+    → shown n ≡ map.remove (shown m) k
+taken m n k u = same_statements _ _ (λ q.
+    get_is n q
+    ∙ u.0 q
+    ∙ ap (λ (b : Bool). cond b None (get path_cmp m q)) (flipped k q)
+    ∙ ap (λ (o : Option Value). cond (eq_by_cmp path_cmp q k) None o) (sym (get_is m q))
+    ∙ sym (map.get-remove paths_total (shown m) k q))
+
+-- what a write of the order at a key makes
+module _ (m n : BTreeMap (List Step) Value) (p : List Step) (names : List (List ℕ))
+    (at : get path_cmp n p ≡ option_map (with_names names) (get path_cmp m p))
+    (others : (q : List Step) → is_at (path_cmp p) q ≡ false → get path_cmp n q ≡ get path_cmp m q) where
+  unwritten : (q : List Step) (b : Bool) → is_at (path_cmp p) q ≡ b → get path_cmp m p ≡ None → map.get (shown n) q ≡ map.get (shown m) q
+  unwritten q true e none =
+      let same = (same_path p q).0 e
+      in let there : map.get (shown n) p ≡ map.get (shown m) p =
+      get_is n p ∙ at ∙ ap (λ (o : Option Value). option_map (with_names names) o) none ∙ sym none ∙ sym (get_is m p)
+      in subst (λ (x : List Step). map.get (shown n) x ≡ map.get (shown m) x) same there
+  unwritten q false e none = get_is n q ∙ others q e ∙ sym (get_is m q)
+
+  written : (v : Value) (q : List Step) (b : Bool) → is_at (path_cmp p) q ≡ b → get path_cmp m p ≡ Some v
+      → map.get (shown n) q ≡ cond b (Some (with_names names v)) (map.get (shown m) q)
+  written v q true e some =
+      let same = (same_path p q).0 e
+      in let there : map.get (shown n) p ≡ Some (with_names names v) =
+      get_is n p ∙ at ∙ ap (λ (o : Option Value). option_map (with_names names) o) some
+      in subst (λ (x : List Step). map.get (shown n) x ≡ Some (with_names names v)) same there
+  written v q false e some = get_is n q ∙ others q e ∙ sym (get_is m q)
+
+  ordered_at : (o : Option Value) → get path_cmp m p ≡ o → shown n ≡ with_order_of (shown m) p (λ _. names) o
+  ordered_at None e = same_statements _ _ (λ q. unwritten q _ refl e)
+  ordered_at (Some v) e = same_statements _ _ (λ q.
+      written v q _ refl e
+      ∙ ap (λ (b : Bool). cond b (Some (with_names names v)) (map.get (shown m) q)) (flipped p q)
+      ∙ sym (map.get-insert paths_total (shown m) p (with_names names v) q))
+
+  pub ordered : shown n ≡ with_order (shown m) p (λ _. names)
+  ordered = subst (λ (o : Option Value). shown n ≡ with_order_of (shown m) p (λ _. names) o) (sym (get_is m p)) (ordered_at _ refl)

@@ -1,0 +1,62 @@
+-- Two trees are the same exactly where their entries are.
+use Rattle.std.proofs.Common.{eqb, eqb-true, ◌≡◌, ◌≢◌, ℕ, Bool, true, false, cond, ◌&&◌, List, [], ◌∷◌, length, refl, sym, ap, subst, ◌∙◌}
+use Rattle.std.specs.FinMap as map
+use Rattle.std.specs.BTreeMap.{BTreeMap, IsOrdered}
+use Rattle.std.specs.Bool.{Decides}
+use Rattle.std.specs.Cmp.Lexicographic.{pointwise, pointwise_decides}
+use Rattle.std.specs.Ordering.{eq_by_cmp}
+use Rattle.std.proofs.lemmas.Bool.Decides.{Decides-and, Decides-like}
+use Rattle.std.proofs.lemmas.Map.Lookups.{btree_map_eq-Decides}
+use Rattle.cfg_base.specs.Order.{path_cmp, word_cmp, words_total, words_eq}
+use Rattle.cfg_base.specs.declared.path.Step.{Step}
+use Rattle.cfg_base.specs.declared.value.Value.{Value}
+use Rattle.cfg_base.specs.contracts.value.ValuePartialEq.TheImpl as value
+use Rattle.cfg_base.specs.contracts.path.PathPartialEq.TheImpl as path
+use mathlib.Core.Bool.{beq}
+use Rattle.cfg_tree.specs.Statements.{Statements}
+use Rattle.cfg_tree.specs.Shown.{shown}
+use Rattle.cfg_tree.proofs.MapLemmas.{word_same, ties_decide, same_path, entries_is}
+
+same_words : (xs ys : List (List ℕ)) → Decides (words_eq xs ys) (xs ≡ ys)
+same_words = pointwise_decides (ties_decide words_total word_same)
+
+same_bool : (a b : Bool) → Decides (beq a b) (a ≡ b)
+same_bool true true = (λ _. refl, λ _. refl)
+same_bool true false = (λ e. cc, λ e. cc)
+same_bool false true = (λ e. cc, λ e. cc)
+same_bool false false = (λ _. refl, λ _. refl)
+
+value_of : (v w : Value) → v.inactive ≡ w.inactive → v.protected ≡ w.protected → v.order ≡ w.order → v.words ≡ w.words → v ≡ w
+value_of v w a b c d = λ i. record { inactive = a i; protected = b i; order = c i; words = d i }
+
+same_value : (v w : Value) → Decides ((value.ghosts).eq v w) (v ≡ w)
+same_value v w =
+    Decides-like _
+    (λ h. value_of v w h.0 h.1.0 h.1.1.0 h.1.1.1)
+    (λ e. (ap (λ (x : Value). x.inactive) e, (ap (λ (x : Value). x.protected) e, (ap (λ (x : Value). x.order) e, ap (λ (x : Value). x.words) e))))
+    (Decides-and _ _ (same_bool v.inactive w.inactive)
+    (Decides-and _ _ (same_bool v.protected w.protected)
+    (Decides-and _ _ (same_words v.order w.order) (same_words v.words w.words))))
+
+-- the maps of two lists of entries in order are the same exactly where the lists are
+entries_same : (a b : BTreeMap (List Step) Value) → IsOrdered path_cmp a → IsOrdered path_cmp b → shown a ≡ shown b → a.entries ≡ b.entries
+entries_same a b s t e = sym (entries_is a.entries s) ∙ ap (λ (m : Statements). map.entries m) e ∙ entries_is b.entries t
+
+pub same_trees : (a b : BTreeMap (List Step) Value) (m n : Statements) (r : Bool) → shown a ≡ m → shown b ≡ n
+    → IsOrdered path_cmp a → IsOrdered path_cmp b
+    → r ≡ pointwise (λ (p q : List Step × Value). (path.ghosts).eq p.0 q.0 && (value.ghosts).eq p.1 q.1) a.entries b.entries
+    → (r ≡ true → m ≡ n) × (m ≡ n → r ≡ true)
+same_trees a b m n r va vb s t e =
+    let decides = btree_map_eq-Decides same_path same_value a b r e
+    in (
+      λ h. sym va ∙ ap (λ (es : List (List Step × Value)). map.from_entries es) (decides.0 h) ∙ vb,
+      λ h. decides.1 (entries_same a b s t (va ∙ h ∙ sym vb)),
+    )
+
+pub other_trees : (a b : BTreeMap (List Step) Value) (m n : Statements) (i j : ℕ) → shown a ≡ m → shown b ≡ n
+    → IsOrdered path_cmp a → IsOrdered path_cmp b → i ≡ length a.entries → j ≡ length b.entries → (i ≡ j → ⊥)
+    → (eqb i j ≡ true → m ≡ n) × (m ≡ n → eqb i j ≡ true)
+other_trees a b m n i j va vb s t ea eb differ = (
+  λ h. absurd (differ (eqb-true i j h)),
+  λ h. absurd (differ (ea ∙ ap (λ (es : List (List Step × Value)). length es) (entries_same a b s t (va ∙ h ∙ sym vb)) ∙ sym eb)),
+)

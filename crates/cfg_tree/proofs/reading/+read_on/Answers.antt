@@ -1,0 +1,26 @@
+use Rattle.std.proofs.Common.{◌≡◌, sym, ◌∙◌}
+use Rattle.cfg_tree.proofs.ReadsLemmas.{reading_none, reading_refused, reading_whole, reading_ended, reading_on, front_uses}
+use Rattle.cfg_tree.proofs.reading.+read_on.Goals as goal
+
+pub returns-then-is_empty : goal.returns-then-is_empty
+returns-then-is_empty t c = reading_none _ _ _ c.if-is_empty.ensures
+
+pub returns-in-Refused : goal.returns-in-Refused
+returns-in-Refused t c =
+    reading_refused c.args.path c.args.here c.args.words.now c.in_ok-why.field-0 c.if-is_empty.ensures c.in_ok-why.ensures _ _ _ _
+    c.in-Refused.is c.in_ok-longer-in-Refused.ensures c.fault_of.ensures
+
+pub returns-in-Statement : goal.returns-in-Statement
+returns-in-Statement t c =
+    reading_whole c.args.path c.args.here c.args.words.now c.in_ok-why.field-0 c.if-is_empty.ensures c.in_ok-why.ensures _ _ _
+    c.in-Statement.is c.in_ok-longer-in-Statement.ensures
+
+pub returns-then-words-used : goal.returns-then-words-used
+returns-then-words-used t c =
+    reading_ended c.args.path c.args.here c.args.words.now c.in_ok-why.field-0 c.if-is_empty.ensures c.in_ok-why.ensures _ _ _ _ _
+    c.in-Level.is c.in_ok-path-in-Level.ensures c.if-words-used.true c.new.ensures
+
+pub returns : goal.returns
+returns t c =
+    reading_on c.args.path c.args.here c.args.words.now c.in_ok-why.field-0 c.if-is_empty.ensures c.in_ok-why.ensures _ _ _ _ _ _
+    c.in-Level.is c.in_ok-path-in-Level.ensures c.if-words-used.false c.split_at.ensures.back c.read_on.ensures

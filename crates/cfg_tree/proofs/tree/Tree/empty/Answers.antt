@@ -1,0 +1,8 @@
+use Rattle.std.proofs.Common.{sym, ap, subst, ◌∙◌}
+use Rattle.cfg_tree.specs.Statements.{Statements}
+use Rattle.cfg_tree.specs.Tree.{IsTree}
+use Rattle.cfg_tree.proofs.TreeLemmas.{nothing_is_tree}
+use Rattle.cfg_tree.proofs.tree.Tree.empty.Goals as goal
+
+pub invariant_of-result : goal.invariant_of-result
+invariant_of-result c = nothing_is_tree _ c.new.ensures.empty

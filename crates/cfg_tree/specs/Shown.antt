@@ -1,0 +1,20 @@
+-- The statements that a tree map holds.
+use Rattle.std.specs.FinMap as map
+use Rattle.std.specs.BTreeMap.{BTreeMap}
+use Rattle.std.specs.Prelude.{List, ℕ, [], ◌∷◌}
+use Rattle.cfg_base.specs.declared.path.Step.{Step}
+use Rattle.cfg_base.specs.declared.value.Value.{Value}
+use Rattle.cfg_tree.specs.Statements.{Statements}
+
+-- the entries of a tree map as a finite map
+abbrev pub shown : BTreeMap (List Step) Value → Statements
+shown m = map.from_entries m.entries
+
+-- a value with other names in its order
+abbrev pub with_names : List (List ℕ) → Value → Value
+with_names names value = record value { order = names }
+
+-- the statements without these paths
+abbrev pub without_all : Statements → List (List Step) → Statements
+without_all m [] = m
+without_all m (path ∷ paths) = without_all (map.remove m path) paths

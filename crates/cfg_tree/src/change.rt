@@ -1,0 +1,115 @@
+//! Puts and removals, over the map that a tree stands on.
+
+ghost use Rattle.std.specs.Prelude.{◌≡◌, ◌<◌, ◌+◌, length, OnOk, OnErr, IfOk, IfErr, is_none, nat_le};
+ghost use Rattle.std.specs.FinMap as finite;
+ghost use Rattle.std.specs.BTreeMap as tree;
+ghost use Rattle.cfg_tree.specs.Statements.{size_of};
+ghost use Rattle.cfg_tree.specs.declared.limit.TheConstants.{MAX_STATEMENTS};
+ghost use Rattle.cfg_tree.specs.Tree.{IsTree};
+ghost use Rattle.cfg_tree.specs.Shown.{shown, without_all};
+ghost use Rattle.cfg_tree.specs.Change.{put_at, removed, HasRoom, IsReady, IsPut, IsPutFault};
+
+use crate::fault::TreeFault;
+use crate::limit::MAX_STATEMENTS;
+use crate::reorder::{Change, carry_out, listing_of, reorder_of};
+use crate::store::{Entries, keys_below, put_entry, take_entry};
+use crate::typed::check;
+use cfg_base::{NoMemory, Path, Value};
+use std::alloc::Global;
+
+/// Puts a value at a path; `new` says that none is there.
+pub fn store(
+    alloc: Global,
+    entries: &mut Entries,
+    path: &Path,
+    value: Value,
+    new: bool,
+) -> Result<(), NoMemory>
+    requires steps { 0 < length path.now }
+    requires is_new { new ≡ is_none (finite.get (shown entries.old) path.now) }
+    ensures ok { OnOk result (shown entries.new ≡ put_at (shown entries.old) path.now value) }
+    ensures unchanged { OnErr result (shown entries.new ≡ shown entries.old) }
+{
+    let reorder = listing_of(alloc, entries, path, new)?;
+    put_entry(entries, path.clone()?, value)?;
+    carry_out(entries, reorder);
+    Ok(())
+}
+
+fn take_all(entries: &mut Entries, keys: &[Path])
+    ensures { shown entries.new ≡ without_all (shown entries.old) keys.now }
+{
+    for key in keys {
+        take_entry(entries, key);
+    }
+}
+
+/// Takes a path and all below it away, and tells how many paths went.
+pub fn unstore(alloc: Global, entries: &mut Entries, path: &Path) -> Result<usize, NoMemory>
+    ensures ok { OnOk result (shown entries.new ≡ removed (shown entries.old) path.now) }
+    ensures count { IfOk result (λ count. count + size_of (shown entries.new) ≡ size_of (shown entries.old)) }
+    ensures unchanged { OnErr result (shown entries.new ≡ shown entries.old) }
+{
+    let keys = keys_below(alloc, entries, path)?;
+    let reorder = reorder_of(alloc, entries, path, Change::Without)?;
+    take_all(entries, &keys);
+    carry_out(entries, reorder);
+    Ok(keys.len())
+}
+
+fn is_new(entries: &Entries, path: &Path) -> bool
+    ensures { result ≡ is_none (finite.get (shown entries.now) path.now) }
+{
+    !entries.contains_key(path)
+}
+
+fn is_full(entries: &Entries) -> bool
+    ensures { result ≡ nat_le MAX_STATEMENTS (size_of (shown entries.now)) }
+{
+    MAX_STATEMENTS <= entries.len()
+}
+
+/// Whether a path is new, where there is room for it.
+fn room(entries: &Entries, path: &Path) -> Result<bool, TreeFault>
+    ensures { HasRoom (shown entries.now) path.now result }
+{
+    if !is_new(entries, path) {
+        return Ok(false);
+    }
+    if is_full(entries) {
+        return Err(TreeFault::TooMany);
+    }
+    Ok(true)
+}
+
+/// Puts a value at a path, where all of it is of the profile and there is room.
+pub fn put_in(
+    alloc: Global,
+    entries: &mut Entries,
+    path: &Path,
+    value: Value,
+) -> Result<(), TreeFault>
+    requires tree { IsTree (shown entries.old) }
+    requires ready { IsReady (shown entries.old) path.now value }
+    ensures ok { OnOk result (IsPut (shown entries.old) (shown entries.new) path.now value) }
+    ensures err { IfErr result (λ fault. IsPutFault (shown entries.old) path.now value fault) }
+    ensures unchanged { OnErr result (shown entries.new ≡ shown entries.old) }
+    ensures kept { IsTree (shown entries.new) }
+{
+    check(alloc, path, &value)?;
+    let new = room(entries, path)?;
+    store(alloc, entries, path, value, new)?;
+    Ok(())
+}
+
+/// Takes a path and all below it away, and tells how many paths went.
+pub fn remove_in(alloc: Global, entries: &mut Entries, path: &Path) -> Result<u32, NoMemory>
+    requires { IsTree (shown entries.old) }
+    ensures ok { OnOk result (shown entries.new ≡ removed (shown entries.old) path.now) }
+    ensures count { IfOk result (λ count. count + size_of (shown entries.new) ≡ size_of (shown entries.old)) }
+    ensures unchanged { OnErr result (shown entries.new ≡ shown entries.old) }
+    ensures kept { IsTree (shown entries.new) }
+{
+    let count = unstore(alloc, entries, path)?;
+    Ok(count as u32)
+}

@@ -1,0 +1,128 @@
+//! The children of a path in printing order.
+
+ghost use Rattle.std.specs.Prelude.{◌≡◌, ◌+◌, ◌<◌, ◌==◌, ◌++◌, length, map, filter, IfOk, OnOk};
+ghost use Rattle.std.specs.List.{flat_map};
+ghost use Rattle.std.specs.FinMap as finite;
+ghost use Rattle.cfg_base.specs.declared.path.Step.{Step};
+ghost use Rattle.cfg_schema.specs.Profile.{head_of, same_word};
+ghost use Rattle.cfg_tree.specs.Statements.{last_of};
+ghost use Rattle.cfg_tree.specs.Shown.{shown};
+ghost use Rattle.cfg_tree.specs.Tree.{step_of};
+ghost use Rattle.cfg_tree.specs.Children.{order_in, row_steps, children_of};
+
+use crate::store::{Entries, keys_below};
+use cfg_base::{NoMemory, Path, Step, Word};
+use cfg_schema::{Place, RowId, head, row, rows_below};
+use std::alloc::Global;
+
+fn order_at<'a>(entries: &'a Entries, path: &Path) -> &'a [Word]
+    ensures { result.now ≡ order_in (finite.get (shown entries.now) path.now) }
+{
+    match entries.get(path) {
+        Some(value) => value.order.as_slice(),
+        None => &[],
+    }
+}
+
+fn last_steps(alloc: Global, keys: &[Path], count: usize) -> Result<Vec<Step>, NoMemory>
+    requires { 0 < count }
+    ensures { IfOk result (λ steps. steps.items ≡ map last_of (filter (λ key. length key == count) keys.now)) }
+{
+    let mut steps = Vec::new(alloc);
+    for key in keys {
+        let all = key.steps();
+        if all.len() == count {
+            steps.push(all[count - 1].clone()?)?;
+        }
+    }
+    Ok(steps)
+}
+
+fn word_of(alloc: Global, bytes: &[u8]) -> Result<Word, NoMemory>
+    ensures { IfOk result (λ word. word ≡ bytes.now) }
+{
+    match Word::of(alloc, bytes) {
+        Ok(word) => Ok(word),
+        Err(_) => Err(NoMemory),
+    }
+}
+
+fn named_step(alloc: Global, head: &[u8], name: &Word) -> Result<Step, NoMemory>
+    ensures { IfOk result (λ step. step ≡ step_of head.now name.now) }
+{
+    Ok(Step {
+        head: word_of(alloc, head)?,
+        name: name.clone()?,
+    })
+}
+
+fn push_named(
+    alloc: Global,
+    steps: &mut Vec<Step>,
+    head: &[u8],
+    names: &[Word],
+) -> Result<(), NoMemory>
+    ensures { OnOk result (steps.new.items ≡ steps.old.items ++ map (step_of head.now) names.now) }
+{
+    for name in names {
+        steps.push(named_step(alloc, head, name)?)?;
+    }
+    Ok(())
+}
+
+fn push_headed(steps: &mut Vec<Step>, head: &[u8], below: &[Step]) -> Result<(), NoMemory>
+    ensures { OnOk result (steps.new.items ≡ steps.old.items ++ filter (λ step. same_word head.now step.head) below.now) }
+{
+    for step in below {
+        if head == step.head.as_bytes() {
+            steps.push(step.clone()?)?;
+        }
+    }
+    Ok(())
+}
+
+fn push_row(
+    alloc: Global,
+    steps: &mut Vec<Step>,
+    id: RowId,
+    names: &[Word],
+    below: &[Step],
+) -> Result<(), NoMemory>
+    ensures { OnOk result (steps.new.items ≡ steps.old.items ++ row_steps id names.now below.now) }
+{
+    if row(id).ordered {
+        push_named(alloc, steps, head(id), names)
+    } else {
+        push_headed(steps, head(id), below)
+    }
+}
+
+fn by_rows(
+    alloc: Global,
+    rows: &[RowId],
+    names: &[Word],
+    below: &[Step],
+) -> Result<Vec<Step>, NoMemory>
+    ensures { IfOk result (λ steps. steps.items ≡ flat_map (λ id. row_steps id names.now below.now) rows.now) }
+{
+    let mut steps = Vec::new(alloc);
+    for id in rows {
+        push_row(alloc, &mut steps, *id, names, below)?;
+    }
+    Ok(steps)
+}
+
+/// The steps of the children of a path, in printing order.
+pub fn children_in(alloc: Global, entries: &Entries, path: &Path) -> Result<Vec<Step>, NoMemory>
+    ensures { IfOk result (λ steps. steps.items ≡ children_of (shown entries.now) path.now) }
+{
+    let here = match Place::of(path.steps()) {
+        None => return Ok(Vec::new(alloc)),
+        Some(here) => here,
+    };
+    let keys = keys_below(alloc, entries, path)?;
+    let below = last_steps(alloc, &keys, path.steps().len() + 1)?;
+    let rows = rows_below(alloc, here.row, here.in_group)?;
+    let steps = by_rows(alloc, &rows, order_at(entries, path), &below)?;
+    Ok(steps)
+}

@@ -1,0 +1,31 @@
+//! The statements of a configuration: a finite map from paths to values, and the statement that words name.
+//!
+//! Guarantees: each statement's parent is there, each path follows the profile's rows with names of their
+//! kinds, each statement has the words of its row, and a value's order lists exactly the children of
+//! the ordered row; at most 16384 statements stand; words are read from the left by the profile's rows.
+//! Leaves to others: which changes a command makes (`edit_ops`), and how statements are printed
+//! (`curly_text`, `set_text`).
+#![tactic(auto)]
+
+mod change;
+mod children;
+mod fault;
+mod front;
+mod limit;
+mod reading;
+mod reorder;
+mod steps;
+mod store;
+mod target;
+mod tree;
+mod typed;
+
+pub use fault::TreeFault;
+pub use limit::MAX_STATEMENTS;
+pub use reading::resolve;
+pub use steps::Steps;
+pub use target::{Target, WordsFault};
+pub use tree::Tree;
+
+#[cfg(test)]
+mod tests;

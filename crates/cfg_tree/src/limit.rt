@@ -1,0 +1,2 @@
+/// The most statements that a configuration has.
+pub const MAX_STATEMENTS: usize = 16_384;

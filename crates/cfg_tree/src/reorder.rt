@@ -1,0 +1,166 @@
+//! The order of the children of an ordered row, which stands with their parent.
+
+ghost use Rattle.std.specs.Prelude.{◌≡◌, ◌≤◌, ◌<◌, ◌++◌, ◌∷◌, [], length, filter, not, IfOk, IsTrue};
+ghost use Rattle.std.specs.BTreeMap as tree;
+ghost use Rattle.cfg_base.specs.Order.{path_cmp};
+ghost use Rattle.cfg_base.specs.declared.path.TheConstants.{MAX_STEPS};
+ghost use Rattle.cfg_schema.specs.Profile.{same_word};
+ghost use Rattle.cfg_schema.specs.Place.{place_of};
+ghost use Rattle.cfg_tree.specs.Shown.{shown};
+ghost use Rattle.cfg_tree.specs.Tree.{ordered_head};
+ghost use Rattle.cfg_tree.specs.Change.{has_head, is_ordered, without, put_last};
+ghost use Rattle.cfg_tree.specs.Renaming.{changed, IsOrderOfParent, IsReorder, IsListing, reordered_by};
+
+use crate::store::{Entries, set_order};
+use cfg_base::{NoMemory, Path, Step, Word, Words};
+use cfg_schema::{Place, head};
+use std::alloc::Global;
+
+/// What becomes of a name in its parent's order.
+#[derive(Clone, Copy, Debug, PartialEq, Eq)]
+pub enum Change {
+    /// It goes last.
+    Last,
+    /// It is taken out.
+    Without,
+}
+
+/// The new order of a parent.
+#[derive(Debug, Drop)]
+pub struct Reorder {
+    pub parent: Path,
+    pub order: Words,
+}
+
+fn has_ordered_head(above: &[Step], last: &Step) -> bool
+    ensures { result ≡ has_head (ordered_head (place_of above.now)) last.now }
+{
+    match Place::of(above) {
+        None => false,
+        Some(here) => match here.ordered_row() {
+            None => false,
+            Some(row) => head(row) == last.head.as_bytes(),
+        },
+    }
+}
+
+fn is_ordered(path: &Path) -> bool
+    ensures is { result ≡ is_ordered path.now }
+    ensures steps { IsTrue result → 0 < length path.now }
+{
+    let steps = path.steps();
+    if steps.is_empty() {
+        return false;
+    }
+    let (above, _) = steps.split_at(steps.len() - 1);
+    has_ordered_head(above, &steps[steps.len() - 1])
+}
+
+fn pushed(path: &Path, step: &Step) -> Result<Path, NoMemory>
+    requires { length path.now < MAX_STEPS }
+    ensures { IfOk result (λ longer. longer ≡ path.now ++ step.now ∷ []) }
+{
+    match path.push(step.clone()?) {
+        Ok(longer) => Ok(longer),
+        Err(_) => Err(NoMemory),
+    }
+}
+
+fn path_of(alloc: Global, steps: &[Step]) -> Result<Path, NoMemory>
+    requires { length steps.now ≤ MAX_STEPS }
+    ensures { IfOk result (λ path. path ≡ steps.now) }
+{
+    let mut path = Path::top(alloc);
+    for step in steps {
+        path = pushed(&path, step)?;
+    }
+    Ok(path)
+}
+
+fn with_last(order: &Words, name: &Word) -> Result<Words, NoMemory>
+    ensures { IfOk result (λ names. names ≡ put_last name.now order.now) }
+{
+    let mut names = order.clone()?;
+    names.push(name.clone()?)?;
+    Ok(names)
+}
+
+fn without(alloc: Global, order: &Words, name: &Word) -> Result<Words, NoMemory>
+    ensures { IfOk result (λ names. names ≡ without name.now order.now) }
+{
+    let mut names = Words::new(alloc);
+    for other in order.as_slice() {
+        if name.as_bytes() != other.as_bytes() {
+            names.push(other.clone()?)?;
+        }
+    }
+    Ok(names)
+}
+
+fn changed(alloc: Global, change: Change, order: &Words, name: &Word) -> Result<Words, NoMemory>
+    ensures { IfOk result (λ names. names ≡ changed change name.now order.now) }
+{
+    match change {
+        Change::Last => with_last(order, name),
+        Change::Without => without(alloc, order, name),
+    }
+}
+
+fn of_parent(
+    alloc: Global,
+    entries: &Entries,
+    parent: Path,
+    name: &Word,
+    change: Change,
+) -> Result<Option<Reorder>, NoMemory>
+    ensures { IfOk result (λ reorder. IsOrderOfParent (shown entries.now) parent name.now change reorder) }
+{
+    let order = match entries.get(&parent) {
+        Some(value) => changed(alloc, change, &value.order, name)?,
+        None => return Ok(None),
+    };
+    Ok(Some(Reorder { parent, order }))
+}
+
+/// The change of the order of a path's parent, where the path is that of a child of an ordered row.
+pub fn reorder_of(
+    alloc: Global,
+    entries: &Entries,
+    path: &Path,
+    change: Change,
+) -> Result<Option<Reorder>, NoMemory>
+    ensures { IfOk result (λ reorder. IsReorder (shown entries.now) path.now change reorder) }
+{
+    if !is_ordered(path) {
+        return Ok(None);
+    }
+    let steps = path.steps();
+    let (above, _) = steps.split_at(steps.len() - 1);
+    let parent = path_of(alloc, above)?;
+    of_parent(alloc, entries, parent, &steps[steps.len() - 1].name, change)
+}
+
+/// The same where the path is new, and no change elsewhere.
+pub fn listing_of(
+    alloc: Global,
+    entries: &Entries,
+    path: &Path,
+    new: bool,
+) -> Result<Option<Reorder>, NoMemory>
+    ensures { IfOk result (λ reorder. IsListing new (shown entries.now) path.now reorder) }
+{
+    if new {
+        reorder_of(alloc, entries, path, Change::Last)
+    } else {
+        Ok(None)
+    }
+}
+
+/// Carries the change out.
+pub fn carry_out(entries: &mut Entries, reorder: Option<Reorder>)
+    ensures { shown entries.new ≡ reordered_by reorder (shown entries.old) }
+{
+    if let Some(Reorder { parent, order }) = reorder {
+        set_order(entries, &parent, order);
+    }
+}

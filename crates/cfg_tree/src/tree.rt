@@ -1,0 +1,108 @@
+ghost use Rattle.std.specs.Prelude.{◌≡◌, ◌+◌, ◌↔◌, OnOk, OnErr, IfOk, IfErr, IsTrue};
+ghost use Rattle.std.specs.Option.{option_copied};
+ghost use Rattle.std.specs.FinMap as map;
+ghost use Rattle.cfg_tree.specs.Statements.{Statements, size_of};
+ghost use Rattle.cfg_tree.specs.Children.{children_of};
+ghost use Rattle.cfg_tree.specs.Change.{removed, IsReady, IsPut, IsPutFault};
+
+use crate::change::{put_in, remove_in};
+use crate::children::children_in;
+use crate::fault::TreeFault;
+use crate::steps::Steps;
+use crate::store::Entries;
+use cfg_base::{NoMemory, Path, Value};
+use std::alloc::Global;
+use std::marker::Model;
+
+/// The statements of a configuration: a map from paths to values.
+#[derive(Debug, Drop)]
+pub struct Tree {
+    alloc: Global,
+    statements: Entries,
+}
+
+impl Model for Tree {
+    ghost use Rattle.std.specs.FinMap as map;
+    ghost use Rattle.cfg_tree.specs.Statements.{Statements, statements_code};
+    ghost use Rattle.cfg_tree.specs.Tree.{IsTree};
+
+    ghost Value = { Statements };
+
+    ghost coded = { statements_code };
+
+    ghost view = { λ t. map.from_entries t.statements.entries };
+
+    ghost invariant = { λ t. IsTree (map.from_entries t.statements.entries) };
+}
+
+impl Tree {
+    /// No statements.
+    pub fn empty(alloc: Global) -> Tree
+        ensures { result ≡ map.empty }
+    {
+        Tree {
+            alloc,
+            statements: Entries::new(alloc),
+        }
+    }
+
+    /// The value at a path, where it is there.
+    pub fn at(&self, path: &Path) -> Option<&Value>
+        ensures { option_copied result ≡ map.get self.now path.now }
+    {
+        self.statements.get(path)
+    }
+
+    /// How many statements there are.
+    pub fn count(&self) -> u32
+        ensures { result ≡ size_of self.now }
+    {
+        self.statements.len() as u32
+    }
+
+    /// Whether two trees have the same statements.
+    pub fn same(&self, other: &Tree) -> bool
+        ensures { IsTrue result ↔ (self.now ≡ other.now) }
+    {
+        let alike = self.statements.len() == other.statements.len();
+        alike && self.statements == other.statements
+    }
+
+    /// A copy of the tree.
+    pub fn copy(&self) -> Result<Tree, NoMemory>
+        ensures { IfOk result (λ tree. tree ≡ self.now) }
+    {
+        let statements = self.statements.clone()?;
+        Ok(Tree {
+            alloc: self.alloc,
+            statements,
+        })
+    }
+
+    /// Puts a value at a path whose parent is there.
+    pub fn put(&mut self, path: &Path, value: Value) -> Result<(), TreeFault>
+        requires { IsReady self.old path.now value }
+        ensures ok { OnOk result (IsPut self.old self.new path.now value) }
+        ensures err { IfErr result (λ fault. IsPutFault self.old path.now value fault) }
+        ensures unchanged { OnErr result (self.new ≡ self.old) }
+    {
+        put_in(self.alloc, &mut self.statements, path, value)
+    }
+
+    /// Takes a path and all below it away, and tells how many paths went.
+    pub fn remove(&mut self, path: &Path) -> Result<u32, NoMemory>
+        ensures ok { OnOk result (self.new ≡ removed self.old path.now) }
+        ensures count { IfOk result (λ count. count + size_of self.new ≡ size_of self.old) }
+        ensures unchanged { OnErr result (self.new ≡ self.old) }
+    {
+        remove_in(self.alloc, &mut self.statements, path)
+    }
+
+    /// The steps of the children of a path, in printing order.
+    pub fn children(&self, path: &Path) -> Result<Steps, NoMemory>
+        ensures { IfOk result (λ steps. steps ≡ children_of self.now path.now) }
+    {
+        let steps = children_in(self.alloc, &self.statements, path)?;
+        Ok(Steps::from(steps))
+    }
+}
