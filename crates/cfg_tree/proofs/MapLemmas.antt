@@ -1,15 +1,15 @@
 -- Maps from paths: what a look-up in the entries tells, and that maps which answer alike are one.
-use Rattle.std.proofs.Common.{◌≡◌, ◌≢◌, ℕ, suc, ◌+◌, Bool, true, false, cond, not, T, List, [], ◌∷◌, length, map as each, refl, sym, ap, subst, ◌∙◌, Option, Some, None, arith}
+use Rattle.std.proofs.Common.{◌≡◌, ℕ, Bool, true, false, cond, List, [], ◌∷◌, length, refl, sym, ap, subst, ◌∙◌, Option, Some, None, arith}
 use Rattle.std.specs.FinMap as map
 use Rattle.std.specs.FinMap.{IsAntisymmetric, slice_cmp-IsAntisymmetric, nat_cmp-IsAntisymmetric}
-use Rattle.std.specs.FinMap.Entries.{by_order, put, find, below_all, is_sorted}
+use Rattle.std.specs.FinMap.Entries.{by_order, put, find}
 use Rattle.std.specs.Map.{lookup, keys_of}
-use Rattle.std.specs.BTreeMap.{BTreeMap, is_at, insert_entry, IsOrdered, get, Updates}
+use Rattle.std.specs.BTreeMap.{BTreeMap, is_at, get, Updates}
 use Rattle.std.specs.List.{AllByRecursion}
 use Rattle.std.specs.List.Sorted.{IsStrictlySortedBy}
 use Rattle.std.specs.declared.cmp.Ordering.{Ordering}
 use Rattle.std.specs.declared.cmp.Ordering.TheVariants.{Less, Equal, Greater}
-use Rattle.std.specs.Ordering.{eq_by_cmp, is_eq, is_lt, ordering_then, on, then_cmp}
+use Rattle.std.specs.Ordering.{eq_by_cmp, is_eq, ordering_then}
 use Rattle.std.specs.Bool.{Decides}
 use Rattle.std.specs.Cmp.{IsTotalOrder, eq_by_cmp_equiv, tied_itself}
 use Rattle.std.proofs.lemmas.Map.Keys.{sorted_head, sorted_tail}

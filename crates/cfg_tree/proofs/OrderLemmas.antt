@@ -1,5 +1,5 @@
 -- Orders of parents: none at the top, and what a change of one leaves.
-use Rattle.std.proofs.Common.{eqb-true, ◌==◌, ◌≡◌, ℕ, ◌+◌, Bool, true, false, List, [], ◌∷◌, length, refl, sym, ap, subst, ◌∙◌, Option, Some, None, option_map, arith}
+use Rattle.std.proofs.Common.{eqb-true, ◌==◌, ◌≡◌, ℕ, true, false, List, [], ◌∷◌, length, refl, sym, ap, subst, Option, option_map, arith}
 use Rattle.cfg_base.specs.declared.path.Step.{Step}
 use Rattle.cfg_schema.specs.Profile.{head_of}
 use Rattle.cfg_schema.proofs.RowFacts.{top_unordered}

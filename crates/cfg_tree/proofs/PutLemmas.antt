@@ -1,24 +1,22 @@
 -- A put keeps what holds of a tree's statements.
-use Rattle.std.proofs.Common.{◌≡◌, ◌≢◌, ℕ, zero, suc, ◌+◌, ◌-◌, ◌<◌, ◌≤◌, Bool, true, false, cond, not, ◌&&◌, ◌||◌, List, [], ◌∷◌, ◌++◌, length, take, get_or, refl, sym, ap, subst, ◌∙◌, Option, Some, None, is_some, is_none, option_map, arith, length-append, append-nil, if◌then◌else◌}
+use Rattle.std.proofs.Common.{◌≡◌, ◌≢◌, ℕ, ◌≤◌, Bool, true, false, ◌&&◌, ◌||◌, List, [], ◌∷◌, ◌++◌, length, refl, sym, ap, subst, ◌∙◌, Option, Some, None, is_some, is_none, option_map, arith, if◌then◌else◌}
 use Rattle.std.specs.Prelude.{IsSome}
-use Rattle.std.specs.List.{IsDistinct, list_any}
 use Rattle.std.specs.FinMap as map
 use Rattle.std.specs.Cmp.{IsEquivalence, nat_eq_equiv}
 use Rattle.std.specs.Cmp.Lexicographic.{lists_equiv}
 use Rattle.std.proofs.lemmas.Map.Keys.{IsDistinct-push}
-use Rattle.cfg_base.specs.Order.{path_cmp, paths_total}
 use Rattle.cfg_base.specs.declared.path.Step.{Step}
 use Rattle.cfg_base.specs.declared.value.Value.{Value}
 use Rattle.cfg_schema.specs.declared.place.Place.{Place}
 use Rattle.cfg_schema.specs.Profile.{same_word}
 use Rattle.cfg_schema.specs.Place.{place_of}
-use Rattle.cfg_schema.proofs.TestLemmas.{both, both_true, same, same_is}
+use Rattle.cfg_schema.proofs.TestLemmas.{both, same, same_is}
 use Rattle.cfg_tree.specs.declared.limit.TheConstants.{MAX_STATEMENTS}
-use Rattle.cfg_tree.specs.Statements.{Statements, size_of, parent_of, last_of, no_step, HasParent}
+use Rattle.cfg_tree.specs.Statements.{Statements, size_of, parent_of, last_of, HasParent}
 use Rattle.cfg_tree.specs.Typed.{IsTypedPath, AreWordsOf}
-use Rattle.cfg_tree.specs.Tree.{ordered_head, step_of, lists, IsOrder, IsOrderBy, IsOrderOf, IsStatementMap, IsTyped, IsTree}
-use Rattle.cfg_tree.specs.Change.{with_order, has_head, is_ordered, put_last, listed, put_at, IsReady, Fits}
-use Rattle.cfg_tree.proofs.PathLemmas.{split, same_ends, child_longer, child_differs, grandchild_differs, same_or_not, get_here, get_other, renamed, order_at, order_other}
+use Rattle.cfg_tree.specs.Tree.{ordered_head, step_of, lists, IsOrderBy, IsOrderOf, IsTree}
+use Rattle.cfg_tree.specs.Change.{has_head, is_ordered, put_last, IsReady, Fits}
+use Rattle.cfg_tree.proofs.PathLemmas.{split, same_ends, child_differs, same_or_not, renamed}
 
 -- an order is the same where the children are
 pub order_same : (m n : Statements) (q : List Step) (head : Option (List ℕ)) (names : List (List ℕ))

@@ -1,22 +1,21 @@
 -- A removal keeps what holds of a tree's statements.
-use Rattle.std.proofs.Common.{◌≡◌, ◌≢◌, ℕ, zero, suc, ◌+◌, ◌-◌, ◌<◌, ◌≤◌, Bool, true, false, cond, not, ◌&&◌, ◌||◌, List, [], ◌∷◌, ◌++◌, length, take, get_or, filter, refl, sym, ap, subst, ◌∙◌, Option, Some, None, is_some, is_none, option_map, arith, length-append, append-nil, if◌then◌else◌}
+use Rattle.std.proofs.Common.{◌≡◌, ◌≢◌, ℕ, ◌<◌, ◌≤◌, Bool, true, false, cond, not, ◌&&◌, ◌||◌, List, [], ◌∷◌, ◌++◌, length, refl, sym, ap, subst, ◌∙◌, Option, Some, None, is_some, option_map, arith}
 use Rattle.std.specs.Prelude.{IsSome}
-use Rattle.std.specs.List.{IsDistinct, list_any, AllByRecursion}
+use Rattle.std.specs.List.{IsDistinct, AllByRecursion}
 use Rattle.std.specs.FinMap as map
 use Rattle.std.proofs.lemmas.Map.Keys.{IsDistinct-head, IsDistinct-tail, IsDistinct-cons}
-use Rattle.cfg_base.specs.Order.{path_cmp, paths_total}
 use Rattle.cfg_base.specs.declared.path.Step.{Step}
 use Rattle.cfg_base.specs.declared.value.Value.{Value}
 use Rattle.cfg_schema.specs.declared.place.Place.{Place}
 use Rattle.cfg_schema.specs.Profile.{same_word}
 use Rattle.cfg_schema.specs.Place.{place_of}
-use Rattle.cfg_schema.proofs.TestLemmas.{both, both_true, same, same_is}
+use Rattle.cfg_schema.proofs.TestLemmas.{same, same_is}
 use Rattle.cfg_tree.specs.declared.limit.TheConstants.{MAX_STATEMENTS}
-use Rattle.cfg_tree.specs.Statements.{Statements, size_of, parent_of, last_of, no_step, is_below, HasParent}
+use Rattle.cfg_tree.specs.Statements.{Statements, size_of, parent_of, last_of, is_below, HasParent}
 use Rattle.cfg_tree.specs.Typed.{IsTypedPath, AreWordsOf}
-use Rattle.cfg_tree.specs.Tree.{ordered_head, step_of, lists, IsOrder, IsOrderBy, IsOrderOf, IsStatementMap, IsTyped, IsTree}
+use Rattle.cfg_tree.specs.Tree.{ordered_head, step_of, lists, IsOrderBy, IsOrderOf, IsTree}
 use Rattle.cfg_tree.specs.Change.{has_head, is_ordered, without}
-use Rattle.cfg_tree.proofs.PathLemmas.{split, same_ends, child_longer, child_differs, same_or_not, renamed}
+use Rattle.cfg_tree.proofs.PathLemmas.{split, same_ends, child_longer, same_or_not, renamed}
 use Rattle.cfg_tree.proofs.BelowLemmas.{below_more, below_first, below_self}
 use Rattle.cfg_tree.proofs.OrderLemmas.{top_is_unordered}
 use Rattle.cfg_tree.proofs.PutLemmas.{order_same}

@@ -1,13 +1,12 @@
 -- Two trees are the same exactly where their entries are.
-use Rattle.std.proofs.Common.{eqb, eqb-true, ◌≡◌, ◌≢◌, ℕ, Bool, true, false, cond, ◌&&◌, List, [], ◌∷◌, length, refl, sym, ap, subst, ◌∙◌}
+use Rattle.std.proofs.Common.{eqb, eqb-true, ◌≡◌, ℕ, Bool, true, false, ◌&&◌, List, length, refl, sym, ap, ◌∙◌}
 use Rattle.std.specs.FinMap as map
 use Rattle.std.specs.BTreeMap.{BTreeMap, IsOrdered}
 use Rattle.std.specs.Bool.{Decides}
 use Rattle.std.specs.Cmp.Lexicographic.{pointwise, pointwise_decides}
-use Rattle.std.specs.Ordering.{eq_by_cmp}
 use Rattle.std.proofs.lemmas.Bool.Decides.{Decides-and, Decides-like}
 use Rattle.std.proofs.lemmas.Map.Lookups.{btree_map_eq-Decides}
-use Rattle.cfg_base.specs.Order.{path_cmp, word_cmp, words_total, words_eq}
+use Rattle.cfg_base.specs.Order.{path_cmp, words_total, words_eq}
 use Rattle.cfg_base.specs.declared.path.Step.{Step}
 use Rattle.cfg_base.specs.declared.value.Value.{Value}
 use Rattle.cfg_base.specs.contracts.value.ValuePartialEq.TheImpl as value

@@ -1,8 +1,8 @@
 -- Spellings of a list of words, one word more.
-use Rattle.std.proofs.Common.{◌≡◌, ℕ, ◌+◌, ◌<◌, List, [], ◌∷◌, ◌++◌, length, take, get_or, refl, sym, ap, subst, ◌∙◌}
+use Rattle.std.proofs.Common.{◌≡◌, ℕ, ◌+◌, ◌<◌, List, [], ◌∷◌, ◌++◌, length, take, get_or, sym, subst}
 use Rattle.std.proofs.lemmas.List.{take_more}
 use Rattle.cfg_base.specs.declared.kind.Kind.{Kind}
-use Rattle.cfg_values.specs.Spelling.{IsCanonicalOf, IsSpelling}
+use Rattle.cfg_values.specs.Spelling.{IsCanonicalOf}
 use Rattle.cfg_tree.specs.Resolve.{AllSpelled}
 
 push_spelled : (kind : Kind) (xs ys : List (List ℕ)) (x y : List ℕ) → AllSpelled kind xs ys → IsCanonicalOf kind x y → AllSpelled kind (xs ++ x ∷ []) (ys ++ y ∷ [])

@@ -1,9 +1,7 @@
 -- What a put, a removal and a change of an order leave, told by look-ups.
-use Rattle.std.proofs.Common.{◌≡◌, ◌≢◌, ℕ, zero, suc, ◌+◌, ◌-◌, ◌<◌, ◌≤◌, Bool, true, false, cond, not, ◌&&◌, ◌||◌, List, [], ◌∷◌, ◌++◌, length, filter, refl, sym, ap, subst, ◌∙◌, Option, Some, None, is_some, is_none, option_map, arith, if◌then◌else◌}
+use Rattle.std.proofs.Common.{◌≡◌, ◌≢◌, ℕ, ◌+◌, ◌<◌, ◌≤◌, Bool, true, false, cond, not, ◌&&◌, List, [], ◌∷◌, length, refl, sym, ap, subst, ◌∙◌, Option, Some, None, is_some, is_none, option_map, arith, if◌then◌else◌}
 use Rattle.std.specs.FinMap as map
-use Rattle.std.specs.Ordering.{eq_by_cmp}
-use Rattle.std.specs.declared.cmp.Ordering.TheVariants.{Equal}
-use Rattle.cfg_base.specs.Order.{path_cmp, paths_total}
+use Rattle.cfg_base.specs.Order.{paths_total}
 use Rattle.cfg_base.specs.declared.path.Step.{Step}
 use Rattle.cfg_base.specs.declared.value.Value.{Value}
 use Rattle.cfg_tree.specs.declared.limit.TheConstants.{MAX_STATEMENTS}
@@ -12,9 +10,9 @@ use Rattle.cfg_tree.specs.declared.reorder.Change.TheVariants.{Last, Without}
 use Rattle.cfg_tree.specs.declared.reorder.Reorder.{Reorder}
 use Rattle.cfg_tree.specs.Statements.{Statements, size_of, parent_of, last_of, is_below}
 use Rattle.cfg_tree.specs.Tree.{IsTree}
-use Rattle.cfg_tree.specs.Change.{with_order, with_order_of, is_ordered, put_last, without, listed, put_at, unlisted, cleared, removed}
-use Rattle.cfg_tree.specs.Renaming.{changed, IsOrderOfParent, IsReorderBy, IsListing, reordered_by}
-use Rattle.cfg_tree.proofs.MapLemmas.{same_path, path_same}
+use Rattle.cfg_tree.specs.Change.{with_order, with_order_of, is_ordered, put_last, without, listed, put_at, cleared, removed}
+use Rattle.cfg_tree.specs.Renaming.{changed, IsReorderBy, IsListing, reordered_by}
+use Rattle.cfg_tree.proofs.MapLemmas.{path_same}
 use Rattle.cfg_tree.proofs.PathLemmas.{split, child_differs, get_here, get_other, renamed, order_at, order_other}
 use Rattle.cfg_tree.proofs.BelowLemmas.{parent_apart}
 use Rattle.cfg_tree.proofs.OrderLemmas.{top_is_unordered}

@@ -1,9 +1,9 @@
 -- The top is a level.
-use Rattle.std.proofs.Common.{◌≡◌, List, [], refl, sym, ap, subst, ◌∙◌, Some, true}
+use Rattle.std.proofs.Common.{◌≡◌, List, [], refl, sym, subst, Some, true}
 use Rattle.cfg_base.specs.declared.path.Step.{Step}
 use Rattle.cfg_schema.specs.declared.place.Place.{Place}
 use Rattle.cfg_schema.specs.Profile.{profile, row_of, is_level}
-use Rattle.cfg_schema.specs.Place.{top_place, place_of}
+use Rattle.cfg_schema.specs.Place.{top_place}
 use Rattle.cfg_tree.specs.Resolve.{IsLevelPath}
 
 top_opens : is_level (row_of 0).shape ≡ true

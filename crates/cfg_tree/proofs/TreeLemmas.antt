@@ -1,5 +1,5 @@
 -- What holds of the statements of a tree is kept by each change.
-use Rattle.std.proofs.Common.{◌≡◌, ◌≢◌, ℕ, ◌<◌, ◌≤◌, ◌+◌, Bool, true, false, List, [], ◌∷◌, ◌++◌, length, refl, sym, ap, subst, ◌∙◌, Option, Some, None, arith, rules, Fits, w32, lit≤}
+use Rattle.std.proofs.Common.{◌≡◌, ℕ, ◌≤◌, List, [], length, sym, subst, ◌∙◌, Some, rules, Fits, w32, lit≤}
 use Rattle.std.specs.Prelude.{IsSome}
 use Rattle.std.specs.FinMap as map
 use Rattle.std.specs.BTreeMap.{BTreeMap, IsOrdered}
@@ -7,10 +7,9 @@ use Rattle.cfg_base.specs.Order.{path_cmp}
 use Rattle.cfg_base.specs.declared.path.Step.{Step}
 use Rattle.cfg_base.specs.declared.value.Value.{Value}
 use Rattle.cfg_tree.specs.declared.limit.TheConstants.{MAX_STATEMENTS}
-use Rattle.cfg_tree.specs.Statements.{Statements, size_of, HasParent}
 use Rattle.cfg_tree.specs.Shown.{shown}
-use Rattle.cfg_tree.specs.Tree.{IsTree, IsStatementMap, IsTyped}
-use Rattle.cfg_tree.proofs.MapLemmas.{get_is, len_is}
+use Rattle.cfg_tree.specs.Tree.{IsTree}
+use Rattle.cfg_tree.proofs.MapLemmas.{len_is}
 
 nothing_there : (q : List Step) → IsSome (map.get (map.empty {X = Value} {R = path_cmp}) q) → ⊥
 nothing_there q h = let e = map.get-empty {X = Value} path_cmp q in let k = subst IsSome e h in cc

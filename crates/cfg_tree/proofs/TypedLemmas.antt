@@ -1,9 +1,8 @@
 -- A path is typed where its parent is and its last step is.
-use Rattle.std.proofs.Common.{zero, suc, get_or, take, ◌-◌, is_some, eqb-true, ◌==◌, arith, ◌≡◌, ◌≢◌, ℕ, ◌<◌, Bool, true, false, List, [], ◌∷◌, ◌++◌, length, refl, sym, ap, subst, ◌∙◌, Option, Some, None, MatchOption}
+use Rattle.std.proofs.Common.{zero, suc, get_or, take, ◌-◌, is_some, eqb-true, ◌==◌, arith, ◌≡◌, ℕ, ◌<◌, Bool, true, false, List, [], ◌∷◌, ◌++◌, length, refl, sym, ap, subst, ◌∙◌, Option, Some, None}
 use Rattle.std.specs.Prelude.{IsSome}
 use Rattle.cfg_base.specs.declared.path.Step.{Step}
 use Rattle.cfg_base.specs.declared.value.Value.{Value}
-use Rattle.cfg_base.specs.declared.kind.Kind.{Kind}
 use Rattle.cfg_base.specs.declared.kind.Shape.{Shape}
 use Rattle.cfg_base.specs.declared.kind.Shape.TheVariants.{Container, Fixed, Keyed, Bare, Leaf, Flag, Many}
 use Rattle.cfg_schema.specs.declared.place.Place.{Place}
@@ -12,9 +11,9 @@ use Rattle.cfg_schema.specs.Profile.{row_of}
 use Rattle.cfg_schema.specs.Child.{IsNoHead}
 use Rattle.cfg_schema.specs.Place.{top_place, place_after, and_then, place_from, place_of}
 use Rattle.cfg_schema.specs.Place.{has_words}
-use Rattle.cfg_schema.proofs.LevelLemmas.{led_to, LedTo}
+use Rattle.cfg_schema.proofs.LevelLemmas.{led_to}
 use Rattle.cfg_tree.specs.Statements.{parent_of, last_of, no_step}
-use Rattle.cfg_tree.specs.Typed.{IsNamed, IsNameBy, FollowsFrom, IsTypedPath, IsRight, AreCounted, AreWordsOf}
+use Rattle.cfg_tree.specs.Typed.{IsNamed, IsNameBy, FollowsFrom, IsTypedPath, IsRight, AreWordsOf}
 use Rattle.cfg_tree.specs.Change.{Fits, IsAlmostFit}
 use Rattle.cfg_tree.proofs.PathLemmas.{split}
 

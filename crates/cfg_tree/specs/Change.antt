@@ -1,5 +1,5 @@
 -- What a put and a removal make of the statements, and when a put is refused.
-use Rattle.std.specs.Prelude.{◌≡◌, ℕ, ◌≤◌, ◌<◌, ◌+◌, Bool, true, false, not, ◌&&◌, List, [], ◌∷◌, ◌++◌, length, Option, Some, None, IsSome, IsNone, is_some, is_none, filter, Result, Ok, Err, if◌then◌else◌}
+use Rattle.std.specs.Prelude.{◌≡◌, ℕ, ◌≤◌, ◌<◌, Bool, false, not, ◌&&◌, List, [], ◌∷◌, ◌++◌, length, Option, Some, None, IsSome, is_none, filter, Result, Ok, Err, if◌then◌else◌}
 use Rattle.std.specs.FinMap as map
 use Rattle.cfg_base.specs.declared.path.Step.{Step}
 use Rattle.cfg_base.specs.declared.value.Value.{Value}
@@ -11,7 +11,7 @@ use Rattle.cfg_tree.specs.declared.fault.TreeFault.{TreeFault}
 use Rattle.cfg_tree.specs.declared.fault.TreeFault.TheVariants.{Unknown, BadValue, TooMany, NoMemory}
 use Rattle.cfg_tree.specs.declared.limit.TheConstants.{MAX_STATEMENTS}
 use Rattle.cfg_tree.specs.Statements.{Statements, size_of, parent_of, last_of, is_below, HasParent}
-use Rattle.cfg_tree.specs.Typed.{IsTypedPath, AreCounted, AreCanonical, AreWordsOf}
+use Rattle.cfg_tree.specs.Typed.{IsTypedPath, AreCounted, AreWordsOf}
 use Rattle.cfg_tree.specs.Tree.{ordered_head, IsOrderOf}
 
 abbrev pub has_head : Option (List ℕ) → Step → Bool

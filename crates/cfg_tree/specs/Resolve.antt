@@ -1,6 +1,5 @@
 -- Which statement words name below a level. The rules are this project's own.
-use Rattle.std.specs.Prelude.{Bool, Option, Some, None, true, ◌≡◌, ◌⊎◌, ◌≤◌, ◌<◌, ℕ, List, [], ◌∷◌, ◌++◌, length, drop, slice_index_or, Result, Ok, Err, MatchBool, ◌==◌, nat_lt, Contains}
-use Rattle.std.specs.List.{AllZip}
+use Rattle.std.specs.Prelude.{Bool, Option, Some, None, true, ◌≡◌, ◌⊎◌, ◌≤◌, ◌<◌, ℕ, List, [], ◌∷◌, ◌++◌, length, drop, slice_index_or, Result, Ok, Err, MatchBool, ◌==◌}
 use Rattle.cfg_base.specs.declared.path.Step.{Step}
 use Rattle.cfg_base.specs.declared.kind.Kind.{Kind}
 use Rattle.cfg_base.specs.declared.kind.Shape.{Shape}
@@ -11,7 +10,7 @@ use Rattle.cfg_schema.specs.declared.answer.Child.TheVariants as begun
 use Rattle.cfg_schema.specs.declared.rows.Row.{Row}
 use Rattle.cfg_schema.specs.Profile.{row_of, is_level}
 use Rattle.cfg_schema.specs.Child.{child_of}
-use Rattle.cfg_schema.specs.Place.{top_place, entered, place_of}
+use Rattle.cfg_schema.specs.Place.{entered, place_of}
 use Rattle.cfg_values.specs.Spelling.{IsSpelling, IsCanonicalOf}
 use Rattle.cfg_tree.specs.declared.front.Front.{Front}
 use Rattle.cfg_tree.specs.declared.front.Front.TheVariants.{Level, Statement, Refused}

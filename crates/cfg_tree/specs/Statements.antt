@@ -1,5 +1,5 @@
 -- Statements by their paths. What a path and a parent are is this project's own.
-use Rattle.std.specs.Prelude.{◌≡◌, ℕ, ◌<◌, ◌-◌, Bool, List, [], ◌∷◌, length, take, slice_index_or, IsSome, refl}
+use Rattle.std.specs.Prelude.{ℕ, ◌<◌, ◌-◌, Bool, List, [], length, take, slice_index_or, IsSome, refl}
 use Rattle.std.specs.FinMap as map
 use Rattle.std.specs.Coded.{Coded, code_by, coded×, coded_ℕ, coded_bool, coded_list}
 use Rattle.std.specs.List.{starts_with}

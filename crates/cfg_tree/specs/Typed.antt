@@ -1,16 +1,16 @@
 -- Which paths follow the profile's rows, and which words their statements have.
-use Rattle.std.specs.Prelude.{◌≡◌, ◌≢◌, ◌⊎◌, ℕ, ◌<◌, Bool, true, List, [], ◌∷◌, length, All, Option, Some, None}
+use Rattle.std.specs.Prelude.{◌≡◌, ◌⊎◌, ℕ, ◌<◌, Bool, true, List, [], ◌∷◌, length, All, Some}
 use Rattle.std.specs.List.{IsDistinct}
 use Rattle.cfg_base.specs.declared.path.Step.{Step}
 use Rattle.cfg_base.specs.declared.kind.Kind.{Kind}
 use Rattle.cfg_base.specs.declared.kind.Kind.TheVariants.{OneOf}
 use Rattle.cfg_base.specs.declared.kind.Shape.{Shape}
-use Rattle.cfg_base.specs.declared.kind.Shape.TheVariants.{Container, Fixed, Keyed, Bare, Leaf, Flag, Many}
+use Rattle.cfg_base.specs.declared.kind.Shape.TheVariants.{Keyed, Bare, Leaf, Many}
 use Rattle.cfg_schema.specs.declared.place.Place.{Place}
 use Rattle.cfg_schema.specs.declared.rows.Row.{Row}
 use Rattle.cfg_schema.specs.Profile.{row_of, same_word}
 use Rattle.cfg_schema.specs.Child.{IsNoHead}
-use Rattle.cfg_schema.specs.Place.{top_place, place_after, place_of}
+use Rattle.cfg_schema.specs.Place.{top_place, place_after}
 use Rattle.cfg_values.specs.Spelling.{IsCanonical, IsCanonicalOf}
 use Rattle.cfg_values.specs.Pattern.{IsPattern}
 

@@ -1,4 +1,4 @@
-use Rattle.cfg_tree.proofs.RoomLemmas.{removed_tree, count_small}
+use Rattle.cfg_tree.proofs.RoomLemmas.{removed_tree}
 use Rattle.cfg_tree.proofs.change.remove_in.Goals as goal
 
 pub returns-clause-kept : goal.returns-clause-kept

@@ -1,7 +1,6 @@
-use Rattle.std.proofs.Common.{◌≡◌, ◌∙◌, ap, List}
+use Rattle.std.proofs.Common.{◌∙◌, ap, List}
 use Rattle.std.specs.FinMap as map
 use Rattle.cfg_base.specs.declared.path.Step.{Step}
-use Rattle.cfg_tree.specs.Statements.{Statements}
 use Rattle.cfg_tree.specs.Shown.{shown}
 use Rattle.cfg_tree.proofs.StepLemmas.{stored}
 use Rattle.cfg_tree.proofs.change.store.Goals as goal

@@ -1,6 +1,5 @@
-use Rattle.std.proofs.Common.{◌≡◌, ◌∙◌, ap, List, sym, ℕ, length}
+use Rattle.std.proofs.Common.{◌∙◌, ap, List, sym, length}
 use Rattle.cfg_base.specs.declared.path.Step.{Step}
-use Rattle.cfg_tree.specs.Statements.{Statements, size_of}
 use Rattle.cfg_tree.specs.Shown.{shown, without_all}
 use Rattle.cfg_tree.proofs.StepLemmas.{unstored}
 use Rattle.cfg_tree.proofs.ClearLemmas.{all_taken, counted}

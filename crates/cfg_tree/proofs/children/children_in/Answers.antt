@@ -1,4 +1,4 @@
-use Rattle.std.proofs.Common.{◌≡◌, ap, ◌∙◌, List, ◌+◌, length}
+use Rattle.std.proofs.Common.{ap, ◌∙◌, List, ◌+◌, length}
 use Rattle.cfg_base.specs.declared.path.Step.{Step}
 use Rattle.cfg_tree.proofs.ChildrenLemmas.{children_found}
 use Rattle.cfg_tree.proofs.children.children_in.Goals as goal

@@ -1,4 +1,4 @@
-use Rattle.std.proofs.Common.{◌≡◌, sym, ap, ◌∙◌}
+use Rattle.std.proofs.Common.{sym, ap, ◌∙◌}
 use Rattle.cfg_tree.specs.Children.{order_in}
 use Rattle.cfg_tree.proofs.MapLemmas.{get_is}
 use Rattle.cfg_tree.proofs.children.order_at.Goals as goal

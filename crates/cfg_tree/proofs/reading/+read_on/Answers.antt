@@ -1,5 +1,4 @@
-use Rattle.std.proofs.Common.{◌≡◌, sym, ◌∙◌}
-use Rattle.cfg_tree.proofs.ReadsLemmas.{reading_none, reading_refused, reading_whole, reading_ended, reading_on, front_uses}
+use Rattle.cfg_tree.proofs.ReadsLemmas.{reading_none, reading_refused, reading_whole, reading_ended, reading_on}
 use Rattle.cfg_tree.proofs.reading.+read_on.Goals as goal
 
 pub returns-then-is_empty : goal.returns-then-is_empty

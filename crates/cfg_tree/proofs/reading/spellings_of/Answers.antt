@@ -1,4 +1,4 @@
-use Rattle.std.proofs.Common.{◌≡◌, ◌∙◌, subst, Option, List, ℕ}
+use Rattle.std.proofs.Common.{◌∙◌, subst, Option, List, ℕ}
 use Rattle.cfg_values.specs.Spelling.{IsCanonicalOf}
 use Rattle.cfg_tree.specs.Resolve.{SpelledBy}
 use Rattle.cfg_tree.proofs.SpelledLemmas.{more_spelled}

@@ -1,5 +1,3 @@
-use Rattle.std.proofs.Common.{ap, ◌∙◌, sym, List, length, subst}
-use Rattle.cfg_base.specs.declared.path.Step.{Step}
 use Rattle.cfg_tree.proofs.OrderLemmas.{top_is_unordered, none_there}
 use Rattle.cfg_tree.proofs.reorder.is_ordered.Goals as goal
 

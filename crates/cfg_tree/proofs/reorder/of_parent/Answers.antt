@@ -1,4 +1,4 @@
-use Rattle.std.proofs.Common.{◌≡◌, sym, ◌∙◌, refl}
+use Rattle.std.proofs.Common.{sym, ◌∙◌, refl}
 use Rattle.cfg_tree.proofs.MapLemmas.{get_is}
 use Rattle.cfg_tree.proofs.reorder.of_parent.Goals as goal
 

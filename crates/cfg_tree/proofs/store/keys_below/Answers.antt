@@ -1,4 +1,4 @@
-use Rattle.std.proofs.Common.{◌≡◌, ◌∙◌}
+use Rattle.std.proofs.Common.{◌∙◌}
 use Rattle.cfg_tree.proofs.BelowLemmas.{found_below, found_end, found_other}
 use Rattle.cfg_tree.proofs.store.keys_below.Goals as goal
 use Rattle.cfg_tree.proofs.store.keys_below.Goals.{Joined-next, in-None, in-Some+then-not-is_below}

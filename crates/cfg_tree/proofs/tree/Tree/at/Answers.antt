@@ -1,4 +1,4 @@
-use Rattle.std.proofs.Common.{◌≡◌, sym, ap, ◌∙◌}
+use Rattle.std.proofs.Common.{sym, ap, ◌∙◌}
 use Rattle.std.specs.FinMap as map
 use Rattle.cfg_tree.specs.Statements.{Statements}
 use Rattle.cfg_tree.proofs.MapLemmas.{get_is}

@@ -1,5 +1,4 @@
-use Rattle.std.proofs.Common.{◌≡◌, sym, ap, ◌∙◌, arith, subst}
-use Rattle.std.specs.FinMap as map
+use Rattle.std.proofs.Common.{sym, ap, ◌∙◌}
 use Rattle.cfg_tree.specs.Statements.{Statements, size_of}
 use Rattle.cfg_tree.proofs.MapLemmas.{len_is}
 use Rattle.cfg_tree.proofs.TreeLemmas.{count_fits}

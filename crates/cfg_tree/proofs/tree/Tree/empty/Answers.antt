@@ -1,6 +1,3 @@
-use Rattle.std.proofs.Common.{sym, ap, subst, ◌∙◌}
-use Rattle.cfg_tree.specs.Statements.{Statements}
-use Rattle.cfg_tree.specs.Tree.{IsTree}
 use Rattle.cfg_tree.proofs.TreeLemmas.{nothing_is_tree}
 use Rattle.cfg_tree.proofs.tree.Tree.empty.Goals as goal
 
