@@ -1,5 +1,5 @@
 -- What the bytes that were read say of the file.
-use Rattle.std.proofs.Common.{◌≡◌, ◌≢◌, ◌≤◌, ◌<◌, ℕ, zero, suc, ◌+◌, ◌-◌, ◌==◌, Bool, true, false, not, cond, nat_le, IsTrue, ◌↔◌, List, [], ◌∷◌, ◌++◌, length, get_or, take, drop, refl, sym, ◌∙◌, ap, subst, arith}
+use Rattle.std.proofs.Common.{◌≡◌, ◌≤◌, ◌<◌, ℕ, ◌+◌, ◌-◌, ◌==◌, Bool, true, false, not, cond, nat_le, IsTrue, ◌↔◌, List, [], ◌∷◌, ◌++◌, length, get_or, take, drop, refl, sym, ◌∙◌, ap, subst, arith}
 use Rattle.std.proofs.lemmas.Bool.Decides.{nat_tests}
 use Rattle.std.proofs.lemmas.List.{take_at, drop_at, take_all, map-append}
 use Rattle.std.proofs.lemmas.Slice.Eq.{bytes_eq-Decides}
@@ -11,7 +11,7 @@ use Rattle.record_code.specs.Record.{Record, most_payload}
 use Rattle.record_code.specs.Reading.{byte, slice, size_at, record_at, computed_digest, kept_digest, next_gate, IsRecordAt, first_gate}
 use Rattle.record_code.proofs.Slices.{length-slice, get_or-slice, slice-append}
 use Rattle.commit_journal.specs.declared.header.Header.{Header}
-use Rattle.commit_journal.specs.Pair.{magic, generation, file_gate, HasHeader}
+use Rattle.commit_journal.specs.Pair.{magic, generation}
 use Rattle.record_code.specs.declared.payloads.Placed.{Placed}
 use Rattle.record_code.specs.Reading.{Reads}
 use Rattle.record_code.proofs.ReadingLemmas.{reads_push}

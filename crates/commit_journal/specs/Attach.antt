@@ -1,8 +1,8 @@
 -- What opening a journal reads, and why it may be refused.
-use Rattle.std.specs.Prelude.{◌≡◌, ◌≢◌, ◌≤◌, ◌<◌, ◌+◌, ◌==◌, ◌⊎◌, ◌↔◌, Bool, IsTrue, ℕ, List, [], ◌∷◌, ◌++◌, length, map}
+use Rattle.std.specs.Prelude.{◌≡◌, ◌≢◌, ◌≤◌, ◌==◌, ◌⊎◌, ◌↔◌, IsTrue, ℕ, List, length, map}
 use Rattle.record_code.specs.declared.payloads.Placed.{Placed}
 use Rattle.record_code.specs.Record.{Record}
-use Rattle.record_code.specs.Reading.{byte, slice, Reads, IsRecordAt, first_gate, record_at, computed_digest, kept_digest, next_gate}
+use Rattle.record_code.specs.Reading.{byte, slice, Reads, first_gate, computed_digest, kept_digest}
 use Rattle.commit_journal.specs.declared.why.AttachWhy.{AttachWhy}
 use Rattle.commit_journal.specs.declared.why.AttachWhy.TheVariants.{NotAJournal, Damaged, DiskFault, NoMemory}
 use Rattle.commit_journal.specs.declared.header.Header.{Header}
@@ -63,3 +63,11 @@ IsRefusal (Damaged offset kept computed) = Unit {0}
 IsRefusal NotAJournal = Unit {0}
 IsRefusal DiskFault = ⊥
 IsRefusal NoMemory = ⊥
+
+-- files that have a cause to be refused are refused for that cause, or by a fault or want of memory
+abbrev pub IsOwed : List ℕ → List ℕ → AttachWhy → Type 0
+IsOwed a b answer = (why : AttachWhy) → IsRefusal why → ExplainsPair a b why → IsRefusal answer → answer ≡ why
+
+-- files without a cause to be refused
+abbrev pub IsFree : List ℕ → List ℕ → Type 0
+IsFree a b = (why : AttachWhy) → IsRefusal why → ExplainsPair a b why → ⊥

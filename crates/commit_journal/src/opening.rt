@@ -1,7 +1,7 @@
 ghost use Rattle.std.specs.Prelude.{◌≡◌, ◌<◌, ◌^◌, ◌⊎◌, ◌↔◌, List, ℕ, ◌==◌, ◌+◌, ◌%◌, false, true, IsTrue, IsOk, IfOk, IfErr, IsErrOf, if◌then◌else◌};
 ghost use Rattle.disk_model.specs.Disk.{contents_of};
 ghost use Rattle.record_code.specs.Reading.{Spells};
-ghost use Rattle.commit_journal.specs.Pair.{IsPair, b_counts, first_of, second_of, IsQuiet, FileSettles};
+ghost use Rattle.commit_journal.specs.Pair.{IsPair, PairSpells, Only, b_counts, first_of, second_of, IsQuiet, FileSettles};
 ghost use Rattle.commit_journal.specs.Attach.{records_of, ExplainsPair, ExplainsFile, IsHeaderOf};
 ghost use Rattle.commit_journal.specs.Journal.{PairCause};
 
@@ -120,6 +120,11 @@ pub(crate) fn open_files<D: Disk>(alloc: Global, a: &mut D, b: &mut D) -> Result
     ensures choice { IsTrue (D.tells a.old) → IsTrue (D.tells b.old) → IfOk result (λ opened.
         IsPair (contents_of (D.history a.new)) (contents_of (D.history b.new))
         × (opened.b_counts ≡ b_counts (contents_of (D.history a.new)) (contents_of (D.history b.new)))) }
+    ensures spelled { IsTrue (D.tells a.old) → IsTrue (D.tells b.old) → IfOk result (λ opened.
+        PairSpells (contents_of (D.history a.old)) (contents_of (D.history b.old))
+        (records_of opened.listed.payloads)) }
+    ensures only { IsTrue (D.tells a.old) → IsTrue (D.tells b.old) → IfOk result (λ opened.
+        Only (D.history a.new) (D.history b.new) (records_of opened.listed.payloads)) }
     ensures err { IsTrue (D.tells a.old) → IsTrue (D.tells b.old) → IfErr result (λ why.
         ExplainsPair (contents_of (D.history a.new)) (contents_of (D.history b.new)) why) }
     ensures cause { PairCause (D.faults a.old) (D.faults a.new)

@@ -1,4 +1,3 @@
-use Rattle.std.proofs.Common.{arith}
 use Rattle.commit_journal.proofs.ReadLemmas.{size_is, size_none}
 use Rattle.commit_journal.proofs.reading.read_size.Goals as goal
 

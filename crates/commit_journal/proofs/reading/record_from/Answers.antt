@@ -1,4 +1,4 @@
-use Rattle.std.proofs.Common.{List, ℕ, ap, sym, refl, ◌∙◌}
+use Rattle.std.proofs.Common.{refl, ◌∙◌}
 use Rattle.commit_journal.proofs.ReadLemmas.{damage_is, record_is}
 use Rattle.commit_journal.proofs.reading.record_from.Goals as goal
 
