@@ -1,4 +1,4 @@
-ghost use Rattle.std.specs.Prelude.{◌≡◌, ◌≤◌, ◌<◌, ◌+◌, ◌^◌, ◌++◌, ◌∷◌, [], ℕ, List, length, IsTrue};
+ghost use Rattle.std.specs.Prelude.{◌≡◌, ◌≤◌, ◌<◌, ◌+◌, ◌^◌, ◌++◌, ◌∷◌, [], List, length, IsTrue};
 ghost use Rattle.disk_model.specs.Disk.{contents_of, Leaves, HasCause};
 ghost use Rattle.record_code.specs.Record.{Record, IsSound, body};
 ghost use Rattle.commit_journal.specs.Pair.{IsSettled, IsBeforeOrAfter, MadeCalls};

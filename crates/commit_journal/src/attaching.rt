@@ -1,4 +1,4 @@
-ghost use Rattle.std.specs.Prelude.{◌≡◌, ◌⊎◌, List, ℕ, IsTrue, IfOk, IfErr};
+ghost use Rattle.std.specs.Prelude.{◌≡◌, ◌⊎◌, IsTrue, IfOk, IfErr};
 ghost use Rattle.disk_model.specs.Disk.{contents_of, Rose};
 ghost use Rattle.commit_journal.specs.Journal.{Has, IsIdle, a_of, b_of};
 ghost use Rattle.commit_journal.specs.Pair.{Only, PairSpells};

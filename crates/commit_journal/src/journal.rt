@@ -1,9 +1,8 @@
-ghost use Rattle.std.specs.Prelude.{◌≡◌, ◌≤◌, ◌<◌, ◌+◌, ◌^◌, ◌++◌, ◌∷◌, [], ℕ, List, length, IsTrue, OnOk, OnErr, IsErr, IfOk, ◌↔◌};
+ghost use Rattle.std.specs.Prelude.{◌≡◌, ◌≤◌, ◌<◌, ◌+◌, ◌++◌, ◌∷◌, [], List, length, IsTrue, OnOk, OnErr, IsErr, IfOk, ◌↔◌};
 ghost use Rattle.disk_model.specs.Disk.{contents_of};
 ghost use Rattle.record_code.specs.Reading.{byte};
-ghost use Rattle.disk_model.specs.Disk.{Rose};
 ghost use Rattle.record_code.specs.Record.{Record};
-ghost use Rattle.commit_journal.specs.Pair.{SpellsEither, PairSpells, Only, WasLeft, first_of, second_of};
+ghost use Rattle.commit_journal.specs.Pair.{SpellsEither, Only, WasLeft, first_of, second_of};
 ghost use Rattle.commit_journal.specs.Journal.{Tell, IsIdle, IsInFlight, Has, Awaits, LeavesBoth, PairCause, a_of, b_of, HasSettled, settled_list, counted, CountsCalls};
 
 use crate::appending::append_to;

@@ -1,7 +1,7 @@
-ghost use Rattle.std.specs.Prelude.{◌≡◌, ◌<◌, ◌^◌, ◌⊎◌, ◌↔◌, List, ℕ, ◌==◌, ◌+◌, ◌%◌, false, true, IsTrue, IsOk, IfOk, IfErr, IsErrOf, if◌then◌else◌};
+ghost use Rattle.std.specs.Prelude.{◌≡◌, ◌<◌, ◌^◌, ◌⊎◌, ◌↔◌, List, ℕ, ◌==◌, false, true, IsTrue, IsOk, IfOk, IfErr, IsErrOf};
 ghost use Rattle.disk_model.specs.Disk.{contents_of};
 ghost use Rattle.record_code.specs.Reading.{Spells};
-ghost use Rattle.commit_journal.specs.Pair.{IsPair, PairSpells, Only, b_counts, first_of, second_of, IsQuiet, FileSettles};
+ghost use Rattle.commit_journal.specs.Pair.{IsPair, PairSpells, Only, b_counts, IsQuiet, FileSettles};
 ghost use Rattle.commit_journal.specs.Attach.{records_of, ExplainsPair, ExplainsFile, IsHeaderOf};
 ghost use Rattle.commit_journal.specs.Journal.{PairCause};
 

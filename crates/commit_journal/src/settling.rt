@@ -1,4 +1,4 @@
-ghost use Rattle.std.specs.Prelude.{◌≡◌, ◌≤◌, ◌<◌, ◌==◌, ℕ, length, IsTrue, IsSome, IfSome, IsNone, slice_index};
+ghost use Rattle.std.specs.Prelude.{◌≡◌, ◌<◌, ◌==◌, ℕ, length, IsTrue, IsSome, IfSome, IsNone, slice_index};
 ghost use Rattle.disk_model.specs.Disk.{contents_of, HasCause};
 ghost use Rattle.record_code.specs.Reading.{slice, byte};
 ghost use Rattle.commit_journal.specs.Pair.{IsQuiet, FileSettles, MadeCalls};
