@@ -15,7 +15,7 @@ use Rattle.commit_journal.specs.Pair.{magic, generation}
 use Rattle.record_code.specs.declared.payloads.Placed.{Placed}
 use Rattle.record_code.specs.Reading.{Reads}
 use Rattle.record_code.proofs.ReadingLemmas.{reads_push}
-use Rattle.commit_journal.specs.Attach.{IsHeaderOf, IsDamage, record_of, records_of}
+use Rattle.commit_journal.specs.Attach.{IsHeaderOf, IsDamage, record_of, records_of, PlacedFrom}
 
 kept_size : (n : ℕ) → n ≤ most_payload → n ≡ cond (nat_le n most_payload) n 0
 kept_size n le = grind (arith, nat_tests)
@@ -125,3 +125,13 @@ read_more f placed placed' p gate next reads at is more =
     subst (λ (n : ℕ). Reads f first_gate (records_of placed') n) (sym is)
     (subst (λ (rs : List Record). Reads f first_gate rs (next_gate f gate)) (sym (ap records_of more ∙ map-append record_of placed (p ∷ [])))
     (reads_push f first_gate (records_of placed) gate (record_of p) reads at))
+
+placed_push : (g : ℕ) (placed : List Placed) (p : Placed) (gate : ℕ) → PlacedFrom g placed gate → p.offset ≡ gate → PlacedFrom g (placed ++ p ∷ []) (gate + 38 + length p.payload)
+placed_push g [] p gate places at = (at ∙ sym places, ap (λ (n : ℕ). n + 38 + length p.payload) places)
+placed_push g (q ∷ placed) p gate places at = (places.0, placed_push (g + 38 + length q.payload) placed p gate places.1 at)
+
+-- and it stands behind those before it
+pub placed_more : (placed placed' : List Placed) (p : Placed) (g gate next : ℕ) → PlacedFrom g placed gate → p.offset ≡ gate → next ≡ gate + 38 + length p.payload → placed' ≡ placed ++ p ∷ []
+    → PlacedFrom g placed' next
+placed_more placed placed' p g gate next places at behind more =
+    subst (λ (n : ℕ). PlacedFrom g placed' n) (sym behind) (subst (λ (l : List Placed). PlacedFrom g l (gate + 38 + length p.payload)) (sym more) (placed_push g placed p gate places at))

@@ -1,8 +1,9 @@
 ghost use Rattle.std.specs.Prelude.{◌≡◌, ◌⊎◌, IsTrue, IfOk, IfErr};
 ghost use Rattle.disk_model.specs.Disk.{contents_of, Rose};
 ghost use Rattle.commit_journal.specs.Journal.{Has, IsIdle, a_of, b_of};
+ghost use Rattle.record_code.specs.Reading.{first_gate};
 ghost use Rattle.commit_journal.specs.Pair.{Only, PairSpells};
-ghost use Rattle.commit_journal.specs.Attach.{records_of, ExplainsPair, IsFree, IsOwed};
+ghost use Rattle.commit_journal.specs.Attach.{records_of, PlacedFrom, ExplainsPair, IsFree, IsOwed};
 
 use crate::flight::Flight;
 use crate::journal::Journal;
@@ -36,6 +37,8 @@ impl<D: Disk> Journal<D> {
         // The records are those that the files spell.
         ensures spelled { IsTrue (D.tells a) → IsTrue (D.tells b) → IfOk result (λ opened.
             PairSpells (contents_of (D.history a)) (contents_of (D.history b)) (records_of opened.1)) }
+        // Each with the place of its gate.
+        ensures places { IfOk result (λ opened. PlacedFrom first_gate opened.1 opened.0.gate) }
         // Each pair of images spells the list, and no other.
         ensures only { IsTrue (D.tells a) → IsTrue (D.tells b) → IfOk result (λ opened.
             Only (a_of D.history opened.0) (b_of D.history opened.0) (records_of opened.1)) }

@@ -3,7 +3,7 @@ ghost use Rattle.std.specs.Int.{w32, from_be_bytes};
 ghost use Rattle.sha2.specs.Sha256.{sha256};
 ghost use Rattle.disk_model.specs.Disk.{contents_of, HasCause};
 ghost use Rattle.record_code.specs.Reading.{byte, slice, size_at, next_gate, IsRecordAt, Spells};
-ghost use Rattle.commit_journal.specs.Attach.{record_of, records_of, ExplainsRecord, ExplainsFile};
+ghost use Rattle.commit_journal.specs.Attach.{record_of, records_of, PlacedFrom, ExplainsRecord, ExplainsFile};
 
 use crate::header::FIRST_GATE;
 use crate::settling::{fill, read_gate};
@@ -93,6 +93,7 @@ fn record_from(gate: u64, head: &[u8; 5], rest: Vec<u8>) -> Result<Placed, Attac
         → rest.items ≡ slice file (gate + 6) (size_at file gate + 32)
         → byte file gate ≡ 1 → IfOk result (λ placed. IsRecordAt file gate (record_of placed)) }
     ensures offset { IfOk result (λ placed. placed.offset ≡ gate) }
+    ensures size { IfOk result (λ placed. length placed.payload + 32 ≡ vec_len rest) }
     ensures err { (file : List ℕ) → head.now ≡ slice file (gate + 1) 5
         → rest.items ≡ slice file (gate + 6) (size_at file gate + 32)
         → byte file gate ≡ 1 → IfErr result (λ why. ExplainsRecord file gate why) }
@@ -126,6 +127,8 @@ fn read_record<D: Disk>(alloc: Global, disk: &mut D, gate: u64) -> Result<(Place
     ensures history { D.history disk.new ≡ D.history disk.old }
     ensures later { IfOk result (λ read. gate < read.1) }
     ensures bound { IfOk result (λ read. read.1 < 2 ^ 63) }
+    ensures offset { IfOk result (λ read. read.0.offset ≡ gate) }
+    ensures behind { IfOk result (λ read. read.1 ≡ gate + 38 + length read.0.payload) }
     ensures ok { IsTrue (D.tells disk.old)
         → byte (contents_of (D.history disk.old)) gate ≡ 1
         → IfOk result (λ read. IsRecordAt (contents_of (D.history disk.old)) gate (record_of read.0)) }
@@ -156,6 +159,7 @@ fn read_records<D: Disk>(alloc: Global, disk: &mut D, len: u64) -> Result<Listed
     ensures tells { D.tells disk.new ≡ D.tells disk.old }
     ensures history { D.history disk.new ≡ D.history disk.old }
     ensures bound { IfOk result (λ listed. listed.gate < 2 ^ 62) }
+    ensures places { IfOk result (λ listed. PlacedFrom 17 listed.payloads listed.gate) }
     ensures ok { IsTrue (D.tells disk.old) → len ≡ length (contents_of (D.history disk.old))
         → IfOk result (λ listed.
         Spells (contents_of (D.history disk.old)) (records_of listed.payloads) listed.gate) }
@@ -184,6 +188,7 @@ pub(crate) fn list_file<D: Disk>(alloc: Global, disk: &mut D) -> Result<Listed, 
     ensures tells { D.tells disk.new ≡ D.tells disk.old }
     ensures history { D.history disk.new ≡ D.history disk.old }
     ensures bound { IfOk result (λ listed. listed.gate < 2 ^ 62) }
+    ensures places { IfOk result (λ listed. PlacedFrom 17 listed.payloads listed.gate) }
     ensures ok { IsTrue (D.tells disk.old) → IfOk result (λ listed.
         Spells (contents_of (D.history disk.old)) (records_of listed.payloads) listed.gate) }
     ensures err { IsTrue (D.tells disk.old) → IfErr result (λ why.
