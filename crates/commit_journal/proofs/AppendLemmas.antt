@@ -1,11 +1,11 @@
 -- What a crash leaves of the file that counts, at each moment of an append.
-use Rattle.std.proofs.Common.{◌≡◌, ◌≢◌, ◌≤◌, ◌<◌, ◌⊎◌, inl, inr, ⊎_elim, ℕ, zero, suc, ◌+◌, ◌-◌, ◌^◌, Bool, true, false, List, [], ◌∷◌, ◌++◌, length, get_or, refl, sym, ◌∙◌, ap, subst, arith}
+use Rattle.std.proofs.Common.{◌≡◌, ◌≢◌, ◌≤◌, ◌<◌, ◌⊎◌, inl, inr, ⊎_elim, ℕ, ◌+◌, ◌-◌, ◌^◌, true, false, List, [], ◌∷◌, ◌++◌, length, get_or, refl, sym, ◌∙◌, ap, subst, arith}
 use Rattle.std.proofs.lemmas.Bool.{cases_eq}
-use Rattle.disk_model.specs.Disk.{Call, Write, Sync, History, State, put, during, written, settled, state_of, contents_of, IsImage, Since, Leaves, Wrote, Synced}
-use Rattle.disk_model.proofs.Images.{Calm, calm_from, put_other, put_same, image_byte, image_inside, settled_image, cleared_image, after_write, after_sync, synced_within, contents_image, started, goes_on_write, goes_on_sync, wrote_done, synced_done, put_no_shorter}
+use Rattle.disk_model.specs.Disk.{Write, History, State, put, during, written, settled, state_of, contents_of, IsImage, Leaves, Wrote, Synced}
+use Rattle.disk_model.proofs.Images.{calm_from, put_other, put_same, image_byte, image_inside, settled_image, after_write, after_sync, synced_within, contents_image, started, goes_on_write, goes_on_sync, wrote_done, synced_done, put_no_shorter}
 use Rattle.disk_model.proofs.States.{length-put}
 use Rattle.record_code.specs.Record.{Record, IsSound, body}
-use Rattle.record_code.specs.Reading.{byte, slice, Agree, Reads, Spells, IsRecordAt, next_gate, first_gate}
+use Rattle.record_code.specs.Reading.{byte, slice, Agree, Reads, Spells, next_gate, first_gate}
 use Rattle.record_code.proofs.Slices.{slice_is, slice_same}
 use Rattle.record_code.proofs.ReadingLemmas.{length-body, reads_later, reads_same, reads_push, body_there, Stands}
 use Rattle.commit_journal.specs.Pair.{IsQuiet, IsSettled, IsAfter, IsBeforeOrAfter}

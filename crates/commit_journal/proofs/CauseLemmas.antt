@@ -1,13 +1,13 @@
 -- The causes of a refused opening exclude each other, and a list that is spelled.
-use Rattle.std.proofs.Common.{◌≡◌, ◌≢◌, ◌≤◌, ◌<◌, ◌⊎◌, ⊎_elim, ℕ, ◌++◌, List, [], ◌∷◌, length, refl, sym, ◌∙◌, ap, subst, arith}
+use Rattle.std.proofs.Common.{◌≡◌, ◌≢◌, ◌≤◌, ⊎_elim, ℕ, List, [], ◌∷◌, length, refl, sym, ◌∙◌, ap, arith}
 use Rattle.std.proofs.lemmas.List.{get_or_past}
 use Rattle.record_code.specs.Record.{Record}
-use Rattle.record_code.specs.Reading.{byte, Reads, Spells, IsRecordAt, first_gate}
+use Rattle.record_code.specs.Reading.{byte, Reads, Spells, first_gate, next_gate, kept_digest, computed_digest}
 use Rattle.record_code.proofs.ReadingLemmas.{reads_unique, reads_split}
-use Rattle.commit_journal.specs.Pair.{IsPair, counting_of, PairSpells}
+use Rattle.commit_journal.specs.Pair.{counting_of, PairSpells}
 use Rattle.commit_journal.specs.declared.why.AttachWhy.{AttachWhy}
 use Rattle.commit_journal.specs.declared.why.AttachWhy.TheVariants.{NotAJournal, Damaged, DiskFault, NoMemory}
-use Rattle.commit_journal.specs.Attach.{IsDamage, ExplainsFile, ExplainsPair, IsRefusal}
+use Rattle.commit_journal.specs.Attach.{IsDamage, ExplainsPair, IsRefusal}
 
 past_shut : (f : List ℕ) (last : ℕ) → length f ≤ last → byte f last ≢ 1
 past_shut f last le one = absurd (let z : 0 ≡ 1 = sym (get_or_past f last 0 le) ∙ one in omega arith)
@@ -40,3 +40,36 @@ apart a b offset kept computed none damaged = ⊎_elim
     (λ not_pair. not_pair damaged.0)
     (λ end. no_damage (counting_of a b) end.1.0 damaged.1.0 end.1.1 offset kept computed end.1.2 (past_shut (counting_of a b) end.1.1 end.1.3) damaged.1.1 damaged.1.2)
     none
+
+-- the first damage is at one place
+same_place : (f : List ℕ) (g : ℕ) (rs rs' : List Record) (o o' : ℕ) (kept computed kept' computed' : List ℕ) → Reads f g rs o → Reads f g rs' o'
+    → IsDamage f o o kept computed → IsDamage f o' o' kept' computed' → o ≡ o'
+same_place f g [] [] o o' kept computed kept' computed' here there damage damage' = sym here ∙ there
+same_place f g [] (r ∷ rs') o o' kept computed kept' computed' here there damage damage' =
+    absurd (damage.differ (damage.kept_is ∙ ap (kept_digest f) (sym here) ∙ sym there.0.right ∙ ap (computed_digest f) here ∙ sym damage.computed_is))
+same_place f g (r ∷ rs) [] o o' kept computed kept' computed' here there damage damage' =
+    absurd (damage'.differ (damage'.kept_is ∙ ap (kept_digest f) (sym there) ∙ sym here.0.right ∙ ap (computed_digest f) there ∙ sym damage'.computed_is))
+same_place f g (r ∷ rs) (r' ∷ rs') o o' kept computed kept' computed' here there damage damage' =
+    same_place f (next_gate f g) rs rs' o o' kept computed kept' computed' here.1 there.1 damage damage'
+
+damaged_same : (f : List ℕ) (rs rs' : List Record) (o o' : ℕ) (kept computed kept' computed' : List ℕ) → Reads f first_gate rs o → Reads f first_gate rs' o'
+    → IsDamage f o o kept computed → IsDamage f o' o' kept' computed' → Damaged o kept computed ≡ Damaged o' kept' computed'
+damaged_same f rs rs' o o' kept computed kept' computed' reads reads' damage damage' =
+    let place = same_place f first_gate rs rs' o o' kept computed kept' computed' reads reads' damage damage' in
+    let k : kept ≡ kept' = damage.kept_is ∙ ap (kept_digest f) place ∙ sym damage'.kept_is in
+    let d : computed ≡ computed' = damage.computed_is ∙ ap (computed_digest f) place ∙ sym damage'.computed_is in
+    ap (λ (n : ℕ). Damaged n kept computed) place ∙ ap (λ (l : List ℕ). Damaged o' l computed) k ∙ ap (λ (l : List ℕ). Damaged o' kept' l) d
+
+-- a refusal whose cause holds is the one that is owed
+pub owed : (a b : List ℕ) (answer why : AttachWhy) → ExplainsPair a b answer → IsRefusal why → ExplainsPair a b why → IsRefusal answer → answer ≡ why
+owed a b (Damaged o kept computed) (Damaged o' kept' computed') answered refusal cause is =
+    damaged_same (counting_of a b) answered.1.0 cause.1.0 o o' kept computed kept' computed' answered.1.1 cause.1.1 answered.1.2 cause.1.2
+owed a b (Damaged o kept computed) NotAJournal answered refusal cause is = absurd (apart a b o kept computed cause answered)
+owed a b (Damaged o kept computed) DiskFault answered refusal cause is = absurd refusal
+owed a b (Damaged o kept computed) NoMemory answered refusal cause is = absurd refusal
+owed a b NotAJournal (Damaged o kept computed) answered refusal cause is = absurd (apart a b o kept computed answered cause)
+owed a b NotAJournal NotAJournal answered refusal cause is = refl
+owed a b NotAJournal DiskFault answered refusal cause is = absurd refusal
+owed a b NotAJournal NoMemory answered refusal cause is = absurd refusal
+owed a b DiskFault why answered refusal cause is = absurd is
+owed a b NoMemory why answered refusal cause is = absurd is

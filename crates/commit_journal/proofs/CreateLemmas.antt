@@ -1,14 +1,14 @@
 -- What two files spell that were just made.
-use Rattle.std.proofs.Common.{◌≡◌, ◌≢◌, ◌≤◌, ◌<◌, ◌⊎◌, inl, inr, ℕ, zero, suc, ◌+◌, ◌-◌, ◌%◌, ◌^◌, ◌==◌, Bool, true, false, cond, List, [], ◌∷◌, ◌++◌, length, get_or, refl, sym, ◌∙◌, ap, subst, arith, length-append}
+use Rattle.std.proofs.Common.{◌≡◌, ◌≤◌, ◌<◌, ◌⊎◌, inl, inr, ℕ, ◌+◌, ◌-◌, ◌%◌, ◌^◌, ◌==◌, true, false, cond, List, [], ◌∷◌, ◌++◌, length, get_or, refl, sym, ◌∙◌, ap, subst, arith, length-append}
 use Rattle.std.proofs.lemmas.List.{get_or-append_right, get_or_append_left}
-use Rattle.disk_model.specs.Disk.{History, put, contents_of}
+use Rattle.disk_model.specs.Disk.{put}
 use Rattle.disk_model.proofs.Images.{put_same, put_other, put_no_shorter}
 use Rattle.disk_model.proofs.States.{length-put}
 use Rattle.record_code.specs.Record.{Record, IsSound, body}
-use Rattle.record_code.specs.Reading.{byte, slice, Reads, Spells, first_gate, next_gate}
+use Rattle.record_code.specs.Reading.{byte, slice, Spells, first_gate}
 use Rattle.record_code.proofs.Slices.{slice_is}
 use Rattle.record_code.proofs.ReadingLemmas.{length-body, body_there}
-use Rattle.commit_journal.specs.Pair.{head_a, head_b, magic, file_gate, generation, HasHeader, IsPair, b_counts, IsChosen}
+use Rattle.commit_journal.specs.Pair.{head_a, head_b, magic, file_gate, generation, HasHeader, b_counts, IsChosen}
 
 -- a file with bytes put at its start
 front : (bytes old : List ℕ) (k : ℕ) → k < length bytes → byte (put 0 bytes old) k ≡ get_or bytes k 0

@@ -4,3 +4,4 @@ pub mod SettleLemmas
 pub mod ReadLemmas
 pub mod CreateLemmas
 pub mod CauseLemmas
+pub mod CallLemmas

@@ -1,16 +1,16 @@
 -- What two files spell, where one of them goes on and the other stays.
-use Rattle.std.proofs.Common.{◌≡◌, ◌≢◌, ◌≤◌, ◌<◌, ◌⊎◌, inl, inr, ⊎_elim, ℕ, zero, suc, ◌+◌, ◌-◌, ◌%◌, ◌^◌, ◌==◌, min, Bool, true, false, cond, List, [], ◌∷◌, ◌++◌, length, get_or, refl, sym, ◌∙◌, ap, subst, arith}
+use Rattle.std.proofs.Common.{◌≡◌, ◌≤◌, inl, inr, ⊎_elim, ℕ, ◌+◌, ◌-◌, ◌%◌, ◌^◌, ◌==◌, min, Bool, true, false, cond, List, [], ◌∷◌, ◌++◌, length, refl, sym, ◌∙◌, ap, subst, arith}
 use Rattle.std.proofs.lemmas.List.{append-nil}
 use Rattle.std.specs.Int.{w64, from_be_bytes}
-use Rattle.disk_model.specs.Disk.{Call, History, State, state_of, contents_of, IsImage, Since, Leaves}
+use Rattle.disk_model.specs.Disk.{History, state_of, contents_of, IsImage, Leaves}
 use Rattle.disk_model.proofs.Images.{settled_image, synced_within, contents_image, leaves_now}
 use Rattle.std.specs.List.{All}
 use Rattle.record_code.specs.Record.{Record, IsSound, body}
 use Rattle.commit_journal.specs.Journal.{gate_behind}
-use Rattle.record_code.specs.Reading.{byte, slice, Agree, Spells, first_gate}
+use Rattle.record_code.specs.Reading.{Agree, Spells, first_gate}
 use Rattle.record_code.proofs.Slices.{slice_same}
 use Rattle.commit_journal.proofs.AppendLemmas.{gate_from}
-use Rattle.commit_journal.specs.Pair.{magic, file_gate, generation, HasHeader, IsPair, b_counts, counting_of, PairSpells, first_of, second_of, IsChosen, IsQuiet, IsAfter, IsBeforeOrAfter, IsSettled, LeavesPair, Rests, Waits, SpellsEither, Only}
+use Rattle.commit_journal.specs.Pair.{file_gate, generation, HasHeader, IsPair, b_counts, PairSpells, first_of, second_of, IsChosen, IsQuiet, IsBeforeOrAfter, IsSettled, LeavesPair, Rests, Waits, SpellsEither, Only}
 
 header_same : (f c : List ℕ) → HasHeader f → Agree f c 0 first_gate → first_gate ≤ length c → HasHeader c
 header_same f c header agree long = record {
@@ -148,6 +148,34 @@ rests_only true h o gate rs rests c d image_c image_d =
     subst (λ (l : List ℕ). PairSpells l d rs) (sym (settled_image (state_of o) c rests.other_quiet image_c))
     (subst (λ (l : List ℕ). PairSpells (contents_of o) l rs) (sym (settled_image (state_of h) d rests.settled.quiet image_d))
     (chosen_spells true (contents_of h) (contents_of o) rs gate rests.chosen rests.settled.spells))
+
+-- files that spell a list and are quiet leave that list alone
+pub quiet_only : (a b : History) (rs : List Record) → IsQuiet a → IsQuiet b → PairSpells (contents_of a) (contents_of b) rs → Only a b rs
+quiet_only a b rs quiet_a quiet_b spells c d image_c image_d =
+    subst (λ (l : List ℕ). PairSpells l d rs) (sym (settled_image (state_of a) c quiet_a image_c))
+    (subst (λ (l : List ℕ). PairSpells (contents_of a) l rs) (sym (settled_image (state_of b) d quiet_b image_d)) spells)
+
+-- the file that counts by its choice spells the pair's list
+pair_spells : (a b : List ℕ) (choice : Bool) (rs : List Record) (last : ℕ) → IsPair a b → choice ≡ b_counts a b → (choice ≡ false → Spells a rs last)
+    → (choice ≡ true → Spells b rs last) → PairSpells a b rs
+pair_spells a b false rs last pair is spells_a spells_b = record {
+  pair = pair;
+  last = last;
+  spells = subst (λ (v : Bool). Spells (cond v b a) rs last) is (spells_a refl);
+}
+pair_spells a b true rs last pair is spells_a spells_b = record {
+  pair = pair;
+  last = last;
+  spells = subst (λ (v : Bool). Spells (cond v b a) rs last) is (spells_b refl);
+}
+
+-- and the file that was read later had the same history
+pub read_spells : (a a' b b' : History) (choice : Bool) (rs : List Record) (last : ℕ) → a' ≡ a → b' ≡ b
+    → IsPair (contents_of a) (contents_of b) × (choice ≡ b_counts (contents_of a) (contents_of b))
+    → (choice ≡ false → Spells (contents_of a') rs last) → (choice ≡ true → Spells (contents_of b') rs last) → PairSpells (contents_of a) (contents_of b) rs
+read_spells a a' b b' choice rs last same_a same_b chosen spells_a spells_b = pair_spells (contents_of a) (contents_of b) choice rs last chosen.0 chosen.1
+    (λ is. subst (λ (h : History). Spells (contents_of h) rs last) same_a (spells_a is))
+    (λ is. subst (λ (h : History). Spells (contents_of h) rs last) same_b (spells_b is))
 
 -- a list of one record
 pub the_one : (l : List Record) → length l ≡ 1 → (r : Record) × (l ≡ r ∷ [])

@@ -1,17 +1,16 @@
 -- What settling leaves of each file.
-use Rattle.std.proofs.Common.{◌≡◌, ◌≢◌, ◌≤◌, ◌<◌, ◌⊎◌, inl, inr, ⊎_elim, ℕ, zero, suc, ◌+◌, ◌-◌, ◌^◌, ◌==◌, min, Bool, true, false, List, [], ◌∷◌, ◌++◌, length, get_or, refl, sym, ◌∙◌, ap, subst, arith}
+use Rattle.std.proofs.Common.{◌≡◌, ◌≢◌, inl, inr, ⊎_elim, ℕ, ◌==◌, Bool, true, false, List, [], ◌∷◌, ◌++◌, refl, sym, ◌∙◌, ap, subst, arith}
 use Rattle.std.proofs.lemmas.Bool.Decides.{nat_tests}
-use Rattle.std.proofs.lemmas.List.{append-nil}
-use Rattle.disk_model.specs.Disk.{Call, Write, Sync, Refused, History, State, settled, step, state_of, contents_of, IsImage, Since, Leaves, Called, DidNothing, Synced}
+use Rattle.disk_model.specs.Disk.{Call, Sync, Refused, History, State, settled, step, state_of, contents_of, IsImage, Called, DidNothing, Synced}
 use Rattle.disk_model.proofs.Images.{settled_image, started, goes_on_sync, synced_done, synced_contents, synced_within, contents_image, leaves_now}
 use Rattle.disk_model.proofs.States.{state_called}
-use Rattle.record_code.specs.Record.{Record, body}
-use Rattle.record_code.specs.Reading.{byte, Agree, Spells, first_gate}
-use Rattle.commit_journal.specs.Pair.{IsQuiet, IsSettled, IsAfter, IsBeforeOrAfter, IsChosen, FileSettles, Rests, Waits, LeavesPair, WasLeft, SpellsEither, first_of, second_of}
+use Rattle.record_code.specs.Record.{Record}
+use Rattle.record_code.specs.Reading.{byte, Spells}
+use Rattle.commit_journal.specs.Pair.{IsQuiet, IsSettled, IsAfter, IsBeforeOrAfter, IsChosen, FileSettles, Waits, LeavesPair, WasLeft, SpellsEither, first_of, second_of}
 use Rattle.commit_journal.specs.Journal.{gate_behind, IsInFlight}
 use Rattle.commit_journal.specs.declared.flight.Flight.{Flight}
 use Rattle.commit_journal.specs.declared.flight.Flight.TheVariants.{Nothing, Record as InFlight}
-use Rattle.commit_journal.proofs.PairLemmas.{chosen_same, either_spells}
+use Rattle.commit_journal.proofs.PairLemmas.{either_spells}
 
 settled_quiet : (s : State) (cleared : Bool) → ((k : ℕ) → s.pending k ≡ false) → (k : ℕ) → (settled s cleared).pending k ≡ false
 settled_quiet s true quiet k = refl

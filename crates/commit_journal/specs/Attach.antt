@@ -1,8 +1,8 @@
 -- What opening a journal reads, and why it may be refused.
-use Rattle.std.specs.Prelude.{◌≡◌, ◌≢◌, ◌≤◌, ◌<◌, ◌+◌, ◌==◌, ◌⊎◌, ◌↔◌, Bool, IsTrue, ℕ, List, [], ◌∷◌, ◌++◌, length, map}
+use Rattle.std.specs.Prelude.{◌≡◌, ◌≢◌, ◌≤◌, ◌==◌, ◌⊎◌, ◌↔◌, IsTrue, ℕ, List, length, map, ◌+◌, [], ◌∷◌}
 use Rattle.record_code.specs.declared.payloads.Placed.{Placed}
 use Rattle.record_code.specs.Record.{Record}
-use Rattle.record_code.specs.Reading.{byte, slice, Reads, IsRecordAt, first_gate, record_at, computed_digest, kept_digest, next_gate}
+use Rattle.record_code.specs.Reading.{byte, slice, Reads, first_gate, computed_digest, kept_digest}
 use Rattle.commit_journal.specs.declared.why.AttachWhy.{AttachWhy}
 use Rattle.commit_journal.specs.declared.why.AttachWhy.TheVariants.{NotAJournal, Damaged, DiskFault, NoMemory}
 use Rattle.commit_journal.specs.declared.header.Header.{Header}
@@ -14,6 +14,11 @@ record_of p = record { kind = p.kind; payload = p.payload }
 
 abbrev pub records_of : List Placed → List Record
 records_of placed = map record_of placed
+
+-- the records stand one behind the other, the first with its gate at g, and the gate behind the last is at `last`
+abbrev pub PlacedFrom : ℕ → List Placed → ℕ → Type 0
+PlacedFrom g [] last = g ≡ last
+PlacedFrom g (p ∷ placed) last = (p.offset ≡ g) × PlacedFrom (g + 38 + length p.payload) placed last
 
 -- a gated record whose digest isn't that of its bytes
 pub record IsDamage (file : List ℕ) (g offset : ℕ) (kept computed : List ℕ) : Type 0 where
@@ -63,3 +68,11 @@ IsRefusal (Damaged offset kept computed) = Unit {0}
 IsRefusal NotAJournal = Unit {0}
 IsRefusal DiskFault = ⊥
 IsRefusal NoMemory = ⊥
+
+-- files that have a cause to be refused are refused for that cause, or by a fault or want of memory
+abbrev pub IsOwed : List ℕ → List ℕ → AttachWhy → Type 0
+IsOwed a b answer = (why : AttachWhy) → IsRefusal why → ExplainsPair a b why → IsRefusal answer → answer ≡ why
+
+-- files without a cause to be refused
+abbrev pub IsFree : List ℕ → List ℕ → Type 0
+IsFree a b = (why : AttachWhy) → IsRefusal why → ExplainsPair a b why → ⊥

@@ -16,6 +16,9 @@ pub record JournalView (D : Type 0) : Type 0 where
   pub gate : ℕ
   pub flight : Flight
   pub limit : ℕ
+  -- how many calls each disk made since the journal was opened
+  pub counting_calls : ℕ
+  pub other_calls : ℕ
 
 -- both disks tell what they hold
 abbrev pub Tell : {D : Type 0} → (D → Bool) → JournalView D → Type 0
@@ -43,6 +46,15 @@ pub record Has {D : Type 0} (history : D → History) (v : JournalView D) (rs : 
 pub record Awaits {D : Type 0} (history : D → History) (v : JournalView D) (rs : List Record) (r : Record) : Type 0 where
   pub flight : v.flight ≡ InFlight (gate_behind v.gate r)
   pub waits : Waits v.b_counts (history v.counting) (history v.other) v.gate rs r
+
+-- a count that goes on, and stands still at its last value
+abbrev pub counted : ℕ → ℕ → ℕ
+counted count more = min (count + more) (2 ^ 64 - 1)
+
+-- the count went on by the calls that the disk made meanwhile; of a disk whose own count is at its end nothing is said
+abbrev pub CountsCalls : History → History → ℕ → ℕ → Type 0
+CountsCalls h h' count count' =
+    length h'.calls < 2 ^ 64 - 1 → count' ≡ counted count (length h'.calls - length h.calls)
 
 -- the history of A, and that of B
 abbrev pub a_of : {D : Type 0} → (D → History) → JournalView D → History
@@ -81,3 +93,8 @@ next_of (InFlight next) gate = next
 abbrev pub HasSettled : {D : Type 0} → (D → History) → JournalView D → List Record → Record → Settled → Type 0
 HasSettled history v rs r Kept = Has history v (rs ++ r ∷ [])
 HasSettled history v rs r NotKept = Has history v rs
+
+-- the list that a settled journal has
+abbrev pub settled_list : List Record → Record → Settled → List Record
+settled_list rs r Kept = rs ++ r ∷ []
+settled_list rs r NotKept = rs

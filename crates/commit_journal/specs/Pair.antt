@@ -1,7 +1,7 @@
 -- Two files as one journal: their headers, which of them counts, and the list that they spell.
-use Rattle.std.specs.Prelude.{◌≡◌, ◌≤◌, ◌<◌, ◌+◌, ◌%◌, ◌^◌, ◌==◌, ◌⊎◌, Bool, true, false, ℕ, List, [], ◌∷◌, ◌++◌, length, if◌then◌else◌}
+use Rattle.std.specs.Prelude.{◌≡◌, ◌≤◌, ◌<◌, ◌+◌, ◌-◌, ◌%◌, ◌^◌, ◌==◌, ◌⊎◌, Bool, true, false, ℕ, List, [], ◌∷◌, ◌++◌, length, if◌then◌else◌}
 use Rattle.std.specs.Int.{w64, from_be_bytes}
-use Rattle.disk_model.specs.Disk.{History, State, Call, Since, IsImage, Leaves, state_of, contents_of}
+use Rattle.disk_model.specs.Disk.{History, Call, Since, IsImage, Leaves, state_of, contents_of}
 use Rattle.record_code.specs.Record.{Record, body}
 use Rattle.record_code.specs.Reading.{byte, slice, Agree, Spells, first_gate}
 
@@ -126,3 +126,7 @@ pub record FileSettles (h h' : History) : Type 0 where
 -- an image of each disk that a crash at that moment might have left
 abbrev pub WasLeft : History → History → List ℕ → List ℕ → Type 0
 WasLeft a b c d = IsImage (state_of a) c × IsImage (state_of b) d
+
+-- a disk made that many calls, or its own count of them stands at its end
+pub record MadeCalls (h h' : History) (calls : ℕ) : Type 0 where
+  pub more : (length h'.calls ≡ length h.calls + calls) ⊎ (2 ^ 64 - 1 ≤ length h'.calls)

@@ -1,8 +1,8 @@
 ghost use Rattle.std.specs.Prelude.{◌≡◌, ◌≤◌, ◌<◌, ◌+◌, ◌^◌, ◌++◌, ◌∷◌, [], ◌⊎◌, ◌↔◌, false, OnOk, List, ℕ, length, IsTrue, IfOk, IfErr, IfSome, IsNone, IsErrOf};
 ghost use Rattle.disk_model.specs.Disk.{contents_of, put, HasCause, Rose};
 ghost use Rattle.record_code.specs.Record.{Record, IsSound, body};
-ghost use Rattle.commit_journal.specs.Pair.{IsQuiet, IsSettled, IsChosen, head_a, head_b};
-ghost use Rattle.commit_journal.specs.Journal.{PairCause, Has, IsIdle};
+ghost use Rattle.commit_journal.specs.Pair.{IsQuiet, IsSettled, IsChosen, Only, head_a, head_b};
+ghost use Rattle.commit_journal.specs.Journal.{PairCause, Has, IsIdle, a_of, b_of};
 ghost use Rattle.commit_journal.specs.Attach.{IsThere, IsHeaderOf};
 
 use crate::appending::OPEN;
@@ -149,6 +149,12 @@ impl<D: Disk> Journal<D> {
         requires { length first.now ≡ 1 }
         ensures has { IsTrue (D.tells a) → IsTrue (D.tells b) → IfOk result (λ journal.
             (r : Record) → first.now ≡ r ∷ [] → Has D.history journal (r ∷ [])) }
+        // Each pair of images spells the list of that record, and no other.
+        ensures only { IsTrue (D.tells a) → IsTrue (D.tells b) → IfOk result (λ journal.
+            (r : Record) → first.now ≡ r ∷ []
+            → Only (a_of D.history journal) (b_of D.history journal) (r ∷ [])) }
+        ensures calls { IfOk result (λ journal.
+            (journal.counting_calls ≡ 0) × (journal.other_calls ≡ 0)) }
         ensures idle { IfOk result (λ journal. IsIdle journal) }
         ensures limit { IfOk result (λ journal. journal.limit ≡ limit) }
         ensures free { IsTrue (D.tells a) → IsTrue (D.tells b) → OnOk result
@@ -172,6 +178,8 @@ impl<D: Disk> Journal<D> {
                 gate: FIRST_GATE + entry.len() as u64,
                 flight: Flight::Nothing,
                 limit,
+                counting_calls: 0,
+                other_calls: 0,
             }),
             Err(why) => Err(CreateFault { why, a, b }),
         }

@@ -9,6 +9,7 @@
 
 mod appending;
 mod attaching;
+mod calls;
 mod causes;
 mod creating;
 mod fault;
@@ -21,6 +22,7 @@ mod settling;
 mod why;
 
 pub use attaching::AttachFault;
+pub use calls::Calls;
 pub use causes::causes_exclude_each_other;
 pub use fault::DiskFault;
 pub use flight::Flight;

@@ -1,8 +1,8 @@
-ghost use Rattle.std.specs.Prelude.{◌≡◌, ◌<◌, ◌^◌, ◌⊎◌, ◌↔◌, List, ℕ, ◌==◌, ◌+◌, ◌%◌, false, true, IsTrue, IsOk, IfOk, IfErr, IsErrOf, if◌then◌else◌};
+ghost use Rattle.std.specs.Prelude.{◌≡◌, ◌<◌, ◌^◌, ◌⊎◌, ◌↔◌, List, ℕ, ◌==◌, false, true, IsTrue, IsOk, IfOk, IfErr, IsErrOf};
 ghost use Rattle.disk_model.specs.Disk.{contents_of};
 ghost use Rattle.record_code.specs.Reading.{Spells};
-ghost use Rattle.commit_journal.specs.Pair.{IsPair, b_counts, first_of, second_of, IsQuiet, FileSettles};
-ghost use Rattle.commit_journal.specs.Attach.{records_of, ExplainsPair, ExplainsFile, IsHeaderOf};
+ghost use Rattle.commit_journal.specs.Pair.{IsPair, PairSpells, Only, b_counts, IsQuiet, FileSettles};
+ghost use Rattle.commit_journal.specs.Attach.{records_of, PlacedFrom, ExplainsPair, ExplainsFile, IsHeaderOf};
 ghost use Rattle.commit_journal.specs.Journal.{PairCause};
 
 use crate::header::{Header, read_header};
@@ -86,6 +86,7 @@ fn list_counting<D: Disk>(
     ensures history { D.history a.new ≡ D.history a.old }
     ensures other_history { D.history b.new ≡ D.history b.old }
     ensures bound { IfOk result (λ listed. listed.gate < 2 ^ 62) }
+    ensures places { IfOk result (λ listed. PlacedFrom 17 listed.payloads listed.gate) }
     ensures ok_a { choice ≡ false → IsTrue (D.tells a.old) → IfOk result (λ listed.
         Spells (contents_of (D.history a.old)) (records_of listed.payloads) listed.gate) }
     ensures ok_b { choice ≡ true → IsTrue (D.tells b.old) → IfOk result (λ listed.
@@ -111,6 +112,8 @@ pub(crate) fn open_files<D: Disk>(alloc: Global, a: &mut D, b: &mut D) -> Result
     ensures settles { IsTrue (D.tells a.old) → FileSettles (D.history a.old) (D.history a.new) }
     ensures other_settles { IsTrue (D.tells b.old) → FileSettles (D.history b.old) (D.history b.new) }
     ensures bound { IfOk result (λ opened. opened.listed.gate < 2 ^ 62) }
+    ensures places { IfOk result (λ opened.
+        PlacedFrom 17 opened.listed.payloads opened.listed.gate) }
     ensures spells_a { IsTrue (D.tells a.old) → IfOk result (λ opened. opened.b_counts ≡ false →
         Spells (contents_of (D.history a.new)) (records_of opened.listed.payloads) opened.listed.gate) }
     ensures spells_b { IsTrue (D.tells b.old) → IfOk result (λ opened. opened.b_counts ≡ true →
@@ -120,6 +123,11 @@ pub(crate) fn open_files<D: Disk>(alloc: Global, a: &mut D, b: &mut D) -> Result
     ensures choice { IsTrue (D.tells a.old) → IsTrue (D.tells b.old) → IfOk result (λ opened.
         IsPair (contents_of (D.history a.new)) (contents_of (D.history b.new))
         × (opened.b_counts ≡ b_counts (contents_of (D.history a.new)) (contents_of (D.history b.new)))) }
+    ensures spelled { IsTrue (D.tells a.old) → IsTrue (D.tells b.old) → IfOk result (λ opened.
+        PairSpells (contents_of (D.history a.old)) (contents_of (D.history b.old))
+        (records_of opened.listed.payloads)) }
+    ensures only { IsTrue (D.tells a.old) → IsTrue (D.tells b.old) → IfOk result (λ opened.
+        Only (D.history a.new) (D.history b.new) (records_of opened.listed.payloads)) }
     ensures err { IsTrue (D.tells a.old) → IsTrue (D.tells b.old) → IfErr result (λ why.
         ExplainsPair (contents_of (D.history a.new)) (contents_of (D.history b.new)) why) }
     ensures cause { PairCause (D.faults a.old) (D.faults a.new)

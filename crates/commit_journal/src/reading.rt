@@ -1,14 +1,17 @@
-ghost use Rattle.std.specs.Prelude.{◌≡◌, ◌≤◌, ◌<◌, ◌+◌, ◌-◌, ◌^◌, ℕ, List, length, IsTrue, IfOk, IfErr, IfSome, IsNone, IsErrOf, vec_len};
+ghost use Rattle.std.specs.Prelude.{◌≡◌, ◌≤◌, ◌<◌, ◌+◌, ◌-◌, ◌^◌, ◌++◌, take, drop, ℕ, List, length, IsTrue, IfOk, IfErr, IfSome, IsNone, IsErrOf, vec_len};
+ghost use Rattle.std.specs.Int.{w32, from_be_bytes};
+ghost use Rattle.sha2.specs.Sha256.{sha256};
 ghost use Rattle.disk_model.specs.Disk.{contents_of, HasCause};
-ghost use Rattle.record_code.specs.Reading.{byte, slice, size_at, record_at, computed_digest, kept_digest, next_gate, IsRecordAt, Spells};
-ghost use Rattle.commit_journal.specs.Attach.{record_of, records_of, ExplainsRecord, ExplainsFile, IsDamage};
+ghost use Rattle.record_code.specs.Reading.{byte, slice, size_at, next_gate, IsRecordAt, Spells};
+ghost use Rattle.commit_journal.specs.Attach.{record_of, records_of, PlacedFrom, ExplainsRecord, ExplainsFile};
 
 use crate::header::FIRST_GATE;
 use crate::settling::{fill, read_gate};
 use crate::why::AttachWhy;
 use cfg_base::Bytes;
 use disk_model::{Disk, DiskDone, DiskLen};
-use record_code::{MAX_PAYLOAD, Payloads, Placed, digest_of};
+use record_code::{MAX_PAYLOAD, Payloads, Placed};
+use sha2::{Digest, Sha256};
 use std::alloc::Global;
 
 /// The records of a file, and the place of its first closed gate.
@@ -18,26 +21,37 @@ pub(crate) struct Listed {
     pub(crate) gate: u64,
 }
 
-// The length of the payload behind a gate; one above the limit is read as none.
-fn read_size<D: Disk>(disk: &mut D, gate: u64) -> Option<usize>
+// The kind and the length of the record behind a gate.
+fn read_head<D: Disk>(disk: &mut D, gate: u64) -> Option<[u8; 5]>
     requires { gate < 2 ^ 62 }
     ensures tells { D.tells disk.new ≡ D.tells disk.old }
     ensures history { D.history disk.new ≡ D.history disk.old }
-    ensures bound { IfSome result (λ n. n ≤ 1049600) }
-    ensures size { IsTrue (D.tells disk.old) → IfSome result (λ n.
-        n ≡ size_at (contents_of (D.history disk.old)) gate) }
+    ensures head { IsTrue (D.tells disk.old) → IfSome result (λ head.
+        head ≡ slice (contents_of (D.history disk.old)) (gate + 1) 5) }
     ensures cause { HasCause (D.faults disk.old) (D.faults disk.new) (IsNone result) }
 {
-    let mut number = [0u8; 4];
-    if let DiskDone::Failed = fill(disk, gate + 2, &mut number) {
-        return None;
+    let mut head = [0u8; 5];
+    match fill(disk, gate + 1, &mut head) {
+        DiskDone::Done => Some(head),
+        DiskDone::Failed => None,
     }
-    let size = u32::from_be_bytes(number) as usize;
-    if size <= MAX_PAYLOAD {
-        Some(size)
-    } else {
-        Some(0)
-    }
+}
+
+fn length_in(head: &[u8; 5]) -> u32
+    ensures { result ≡ from_be_bytes w32 (take 4 (drop 1 head.now)) }
+{
+    let [_, a, b, c, d] = *head;
+    u32::from_be_bytes([a, b, c, d])
+}
+
+// The length of the payload behind this head; one above the limit is read as none.
+fn size_in(head: &[u8; 5]) -> usize
+    ensures bound { result ≤ 1049600 }
+    ensures size { (file : List ℕ) (gate : ℕ) → head.now ≡ slice file (gate + 1) 5
+        → result ≡ size_at file gate }
+{
+    let size = length_in(head) as usize;
+    if size <= MAX_PAYLOAD { size } else { 0 }
 }
 
 fn read_bytes<D: Disk>(
@@ -62,18 +76,32 @@ fn read_bytes<D: Disk>(
     }
 }
 
-// The record of these bytes, which begin at its kind and end with its digest.
-fn record_from(alloc: Global, gate: u64, bytes: &[u8]) -> Result<Placed, AttachWhy>
-    requires { 37 ≤ length bytes.now }
-    ensures ok { (file : List ℕ) → bytes.now ≡ slice file (gate + 1) (37 + size_at file gate)
+// The digest of a record's head and its payload.
+fn digest_of_parts(head: &[u8], payload: &[u8]) -> [u8; 32]
+    ensures { result ≡ sha256 (head.now ++ payload.now) }
+{
+    let mut hasher = Sha256::new();
+    hasher.update(head);
+    hasher.update(payload);
+    hasher.finalize()
+}
+
+// The record with this head, of the bytes behind it: its payload, which is moved on, and its digest.
+fn record_from(gate: u64, head: &[u8; 5], rest: Vec<u8>) -> Result<Placed, AttachWhy>
+    requires { 32 ≤ vec_len rest }
+    ensures ok { (file : List ℕ) → head.now ≡ slice file (gate + 1) 5
+        → rest.items ≡ slice file (gate + 6) (size_at file gate + 32)
         → byte file gate ≡ 1 → IfOk result (λ placed. IsRecordAt file gate (record_of placed)) }
     ensures offset { IfOk result (λ placed. placed.offset ≡ gate) }
-    ensures err { (file : List ℕ) → bytes.now ≡ slice file (gate + 1) (37 + size_at file gate)
+    ensures size { IfOk result (λ placed. length placed.payload + 32 ≡ vec_len rest) }
+    ensures err { (file : List ℕ) → head.now ≡ slice file (gate + 1) 5
+        → rest.items ≡ slice file (gate + 6) (size_at file gate + 32)
         → byte file gate ≡ 1 → IfErr result (λ why. ExplainsRecord file gate why) }
     ensures calm { IsErrOf result AttachWhy.DiskFault → ⊥ }
 {
-    let (body, stored) = bytes.split_at(bytes.len() - 32);
-    let computed = digest_of(body);
+    let size = rest.len() - 32;
+    let (payload, stored) = rest.split_at(size);
+    let computed = digest_of_parts(head, payload);
     let mut kept = [0u8; 32];
     kept.copy_from_slice(stored);
     if kept != computed {
@@ -83,11 +111,12 @@ fn record_from(alloc: Global, gate: u64, bytes: &[u8]) -> Result<Placed, AttachW
             computed,
         });
     }
-    let payload = Bytes::from(Vec::from_slice(alloc, &body[5..])?);
+    let mut payload = rest;
+    payload.truncate(size);
     Ok(Placed {
         offset: gate,
-        kind: body[0],
-        payload,
+        kind: head[0],
+        payload: Bytes::from(payload),
     })
 }
 
@@ -98,6 +127,8 @@ fn read_record<D: Disk>(alloc: Global, disk: &mut D, gate: u64) -> Result<(Place
     ensures history { D.history disk.new ≡ D.history disk.old }
     ensures later { IfOk result (λ read. gate < read.1) }
     ensures bound { IfOk result (λ read. read.1 < 2 ^ 63) }
+    ensures offset { IfOk result (λ read. read.0.offset ≡ gate) }
+    ensures behind { IfOk result (λ read. read.1 ≡ gate + 38 + length read.0.payload) }
     ensures ok { IsTrue (D.tells disk.old)
         → byte (contents_of (D.history disk.old)) gate ≡ 1
         → IfOk result (λ read. IsRecordAt (contents_of (D.history disk.old)) gate (record_of read.0)) }
@@ -109,15 +140,16 @@ fn read_record<D: Disk>(alloc: Global, disk: &mut D, gate: u64) -> Result<(Place
     ensures cause { HasCause (D.faults disk.old) (D.faults disk.new)
         (IsErrOf result AttachWhy.DiskFault) }
 {
-    let size = match read_size(disk, gate) {
-        Some(size) => size,
+    let head = match read_head(disk, gate) {
+        Some(head) => head,
         None => return Err(AttachWhy::DiskFault),
     };
-    let bytes = match read_bytes(alloc, disk, gate + 1, 37 + size) {
-        Ok(bytes) => bytes,
+    let size = size_in(&head);
+    let rest = match read_bytes(alloc, disk, gate + 6, size + 32) {
+        Ok(rest) => rest,
         Err(why) => return Err(why),
     };
-    let placed = record_from(alloc, gate, &bytes)?;
+    let placed = record_from(gate, &head, rest)?;
     Ok((placed, gate + 38 + size as u64))
 }
 
@@ -127,6 +159,7 @@ fn read_records<D: Disk>(alloc: Global, disk: &mut D, len: u64) -> Result<Listed
     ensures tells { D.tells disk.new ≡ D.tells disk.old }
     ensures history { D.history disk.new ≡ D.history disk.old }
     ensures bound { IfOk result (λ listed. listed.gate < 2 ^ 62) }
+    ensures places { IfOk result (λ listed. PlacedFrom 17 listed.payloads listed.gate) }
     ensures ok { IsTrue (D.tells disk.old) → len ≡ length (contents_of (D.history disk.old))
         → IfOk result (λ listed.
         Spells (contents_of (D.history disk.old)) (records_of listed.payloads) listed.gate) }
@@ -155,6 +188,7 @@ pub(crate) fn list_file<D: Disk>(alloc: Global, disk: &mut D) -> Result<Listed, 
     ensures tells { D.tells disk.new ≡ D.tells disk.old }
     ensures history { D.history disk.new ≡ D.history disk.old }
     ensures bound { IfOk result (λ listed. listed.gate < 2 ^ 62) }
+    ensures places { IfOk result (λ listed. PlacedFrom 17 listed.payloads listed.gate) }
     ensures ok { IsTrue (D.tells disk.old) → IfOk result (λ listed.
         Spells (contents_of (D.history disk.old)) (records_of listed.payloads) listed.gate) }
     ensures err { IsTrue (D.tells disk.old) → IfErr result (λ why.

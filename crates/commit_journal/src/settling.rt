@@ -1,7 +1,7 @@
-ghost use Rattle.std.specs.Prelude.{◌≡◌, ◌≤◌, ◌<◌, ◌==◌, ℕ, length, IsTrue, IsSome, IfSome, IsNone, slice_index};
+ghost use Rattle.std.specs.Prelude.{◌≡◌, ◌<◌, ◌==◌, ℕ, length, IsTrue, IsSome, IfSome, IsNone, slice_index};
 ghost use Rattle.disk_model.specs.Disk.{contents_of, HasCause};
 ghost use Rattle.record_code.specs.Reading.{slice, byte};
-ghost use Rattle.commit_journal.specs.Pair.{IsQuiet, FileSettles};
+ghost use Rattle.commit_journal.specs.Pair.{IsQuiet, FileSettles, MadeCalls};
 ghost use Rattle.commit_journal.specs.Journal.{PairCause};
 
 use crate::appending::OPEN;
@@ -20,6 +20,7 @@ pub(crate) fn sync_file<D: Disk>(disk: &mut D) -> DiskDone
     ensures settles { IsTrue (D.tells disk.old) →
         FileSettles (D.history disk.old) (D.history disk.new) }
     ensures quiet { result ≡ DiskDone.Done → IsTrue (D.tells disk.old) → IsQuiet (D.history disk.new) }
+    ensures calls { IsTrue (D.tells disk.old) → MadeCalls (D.history disk.old) (D.history disk.new) 1 }
     ensures cause { HasCause (D.faults disk.old) (D.faults disk.new) (result ≡ DiskDone.Failed) }
 {
     disk.sync()
@@ -63,6 +64,10 @@ pub(crate) fn settle_files<D: Disk>(counting: &mut D, other: &mut D, gate: u64) 
         FileSettles (D.history counting.old) (D.history counting.new) }
     ensures other_settles { IsTrue (D.tells other.old) →
         FileSettles (D.history other.old) (D.history other.new) }
+    ensures calls { IsTrue (D.tells counting.old) →
+        MadeCalls (D.history counting.old) (D.history counting.new) 1 }
+    ensures other_calls { IsTrue (D.tells other.old) →
+        MadeCalls (D.history other.old) (D.history other.new) 1 }
     ensures quiet { IsSome result → IsTrue (D.tells counting.old) → IsQuiet (D.history counting.new) }
     ensures other_quiet { IsSome result → IsTrue (D.tells other.old) → IsQuiet (D.history other.new) }
     ensures gate { IsTrue (D.tells counting.old) → IfSome result (λ is_open.
@@ -70,11 +75,8 @@ pub(crate) fn settle_files<D: Disk>(counting: &mut D, other: &mut D, gate: u64) 
     ensures cause { PairCause (D.faults counting.old) (D.faults counting.new)
         (D.faults other.old) (D.faults other.new) (IsNone result) }
 {
-    if let DiskDone::Failed = sync_file(counting) {
-        return None;
+    match (sync_file(counting), sync_file(other)) {
+        (DiskDone::Done, DiskDone::Done) => read_gate(counting, gate),
+        _ => None,
     }
-    if let DiskDone::Failed = sync_file(other) {
-        return None;
-    }
-    read_gate(counting, gate)
 }

@@ -1,4 +1,4 @@
-use Rattle.std.proofs.Common.{IsTrue, sym, subst, ap, ◌∙◌}
+use Rattle.std.proofs.Common.{IsTrue, sym, subst, ◌∙◌}
 use Rattle.disk_model.specs.Disk.{contents_of}
 use Rattle.commit_journal.proofs.CreateLemmas.{made_file, made_chosen}
 use Rattle.commit_journal.proofs.creating.make_files.Goals as goal

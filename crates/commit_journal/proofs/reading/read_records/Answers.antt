@@ -2,7 +2,7 @@ use Rattle.std.proofs.Common.{◌≡◌, IsTrue, sym, subst, ◌∙◌, arith}
 use Rattle.disk_model.specs.Disk.{History, contents_of}
 use Rattle.record_code.specs.Reading.{byte, IsRecordAt, next_gate}
 use Rattle.commit_journal.specs.Attach.{record_of}
-use Rattle.commit_journal.proofs.ReadLemmas.{is_one, read_more}
+use Rattle.commit_journal.proofs.ReadLemmas.{is_one, read_more, placed_more}
 use Rattle.commit_journal.proofs.reading.read_records.Goals as goal
 
 pub loop-gate-preserved : goal.loop-gate-preserved
@@ -15,6 +15,7 @@ loop-gate-preserved g c =
       history = c.read_record.ensures.history ∙ same;
       faults = omega (arith, so_far.faults, c.read_gate.ensures.cause.later, c.read_record.ensures.cause.later);
       bound = c.in_ok-placed.ensures.bound;
+      places = placed_more _ _ c.in_ok-placed.placed _ gate c.in_ok-placed.next so_far.places c.in_ok-placed.ensures.offset c.in_ok-placed.ensures.behind c.in_ok-push.ensures.ok;
       reads = λ t.
           let tl = subst IsTrue (sym so_far.tells) t in
           let tg = subst IsTrue (sym c.read_gate.ensures.tells) tl in

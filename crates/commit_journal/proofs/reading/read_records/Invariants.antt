@@ -1,7 +1,7 @@
 use Rattle.std.proofs.Common.{◌≡◌, ◌≤◌, ◌<◌, ◌-◌, ◌^◌, IsTrue}
 use Rattle.disk_model.specs.Disk.{contents_of}
 use Rattle.record_code.specs.Reading.{Reads, first_gate}
-use Rattle.commit_journal.specs.Attach.{records_of}
+use Rattle.commit_journal.specs.Attach.{records_of, PlacedFrom}
 use Rattle.commit_journal.proofs.reading.read_records.Given as goal
 
 abbrev pub invariant-loop-gate : goal.invariant-loop-gate
@@ -10,6 +10,7 @@ invariant-loop-gate g l = record {
   history : g.D.Disk.history l.disk ≡ g.D.Disk.history l.initial.disk;
   faults : g.D.Disk.faults l.initial.disk ≤ g.D.Disk.faults l.disk;
   bound : l.gate < 2 ^ 63;
+  places : PlacedFrom first_gate l.payloads l.gate;
   reads : IsTrue (g.D.Disk.tells l.initial.disk) → Reads (contents_of (g.D.Disk.history l.initial.disk)) first_gate (records_of l.payloads) l.gate;
 }
 
