@@ -14,3 +14,5 @@ pub mod ChildrenLemmas
 pub mod SpelledLemmas
 pub mod ReadsLemmas
 pub mod TopLemmas
+pub mod FollowLemmas
+pub mod ReadyLemmas
