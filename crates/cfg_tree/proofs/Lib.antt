@@ -15,4 +15,6 @@ pub mod SpelledLemmas
 pub mod ReadsLemmas
 pub mod TopLemmas
 pub mod FollowLemmas
+pub mod NameLemmas
 pub mod ReadyLemmas
+pub mod TargetLemmas
