@@ -1,6 +1,6 @@
 -- What words name is a statement of a path that a typed map may have, with words of its kind.
 use Rattle.std.proofs.Common.{◌≡◌, ◌≢◌, ℕ, zero, suc, ◌+◌, ◌<◌, ◌≤◌, ◌==◌, Bool, true, false, ◌&&◌, List, [], ◌∷◌, ◌++◌, length, drop, refl, sym, ap, subst, ◌∙◌, Option, Some, None, Ok, Err, Result, MatchBool, inl, inr, arith, length-append}
-use Rattle.std.specs.Prelude.{All}
+use Rattle.std.specs.Prelude.{All, IfOk}
 use Rattle.std.proofs.lemmas.List.{append_assoc}
 use Rattle.std.proofs.lemmas.List.Elements.{All-nil, All-cons}
 use Rattle.cfg_base.specs.declared.path.Step.{Step}
@@ -26,7 +26,7 @@ use Rattle.cfg_tree.specs.declared.target.Target.{Target}
 use Rattle.cfg_tree.specs.declared.target.WordsFault.{WordsFault}
 use Rattle.cfg_tree.specs.Typed.{IsName, IsNamed, FollowsFrom, IsTypedPath, AreCanonical}
 use Rattle.cfg_tree.specs.Tree.{step_of}
-use Rattle.cfg_tree.specs.Resolve.{first_of, Named, IsNamedLevel, IsLeafWord, AllSpelled, AreManyWords, IsStatement, IsBadName, IsBegun, IsFront, Reads, no_words, refused, whole, ended, goes_on, fault_of, target, ResolvesTo, AreGiven, IsTargetBelow, IsLevelPath}
+use Rattle.cfg_tree.specs.Resolve.{first_of, Named, IsNamedLevel, IsLeafWord, AllSpelled, AreManyWords, IsStatement, IsBadName, IsBegun, IsFront, IsReading, Reads, no_words, refused, whole, ended, goes_on, fault_of, target, ResolvesTo, AreGiven, IsTargetBelow, IsLevelPath}
 use Rattle.cfg_tree.proofs.TypedLemmas.{place_snoc, follows_snoc}
 use Rattle.cfg_tree.proofs.FollowLemmas.{typed_place}
 use Rattle.cfg_tree.proofs.NameLemmas.{name_again, name_no_head}
@@ -339,3 +339,11 @@ pub resolved_target : (level : List Step) (words : List (List ℕ)) (found : Tar
 resolved_target level words found is_level r =
     let there = typed_place level top_place is_level.typed
     in target_of level there.0 words (Ok found) (r there.0 there.1) found refl is_level.typed there.1
+
+-- the same of what is read from a level on
+pub reading_target : (level steps path : List Step) (here : Place) (words : List (List ℕ)) (answer : Result Target WordsFault) → IsTypedPath level
+    → steps ≡ level → Some here ≡ place_of steps → path ≡ level → IsReading path here words answer → IfOk answer (λ found. IsTargetBelow level found)
+reading_target level steps path here words (Ok found) typed e placed f r =
+    target_of level here words (Ok found) (subst (λ (p : List Step). Reads p here words (Ok found)) f r) found refl typed
+    (ap (λ (p : List Step). place_of p) (sym e) ∙ sym placed)
+reading_target level steps path here words (Err fault) typed e placed f r = tt
