@@ -18,3 +18,4 @@ pub mod FollowLemmas
 pub mod NameLemmas
 pub mod ReadyLemmas
 pub mod TargetLemmas
+pub mod UniqueLemmas

@@ -93,3 +93,12 @@ pub marked_ready : (m : Statements) (path : List Step) (old value : Value) → I
 marked_ready m path old value tree found order words =
     kept_ready m path old value tree found order
     (λ here e. subst (λ (ws : List (List ℕ)). AreCounted (row_of here.row).shape ws) (sym words) (tree.typed.words path old here found e).0)
+
+-- words that are counted at the place of a path
+pub counted_there : (path steps : List Step) (here : Place) (words : List (List ℕ)) → steps ≡ path → Some here ≡ place_of steps
+    → AreCounted (row_of here.row).shape words → (there : Place) → place_of path ≡ Some there → AreCounted (row_of there.row).shape words
+counted_there path steps here words e placed counted there f =
+    subst (λ (p : Place). AreCounted (row_of p.row).shape words) (same_place here there (placed ∙ ap (λ (s : List Step). place_of s) e ∙ f)) counted
+  where
+    same_place : (p q : Place) → Some p ≡ Some q → p ≡ q
+    same_place p q g = cc

@@ -2,6 +2,7 @@ ghost use Rattle.std.specs.Prelude.{◌≡◌, ◌+◌, ◌↔◌, OnOk, OnErr, 
 ghost use Rattle.std.specs.Option.{option_copied};
 ghost use Rattle.std.specs.FinMap as map;
 ghost use Rattle.cfg_tree.specs.Statements.{Statements, size_of};
+ghost use Rattle.cfg_tree.specs.Tree.{IsTree};
 ghost use Rattle.cfg_tree.specs.Children.{children_of};
 ghost use Rattle.cfg_tree.specs.Change.{removed, IsReady, IsPut, IsPutFault};
 
@@ -48,14 +49,16 @@ impl Tree {
 
     /// The value at a path, where it is there.
     pub fn at(&self, path: &Path) -> Option<&Value>
-        ensures { option_copied result ≡ map.get self.now path.now }
+        ensures value { option_copied result ≡ map.get self.now path.now }
+        ensures tree { IsTree self.now }
     {
         self.statements.get(path)
     }
 
     /// How many statements there are.
     pub fn count(&self) -> u32
-        ensures { result ≡ size_of self.now }
+        ensures count { result ≡ size_of self.now }
+        ensures tree { IsTree self.now }
     {
         self.statements.len() as u32
     }
