@@ -1,6 +1,6 @@
 -- What a typed path tells of its place, of its last step, and of the levels above it.
-use Rattle.std.proofs.Common.{◌≡◌, ℕ, zero, suc, ◌<◌, ◌≤◌, ◌==◌, Bool, true, false, not, ◌&&◌, ◌||◌, List, [], ◌∷◌, ◌++◌, length, take, get_or, refl, sym, ap, subst, ◌∙◌, Option, Some, None, arith, if◌then◌else◌}
-use Rattle.std.specs.List.{list_all, list_any}
+use Rattle.std.proofs.Common.{◌≡◌, ℕ, zero, suc, ◌<◌, Bool, true, false, not, ◌||◌, List, [], ◌∷◌, ◌++◌, length, take, refl, sym, ap, subst, ◌∙◌, Some, arith, if◌then◌else◌}
+use Rattle.std.specs.List.{list_all}
 use Rattle.cfg_base.specs.declared.path.Step.{Step}
 use Rattle.cfg_base.specs.declared.kind.Shape.{Shape}
 use Rattle.cfg_base.specs.declared.kind.Shape.TheVariants.{Container, Fixed, Keyed, Bare, Leaf, Flag, Many}
@@ -14,7 +14,7 @@ use Rattle.cfg_schema.specs.Profile.{profile, line_at, no_line, row_of, is_bare,
 use Rattle.cfg_schema.specs.Child.{IsNoHead}
 use Rattle.cfg_schema.specs.Facts.{has_beginning}
 use Rattle.cfg_schema.specs.Place.{top_place, place_after, and_then, place_from, place_of}
-use Rattle.cfg_schema.proofs.TestLemmas.{both, both_true, bare, same_is}
+use Rattle.cfg_schema.proofs.TestLemmas.{both_true, bare, same_is}
 use Rattle.cfg_schema.proofs.RowFacts.{number_at}
 use Rattle.cfg_schema.proofs.LevelLemmas.{led_to, all_at, head_is}
 use Rattle.cfg_tree.specs.Statements.{parent_of, last_of}

@@ -19,3 +19,5 @@ pub mod NameLemmas
 pub mod ReadyLemmas
 pub mod TargetLemmas
 pub mod UniqueLemmas
+pub mod OnceLemmas
+pub mod PutAnswerLemmas

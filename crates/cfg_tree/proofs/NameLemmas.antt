@@ -1,8 +1,8 @@
 -- Names by their first bytes: no number, address, prefix or area is a wildcard name, and no address or prefix is a head.
-use Rattle.std.proofs.Common.{◌≡◌, ℕ, ◌<◌, ◌≤◌, nat_le, Bool, true, false, not, ◌&&◌, ◌||◌, List, [], ◌∷◌, ◌++◌, length, get_or, refl, sym, ap, subst, ◌∙◌, inl, inr, arith, ◌^◌, length-append}
+use Rattle.std.proofs.Common.{◌≡◌, ℕ, ◌<◌, ◌≤◌, nat_le, Bool, true, false, not, ◌&&◌, ◌||◌, List, [], ◌∷◌, ◌++◌, length, get_or, refl, sym, ap, subst, ◌∙◌, inl, inr, arith, length-append}
 use Rattle.std.specs.List.{list_all}
 use Rattle.std.specs.Fmt.{decimal}
-use Rattle.std.specs.Str.Parse.{IsNumeral, AllDigits}
+use Rattle.std.specs.Str.Parse.{IsNumeral}
 use Rattle.std.proofs.Math.ListN.{get_or-append}
 use Rattle.std.proofs.lemmas.Bool.Decides.{nat_tests}
 use Rattle.std.proofs.lemmas.Fmt.{decimal_is_IsNumeral}
@@ -13,15 +13,14 @@ use Rattle.cfg_base.specs.declared.kind.Shape.TheVariants.{Bare}
 use Rattle.cfg_schema.specs.declared.table.Line.{Line}
 use Rattle.cfg_schema.specs.Keyword.{spelled}
 use Rattle.cfg_schema.specs.Profile.{profile, line_at, no_line, row_of, is_bare}
-use Rattle.cfg_schema.specs.Child.{HasHead, IsNoHead}
+use Rattle.cfg_schema.specs.Child.{IsNoHead}
 use Rattle.cfg_schema.proofs.TestLemmas.{bare_is}
 use Rattle.cfg_schema.proofs.LevelLemmas.{all_at}
 use Rattle.cfg_values.specs.Number.{IsNumberWithin}
-use Rattle.cfg_values.specs.Address.{IsAddress, IsPrefix, IsArea, IsFront, AreOctets, dotted}
-use Rattle.cfg_values.specs.Interface.{IsInterface, IsUnits, EveryUnit, UnitOf, every_unit}
+use Rattle.cfg_values.specs.Address.{IsAddress, IsPrefix, IsArea, AreOctets, dotted}
+use Rattle.cfg_values.specs.Interface.{IsInterface, IsUnits, EveryUnit, UnitOf}
 use Rattle.cfg_values.specs.Pattern.{IsPattern}
-use Rattle.cfg_values.specs.Spelling.{IsCanonicalOf, Spells, ValueOf}
-use Rattle.cfg_values.proofs.AddressLemmas.{prefix_quad}
+use Rattle.cfg_values.specs.Spelling.{IsCanonicalOf, ValueOf}
 use Rattle.cfg_values.proofs.SpellingLemmas.{IsCanonicalOf-unique, IsCanonical-from}
 use Rattle.cfg_tree.specs.Typed.{IsNameOf, IsName}
 

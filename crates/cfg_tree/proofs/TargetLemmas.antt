@@ -1,8 +1,9 @@
 -- What words name is a statement of a path that a typed map may have, with words of its kind.
-use Rattle.std.proofs.Common.{◌≡◌, ◌≢◌, ℕ, zero, suc, ◌+◌, ◌<◌, ◌≤◌, ◌==◌, Bool, true, false, ◌&&◌, List, [], ◌∷◌, ◌++◌, length, drop, refl, sym, ap, subst, ◌∙◌, Option, Some, None, Ok, Err, Result, MatchBool, inl, inr, arith, length-append}
-use Rattle.std.specs.Prelude.{All, IfOk}
+use Rattle.std.proofs.Common.{◌≡◌, ◌≢◌, ℕ, ◌<◌, ◌==◌, Bool, true, false, List, [], ◌∷◌, ◌++◌, length, drop, refl, sym, ap, subst, ◌∙◌, Some, Ok, Err, Result, MatchBool, inl, inr, arith}
+use Rattle.std.specs.Prelude.{IfOk}
 use Rattle.std.proofs.lemmas.List.{append_assoc}
 use Rattle.std.proofs.lemmas.List.Elements.{All-nil, All-cons}
+use Rattle.cfg_base.specs.declared.path.TheConstants.{MAX_STEPS}
 use Rattle.cfg_base.specs.declared.path.Step.{Step}
 use Rattle.cfg_base.specs.declared.kind.Kind.{Kind}
 use Rattle.cfg_base.specs.declared.kind.Shape.{Shape}
@@ -10,13 +11,13 @@ use Rattle.cfg_base.specs.declared.kind.Shape.TheVariants.{Container, Fixed, Key
 use Rattle.cfg_schema.specs.declared.place.Place.{Place}
 use Rattle.cfg_schema.specs.declared.answer.Child.{Child}
 use Rattle.cfg_schema.specs.declared.answer.Child.TheVariants as begun
-use Rattle.cfg_schema.specs.Profile.{profile, row_of, head_of, name_of, is_bare, StandsBelow}
+use Rattle.cfg_schema.specs.Profile.{row_of, head_of, name_of, is_bare, StandsBelow}
 use Rattle.cfg_schema.specs.Child.{child_of, Begins, IsNoHead}
-use Rattle.cfg_schema.specs.Place.{has_words, top_place, entered, place_after, and_then, place_from, place_of}
+use Rattle.cfg_schema.specs.Place.{has_words, top_place, entered, place_after, and_then, place_of}
 use Rattle.cfg_schema.proofs.TestLemmas.{both_true, same_is, not_bare}
 use Rattle.cfg_schema.proofs.ChildLemmas.{child_begins}
-use Rattle.cfg_schema.proofs.LevelLemmas.{leads}
-use Rattle.cfg_values.specs.Spelling.{IsCanonical, IsCanonicalOf}
+use Rattle.cfg_schema.proofs.LevelLemmas.{leads, path_most}
+use Rattle.cfg_values.specs.Spelling.{IsCanonical}
 use Rattle.cfg_values.proofs.SpellingLemmas.{IsCanonical-from}
 use Rattle.cfg_tree.specs.declared.front.Front.{Front}
 use Rattle.cfg_tree.specs.declared.front.Front.TheVariants.{Level, Statement, Refused}
@@ -24,9 +25,9 @@ use Rattle.cfg_tree.specs.declared.front.Why.{Why}
 use Rattle.cfg_tree.specs.declared.front.Why.TheVariants as why
 use Rattle.cfg_tree.specs.declared.target.Target.{Target}
 use Rattle.cfg_tree.specs.declared.target.WordsFault.{WordsFault}
-use Rattle.cfg_tree.specs.Typed.{IsName, IsNamed, FollowsFrom, IsTypedPath, AreCanonical}
+use Rattle.cfg_tree.specs.Typed.{IsNamed, IsTypedPath, AreCanonical}
 use Rattle.cfg_tree.specs.Tree.{step_of}
-use Rattle.cfg_tree.specs.Resolve.{first_of, Named, IsNamedLevel, IsLeafWord, AllSpelled, AreManyWords, IsStatement, IsBadName, IsBegun, IsFront, IsReading, Reads, no_words, refused, whole, ended, goes_on, fault_of, target, ResolvesTo, AreGiven, IsTargetBelow, IsLevelPath}
+use Rattle.cfg_tree.specs.Resolve.{first_of, IsNamedLevel, IsLeafWord, AllSpelled, IsStatement, IsBegun, IsFront, IsReading, Reads, no_words, refused, whole, ended, goes_on, target, ResolvesTo, AreGiven, IsTargetBelow, IsLevelPath}
 use Rattle.cfg_tree.proofs.TypedLemmas.{place_snoc, follows_snoc}
 use Rattle.cfg_tree.proofs.FollowLemmas.{typed_place}
 use Rattle.cfg_tree.proofs.NameLemmas.{name_again, name_no_head}
@@ -347,3 +348,17 @@ reading_target level steps path here words (Ok found) typed e placed f r =
     target_of level here words (Ok found) (subst (λ (p : List Step). Reads p here words (Ok found)) f r) found refl typed
     (ap (λ (p : List Step). place_of p) (sym e) ∙ sym placed)
 reading_target level steps path here words (Err fault) typed e placed f r = tt
+
+-- there is room for one step more below a path that follows rows
+pub room_below : (path : List Step) (here : Place) → place_of path ≡ Some here → length path < MAX_STEPS
+room_below path here e = let most = (path_most path here e).2 in omega (arith, most)
+
+-- where a level that words enter leads to
+pub level_entered : (path longer : List Step) (here : Place) (words : List (List ℕ)) (front : Front) (step : Step) (next : Place) (used : ℕ)
+    → place_of path ≡ Some here → IsFront here words front → front ≡ Level step next used → longer ≡ path ++ step ∷ [] → place_of longer ≡ Some next
+level_entered path longer here words front step next used placed h e f =
+    let l = front_leads here words step next used (subst (λ (x : Front). IsFront here words x) e h)
+    in ap (λ (p : List Step). place_of p) f
+    ∙ place_snoc path step top_place
+    ∙ ap (and_then (λ (p : Place). place_after p step)) placed
+    ∙ l.place

@@ -1,5 +1,5 @@
 -- Of the same words at most one answer is read.
-use Rattle.std.proofs.Common.{◌≡◌, ◌≢◌, ℕ, zero, suc, ◌<◌, ◌≤◌, ◌==◌, Bool, true, false, List, [], ◌∷◌, ◌++◌, length, drop, get_or, refl, sym, ap, subst, ◌∙◌, Some, Ok, Err, Result, MatchBool, inl, inr, ◌⊎◌, arith}
+use Rattle.std.proofs.Common.{◌≡◌, ◌≢◌, ℕ, zero, suc, ◌<◌, ◌≤◌, ◌==◌, Bool, true, false, List, [], ◌∷◌, ◌++◌, length, drop, refl, sym, ap, subst, ◌∙◌, Ok, Err, Result, MatchBool, inl, inr, ◌⊎◌, arith}
 use Rattle.std.specs.Prelude.{slice_index_or}
 use Rattle.cfg_base.specs.declared.path.Step.{Step}
 use Rattle.cfg_base.specs.declared.kind.Kind.{Kind}
@@ -10,12 +10,11 @@ use Rattle.cfg_schema.specs.declared.answer.Child.{Child}
 use Rattle.cfg_schema.specs.declared.answer.Child.TheVariants as begun
 use Rattle.cfg_schema.specs.Profile.{row_of}
 use Rattle.cfg_schema.specs.Child.{child_of}
-use Rattle.cfg_schema.specs.Place.{top_place, entered, place_of}
+use Rattle.cfg_schema.specs.Place.{top_place, entered}
 use Rattle.cfg_values.specs.Spelling.{IsSpelling, IsCanonicalOf}
 use Rattle.cfg_values.proofs.SpellingLemmas.{IsCanonicalOf-unique}
 use Rattle.cfg_tree.specs.declared.front.Front.{Front}
 use Rattle.cfg_tree.specs.declared.front.Front.TheVariants.{Level, Statement, Refused}
-use Rattle.cfg_tree.specs.declared.front.Why.{Why}
 use Rattle.cfg_tree.specs.declared.front.Why.TheVariants as why
 use Rattle.cfg_tree.specs.declared.target.Target.{Target}
 use Rattle.cfg_tree.specs.declared.target.WordsFault.{WordsFault}

@@ -226,6 +226,7 @@ fn fault_of(why: Why, path: Path) -> WordsFault
 }
 
 fn longer(path: &Path, step: Step) -> Result<Path, NoMemory>
+    requires { length path.now < MAX_STEPS }
     ensures { IfOk result (λ longer. longer ≡ path.now ++ step ∷ []) }
 {
     match path.push(step) {
@@ -235,6 +236,7 @@ fn longer(path: &Path, step: Step) -> Result<Path, NoMemory>
 }
 
 fn read_on(alloc: Global, path: Path, here: Place, words: &[Word]) -> Result<Target, WordsFault>
+    requires { place_of path ≡ Some here }
     ensures { IsReading path here words.now result }
 {
     if words.is_empty() {

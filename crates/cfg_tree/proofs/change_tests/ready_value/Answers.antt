@@ -1,4 +1,4 @@
-use Rattle.std.proofs.Common.{◌≡◌, ◌∙◌, List, ℕ, Some, sym, subst, rules}
+use Rattle.std.proofs.Common.{◌≡◌, List, ℕ, Some, sym, subst, rules}
 use Rattle.cfg_schema.specs.declared.place.Place.{Place}
 use Rattle.cfg_schema.specs.Profile.{row_of}
 use Rattle.cfg_schema.specs.Place.{place_of}
