@@ -1,0 +1,6 @@
+pub mod OrderLemmas
+pub mod RowLemmas
+pub mod PlaceLemmas
+pub mod BlockLemmas
+pub mod SpliceLemmas
+pub mod ChangeLemmas
