@@ -40,7 +40,7 @@ impl Model for Entries {
 impl Entries {
     /// No entries.
     pub fn new(alloc: Global) -> Entries
-        ensures { result.entries ≡ [] }
+        ensures empty { result.entries ≡ [] }
     {
         Entries {
             alloc,
@@ -59,7 +59,7 @@ impl Entries {
 
     /// The value at a path.
     pub fn get(&self, path: &Path) -> Option<&Value>
-        ensures { option_copied result ≡ get path_cmp self.now path.now }
+        ensures value { option_copied result ≡ get path_cmp self.now path.now }
     {
         value_at(&self.blocks, path)
     }
@@ -88,7 +88,7 @@ impl Entries {
 
     /// Whether two maps have the same entries.
     pub fn same(&self, other: &Entries) -> bool
-        ensures same { result ≡ pointwise same_pair self.now.entries other.now.entries }
+        ensures { result ≡ pointwise same_pair self.now.entries other.now.entries }
     {
         same_rest(self.iter(), other.iter())
     }
