@@ -4,3 +4,4 @@ pub mod PlaceLemmas
 pub mod BlockLemmas
 pub mod SpliceLemmas
 pub mod ChangeLemmas
+pub mod PageLemmas

@@ -1,5 +1,5 @@
 pub mod EntryMap
-pub mod Blocks
+pub mod Rows
 pub mod Places
 pub mod Pieces
 pub mod Changes

@@ -7,19 +7,20 @@ ghost use Rattle.std.specs.Cmp.Lexicographic.{pointwise};
 ghost use Rattle.cfg_base.specs.Order.{path_cmp};
 ghost use Rattle.cfg_entries.specs.EntryMap.{get, without, from_key, same_pair, IsOrdered};
 
-use crate::block::Block;
 use crate::entry::Entry;
-use crate::list::{put, rest_from, take, value_at};
+use crate::layers::Page;
+use crate::pages::{put, rest_from, take, value_at};
 use crate::rest::{Rest, same_rest};
 use cfg_base::{NoMemory, Path, Value};
 use std::alloc::{AllocError, Global};
 use std::marker::Model;
 
-/// Values by their paths. A copy shares the blocks, and a change makes the block anew in which it is.
+/// Values by their paths. A copy shares the pages, and a change makes one page and one of its
+/// blocks anew.
 #[derive(Debug, Drop)]
 pub struct Entries {
     alloc: Global,
-    blocks: Vec<Block>,
+    pages: Vec<Page>,
     len: usize,
 }
 
@@ -28,13 +29,13 @@ impl Model for Entries {
     ghost use Rattle.cfg_base.specs.declared.path.Step.{Step};
     ghost use Rattle.cfg_base.specs.declared.value.Value as value;
     ghost use Rattle.cfg_entries.specs.EntryMap.{EntryMap};
-    ghost use Rattle.cfg_entries.specs.Blocks.{flat, IsMap};
+    ghost use Rattle.cfg_entries.specs.Rows.{flat, rows_of, IsMap};
 
     ghost Value = { EntryMap (List Step) value.Value };
 
-    ghost view = { λ m. record { entries = flat m.blocks.items } };
+    ghost view = { λ m. record { entries = flat (rows_of m.pages.items) } };
 
-    ghost invariant = { λ m. IsMap m.blocks.items m.len };
+    ghost invariant = { λ m. IsMap m.pages.items m.len };
 }
 
 impl Entries {
@@ -44,7 +45,7 @@ impl Entries {
     {
         Entries {
             alloc,
-            blocks: Vec::new(alloc),
+            pages: Vec::new(alloc),
             len: 0,
         }
     }
@@ -61,7 +62,7 @@ impl Entries {
     pub fn get(&self, path: &Path) -> Option<&Value>
         ensures value { option_copied result ≡ get path_cmp self.now path.now }
     {
-        value_at(&self.blocks, path)
+        value_at(&self.pages, path)
     }
 
     /// Whether a path has a value.
@@ -76,14 +77,14 @@ impl Entries {
         ensures rest { result ≡ from_key path_cmp path.now self.now.entries }
         ensures ordered { IsOrdered path_cmp self.now }
     {
-        rest_from(&self.blocks, path)
+        rest_from(&self.pages, path)
     }
 
     /// All entries, in order.
     pub fn iter(&self) -> Rest<'_>
         ensures { result ≡ self.now.entries }
     {
-        Rest::of(&[], &self.blocks)
+        Rest::of(&[], &[], &self.pages)
     }
 
     /// Whether two maps have the same entries.
@@ -104,7 +105,7 @@ impl Entries {
             return Err(NoMemory);
         }
         let entry = Entry::new(self.alloc, path, value)?;
-        if put(self.alloc, &mut self.blocks, entry)? {
+        if put(self.alloc, &mut self.pages, entry)? {
             self.len += 1;
         }
         Ok(())
@@ -116,7 +117,7 @@ impl Entries {
         ensures unchanged { OnErr result (self.new ≡ self.old) }
         ensures ordered { IsOrdered path_cmp self.old }
     {
-        if take(self.alloc, &mut self.blocks, path)? {
+        if take(self.alloc, &mut self.pages, path)? {
             self.len -= 1;
         }
         Ok(())
@@ -129,7 +130,7 @@ impl Clone for Entries {
     fn clone(&self) -> Result<Entries, AllocError> {
         Ok(Entries {
             alloc: self.alloc,
-            blocks: self.blocks.clone()?,
+            pages: self.pages.clone()?,
             len: self.len,
         })
     }
