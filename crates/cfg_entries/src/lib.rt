@@ -20,3 +20,6 @@ mod splice;
 pub use entries::Entries;
 pub use entry::Entry;
 pub use rest::Rest;
+
+#[cfg(test)]
+mod tests;
