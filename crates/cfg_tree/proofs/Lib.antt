@@ -1,4 +1,5 @@
 pub mod MapLemmas
+pub mod EntryLemmas
 pub mod TreeLemmas
 pub mod SameLemmas
 pub mod BelowLemmas

@@ -71,7 +71,7 @@ impl Tree {
         ensures { IsTrue result ↔ (self.now ≡ other.now) }
     {
         let alike = self.statements.len() == other.statements.len();
-        alike && self.statements == other.statements
+        alike && self.statements.same(&other.statements)
     }
 
     /// A copy of the tree.
