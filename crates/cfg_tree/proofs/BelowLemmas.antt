@@ -62,11 +62,11 @@ module _ {K : Type 0} (R : K → K → Ordering) (o : IsTotalOrder R) (same : Is
       ap (λ (r : Ordering). ordering_then r (slice_cmp R k j)) (sym (o.antisymm t s) ∙ ap (R t) same_head) ∙ b
       in step_between s t p k j (R s t) refl a c (λ d e. starts_between p k j d e parts.1)
 
-below_le : (p k : List Step) → is_below p k ≡ true → is_le (path_cmp p k) ≡ true
+pub below_le : (p k : List Step) → is_below p k ≡ true → is_le (path_cmp p k) ≡ true
 unfolding starts
 below_le = starts_le step_cmp steps_total step_same
 
-below_between : (p k j : List Step) → is_le (path_cmp p k) ≡ true → path_cmp k j ≡ Less → is_below p j ≡ true → is_below p k ≡ true
+pub below_between : (p k j : List Step) → is_le (path_cmp p k) ≡ true → path_cmp k j ≡ Less → is_below p j ≡ true → is_below p k ≡ true
 unfolding starts
 below_between = starts_between step_cmp steps_total step_same
 
@@ -142,7 +142,7 @@ below_more (x ∷ p) [] s h = cc
 below_more (x ∷ p) (y ∷ q) s h =
     let parts = both (eq_by_cmp step_cmp x y) _ h in both_true _ _ parts.0 (below_more p q s parts.1)
 
-below_top : (p : List Step) → is_below p [] ≡ true → p ≡ []
+pub below_top : (p : List Step) → is_below p [] ≡ true → p ≡ []
 below_top [] h = refl
 below_top (x ∷ p) h = cc
 

@@ -15,6 +15,7 @@ pub mod ChildrenLemmas
 pub mod SpelledLemmas
 pub mod ReadsLemmas
 pub mod TopLemmas
+pub mod AfterLemmas
 pub mod FollowLemmas
 pub mod NameLemmas
 pub mod ReadyLemmas

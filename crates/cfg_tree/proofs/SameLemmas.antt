@@ -26,7 +26,7 @@ same_bool false false = (λ _. refl, λ _. refl)
 value_of : (v w : Value) → v.inactive ≡ w.inactive → v.protected ≡ w.protected → v.order ≡ w.order → v.words ≡ w.words → v ≡ w
 value_of v w a b c d = λ i. record { inactive = a i; protected = b i; order = c i; words = d i }
 
-same_value : (v w : Value) → Decides ((value.ghosts).eq v w) (v ≡ w)
+pub same_value : (v w : Value) → Decides ((value.ghosts).eq v w) (v ≡ w)
 same_value v w =
     Decides-like _
     (λ h. value_of v w h.0 h.1.0 h.1.1.0 h.1.1.1)

@@ -7,6 +7,7 @@
 //! (`curly_text`, `set_text`).
 #![tactic(auto)]
 
+mod after;
 mod change;
 mod children;
 mod fault;

@@ -9,6 +9,7 @@ ghost use Rattle.cfg_tree.specs.Tree.{IsTree};
 ghost use Rattle.cfg_tree.specs.Children.{step_if, children_of};
 ghost use Rattle.cfg_tree.specs.Change.{removed, IsReady, IsPut, IsPutFault};
 
+use crate::after::next_in;
 use crate::change::{put_in, remove_in};
 use crate::children::children_in;
 use crate::fault::TreeFault;
@@ -112,5 +113,13 @@ impl Tree {
     {
         let steps = children_in(self.alloc, &self.statements, path)?;
         Ok(Steps::from(steps))
+    }
+
+    /// The first statement after a path in the order of paths, where one stands there.
+    pub fn next(&self, path: &Path) -> Option<(&Path, &Value)>
+        ensures { MatchOption result (IsLast self.now path.now)
+            (λ found. IsNext self.now path.now found.0.now found.1.now) }
+    {
+        next_in(&self.statements, path)
     }
 }
