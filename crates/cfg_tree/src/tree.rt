@@ -1,4 +1,4 @@
-ghost use Rattle.std.specs.Prelude.{◌≡◌, ◌+◌, ◌↔◌, OnOk, OnErr, IfOk, IfErr, IsTrue, [], ◌∷◌, ◌++◌, filter, is_some};
+ghost use Rattle.std.specs.Prelude.{◌≡◌, ◌+◌, ◌↔◌, OnOk, OnErr, IfOk, IfErr, IsTrue, MatchOption, [], ◌∷◌, ◌++◌, filter, is_some};
 ghost use Rattle.std.specs.Ordering.{eq_by_cmp};
 ghost use Rattle.cfg_base.specs.Order.{step_cmp};
 ghost use Rattle.cfg_base.specs.declared.path.Step.{Step};
@@ -6,6 +6,7 @@ ghost use Rattle.std.specs.Option.{option_copied};
 ghost use Rattle.std.specs.FinMap as map;
 ghost use Rattle.cfg_tree.specs.Statements.{Statements, size_of};
 ghost use Rattle.cfg_tree.specs.Tree.{IsTree};
+ghost use Rattle.cfg_tree.specs.After.{IsNext, IsLast};
 ghost use Rattle.cfg_tree.specs.Children.{step_if, children_of};
 ghost use Rattle.cfg_tree.specs.Change.{removed, IsReady, IsPut, IsPutFault};
 
