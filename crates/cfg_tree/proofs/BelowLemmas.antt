@@ -1,5 +1,5 @@
 -- Paths below a path: they are its steps and more, and in the order of paths they stand together.
-use Rattle.std.proofs.Common.{◌≡◌, Bool, true, false, not, cond, ◌&&◌, List, [], ◌∷◌, ◌++◌, filter, refl, append-nil, sym, ap, ◌∙◌}
+use Rattle.std.proofs.Common.{◌≡◌, Bool, true, false, cond, ◌&&◌, List, [], ◌∷◌, ◌++◌, filter, refl, append-nil, sym, ap, ◌∙◌}
 use Rattle.std.specs.List.{starts_with}
 use Rattle.std.specs.FinMap.{IsAntisymmetric}
 use Rattle.std.specs.Cmp.{IsTotalOrder}
@@ -62,17 +62,17 @@ module _ {K : Type 0} (R : K → K → Ordering) (o : IsTotalOrder R) (same : Is
       ap (λ (r : Ordering). ordering_then r (slice_cmp R k j)) (sym (o.antisymm t s) ∙ ap (R t) same_head) ∙ b
       in step_between s t p k j (R s t) refl a c (λ d e. starts_between p k j d e parts.1)
 
-below_le : (p k : List Step) → is_below p k ≡ true → is_le (path_cmp p k) ≡ true
+pub below_le : (p k : List Step) → is_below p k ≡ true → is_le (path_cmp p k) ≡ true
 unfolding starts
 below_le = starts_le step_cmp steps_total step_same
 
-below_between : (p k j : List Step) → is_le (path_cmp p k) ≡ true → path_cmp k j ≡ Less → is_below p j ≡ true → is_below p k ≡ true
+pub below_between : (p k j : List Step) → is_le (path_cmp p k) ≡ true → path_cmp k j ≡ Less → is_below p j ≡ true → is_below p k ≡ true
 unfolding starts
 below_between = starts_between step_cmp steps_total step_same
 
 -- whether a path isn't before another one
 abbrev from_here : List Step → List Step → Bool
-from_here p k = is_le (path_cmp p k) && not false
+from_here p k = is_le (path_cmp p k)
 
 skipped : {X : Type 0} (c : Bool) (j : X) (ks : List X) → c ≡ false → ks ≡ [] → cond c (j ∷ ks) ks ≡ []
 skipped true j ks e f = cc
@@ -92,7 +92,7 @@ front_by : (p k : List Step) (rest kept : List (List Step)) (t b : Bool) → fro
     → front_of (is_below p) (cond t (k ∷ rest) rest) ≡ cond b (k ∷ kept) kept
 front_by p k rest kept true true e f h g = ap (λ (c : Bool). cond c (k ∷ front_of (is_below p) rest) []) f ∙ ap (λ (xs : List (List Step)). k ∷ xs) h
 front_by p k rest kept true false e f h g = ap (λ (c : Bool). cond c (k ∷ front_of (is_below p) rest) []) f ∙ sym (g refl refl)
-front_by p k rest kept false true e f h g = let d = both_true _ (not false) (below_le p k f) refl in cc
+front_by p k rest kept false true e f h g = let d = below_le p k f in cc
 front_by p k rest kept false false e f h g = h
 
 -- of paths in order, those below a path stand together from it on
@@ -101,7 +101,7 @@ front_is : (p : List Step) (ks : List (List Step)) → IsStrictlySortedBy path_c
 front_is p [] sorted = refl
 front_is p (k ∷ ks) sorted =
     front_by p k (filter (from_here p) ks) (filter (is_below p) ks) _ _ refl refl (front_is p ks (sorted_tail path_cmp k ks sorted))
-    (λ e f. none_later p k ks (both (is_le (path_cmp p k)) _ e).0 f (sorted_head path_cmp k ks sorted))
+    (λ e f. none_later p k ks e f (sorted_head path_cmp k ks sorted))
 
 keys_cond : (c : Bool) (e : List Step × Value) (es : List (List Step × Value)) (ks : List (List Step)) → keys_of es ≡ ks
     → keys_of (cond c (e ∷ es) es) ≡ cond c (e.0 ∷ ks) ks
@@ -142,7 +142,7 @@ below_more (x ∷ p) [] s h = cc
 below_more (x ∷ p) (y ∷ q) s h =
     let parts = both (eq_by_cmp step_cmp x y) _ h in both_true _ _ parts.0 (below_more p q s parts.1)
 
-below_top : (p : List Step) → is_below p [] ≡ true → p ≡ []
+pub below_top : (p : List Step) → is_below p [] ≡ true → p ≡ []
 below_top [] h = refl
 below_top (x ∷ p) h = cc
 

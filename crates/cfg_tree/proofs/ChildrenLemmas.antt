@@ -1,7 +1,7 @@
 -- The children of a path are those of its rows, one row after the other.
 use Rattle.std.proofs.Common.{◌≡◌, ℕ, ◌+◌, ◌==◌, Bool, true, false, cond, ◌&&◌, List, [], ◌∷◌, length, filter, map as each, flat_map, refl, sym, ap, ◌∙◌, Option, Some, None}
 use Rattle.std.specs.FinMap as map
-use Rattle.std.specs.BTreeMap.{BTreeMap, IsOrdered}
+use Rattle.cfg_entries.specs.EntryMap.{EntryMap, IsOrdered}
 use Rattle.std.specs.Map.{keys_of}
 use Rattle.cfg_base.specs.Order.{path_cmp}
 use Rattle.cfg_base.specs.declared.path.Step.{Step}
@@ -24,7 +24,7 @@ filter-filter {X} p q (x ∷ xs) = by_test (p x) (filter-filter p q xs)
     by_test false go = go
 
 -- the last steps of the children that were found
-steps_found : (m : BTreeMap (List Step) Value) (path : List Step) (ks : List (List Step)) (count : ℕ) (below : List Step) → IsOrdered path_cmp m
+steps_found : (m : EntryMap (List Step) Value) (path : List Step) (ks : List (List Step)) (count : ℕ) (below : List Step) → IsOrdered path_cmp m
     → ks ≡ filter (is_below path) (keys_of m.entries) → count ≡ length path + 1
     → below ≡ each last_of (filter (λ (k : List Step). length k == count) ks) → below ≡ steps_below (shown m) path
 steps_found m path ks count below sorted e is_count f =
@@ -34,7 +34,7 @@ steps_found m path ks count below sorted e is_count f =
     ∙ ap (each last_of) (filter-filter (is_below path) (λ (k : List Step). length k == length path + 1) (keys_of m.entries))
     ∙ ap (λ (es : List (List Step × Value)). each last_of (filter (is_child path) (keys_of es))) (sym (entries_is m.entries sorted))
 
-pub children_found : (m : BTreeMap (List Step) Value) (path steps : List Step) (here : Place) (ks : List (List Step)) (count : ℕ)
+pub children_found : (m : EntryMap (List Step) Value) (path steps : List Step) (here : Place) (ks : List (List Step)) (count : ℕ)
     (below : List Step) (names : List (List ℕ)) (rows : List ℕ) (result : List Step) → IsOrdered path_cmp m
     → steps ≡ path → Some here ≡ place_of steps
     → ks ≡ filter (is_below path) (keys_of m.entries) → count ≡ length path + 1

@@ -4,7 +4,7 @@ use Rattle.std.specs.List.{list_any, AllByRecursion}
 use Rattle.std.specs.List.Sorted.{IsStrictlySortedBy}
 use Rattle.std.specs.FinMap as map
 use Rattle.std.specs.FinMap.Entries.{where_key, find-where_key}
-use Rattle.std.specs.BTreeMap.{BTreeMap, IsOrdered}
+use Rattle.cfg_entries.specs.EntryMap.{EntryMap, IsOrdered}
 use Rattle.std.specs.Map.{keys_of}
 use Rattle.std.specs.Ordering.{eq_by_cmp}
 use Rattle.std.specs.declared.cmp.Ordering.TheVariants.{Less}
@@ -60,14 +60,14 @@ taken_or_not true None = refl
 taken_or_not true (Some v) = refl
 taken_or_not false o = refl
 
-known_keys : (m : BTreeMap (List Step) Value) (q : List Step) → IsOrdered path_cmp m
+known_keys : (m : EntryMap (List Step) Value) (q : List Step) → IsOrdered path_cmp m
     → list_any (eq_by_cmp path_cmp q) (keys_of m.entries) ≡ is_some (map.get (shown m) q)
 known_keys m q sorted =
     ap (λ (es : List (List Step × Value)). list_any (eq_by_cmp path_cmp q) (keys_of es)) (sym (entries_is m.entries sorted))
     ∙ sym (map.contains_key-keys (shown m) q)
 
 -- the paths that were found are all that are to go
-pub all_taken : (m : BTreeMap (List Step) Value) (path : List Step) (ks : List (List Step)) → IsOrdered path_cmp m
+pub all_taken : (m : EntryMap (List Step) Value) (path : List Step) (ks : List (List Step)) → IsOrdered path_cmp m
     → ks ≡ filter (is_below path) (keys_of m.entries) → without_all (shown m) ks ≡ cleared (shown m) path
 all_taken m path ks sorted e = same_statements _ _ (λ q.
     get-without_all (shown m) ks q
@@ -99,7 +99,7 @@ sorted_where p (e ∷ es) h = by_test (p e.0) (sorted_where p es (sorted_tail pa
     by_test true go = (all_below e.0 p es (sorted_head path_cmp e.0 (keys_of es) h), go)
     by_test false go = go
 
-cleared_is : (m : BTreeMap (List Step) Value) (path : List Step)
+cleared_is : (m : EntryMap (List Step) Value) (path : List Step)
     → cleared (shown m) path ≡ map.from_entries {R = path_cmp} (where_key path_cmp (λ q. not (is_below path q)) m.entries)
 cleared_is m path = same_statements _ _ (λ q.
     get-cleared (shown m) path q
@@ -108,7 +108,7 @@ cleared_is m path = same_statements _ _ (λ q.
     ∙ sym (map.get-from_entries paths_total (where_key path_cmp (λ x. not (is_below path x)) m.entries) q))
 
 -- what goes and what stays are all
-pub cleared_size : (m : BTreeMap (List Step) Value) (path : List Step) (ks : List (List Step)) → IsOrdered path_cmp m
+pub cleared_size : (m : EntryMap (List Step) Value) (path : List Step) (ks : List (List Step)) → IsOrdered path_cmp m
     → ks ≡ filter (is_below path) (keys_of m.entries) → length ks + size_of (cleared (shown m) path) ≡ size_of (shown m)
 cleared_size m path ks sorted e =
     let stay = ap (λ (n : Statements). size_of n) (cleared_is m path)
@@ -120,7 +120,7 @@ cleared_size m path ks sorted e =
     in omega (arith, stay, go, both_are, whole)
 
 -- what is counted and what stays are all
-pub counted : (m : BTreeMap (List Step) Value) (path : List Step) (ks : List (List Step)) (count : ℕ) (after : Statements)
+pub counted : (m : EntryMap (List Step) Value) (path : List Step) (ks : List (List Step)) (count : ℕ) (after : Statements)
     → IsOrdered path_cmp m → ks ≡ filter (is_below path) (keys_of m.entries) → count ≡ length ks → after ≡ removed (shown m) path
     → count + size_of after ≡ size_of (shown m)
 counted m path ks count after sorted e is_count is_after =

@@ -1,4 +1,5 @@
 pub mod MapLemmas
+pub mod EntryLemmas
 pub mod TreeLemmas
 pub mod SameLemmas
 pub mod BelowLemmas
@@ -14,3 +15,11 @@ pub mod ChildrenLemmas
 pub mod SpelledLemmas
 pub mod ReadsLemmas
 pub mod TopLemmas
+pub mod AfterLemmas
+pub mod FollowLemmas
+pub mod NameLemmas
+pub mod ReadyLemmas
+pub mod TargetLemmas
+pub mod UniqueLemmas
+pub mod OnceLemmas
+pub mod PutAnswerLemmas

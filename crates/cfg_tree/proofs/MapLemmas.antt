@@ -1,25 +1,23 @@
 -- Maps from paths: what a look-up in the entries tells, and that maps which answer alike are one.
-use Rattle.std.proofs.Common.{◌≡◌, ℕ, Bool, true, false, cond, List, [], ◌∷◌, length, refl, sym, ap, subst, ◌∙◌, Option, Some, None, arith}
+use Rattle.std.proofs.Common.{◌≡◌, true, cond, List, [], ◌∷◌, length, refl, sym, ap, subst, ◌∙◌, Some, arith}
 use Rattle.std.specs.FinMap as map
 use Rattle.std.specs.FinMap.{IsAntisymmetric, slice_cmp-IsAntisymmetric, nat_cmp-IsAntisymmetric}
 use Rattle.std.specs.FinMap.Entries.{by_order, put, find}
 use Rattle.std.specs.Map.{lookup, keys_of}
-use Rattle.std.specs.BTreeMap.{BTreeMap, is_at, get, Updates}
+use Rattle.cfg_entries.specs.EntryMap.{EntryMap, is_at}
 use Rattle.std.specs.List.{AllByRecursion}
 use Rattle.std.specs.List.Sorted.{IsStrictlySortedBy}
 use Rattle.std.specs.declared.cmp.Ordering.{Ordering}
 use Rattle.std.specs.declared.cmp.Ordering.TheVariants.{Less, Equal, Greater}
 use Rattle.std.specs.Ordering.{eq_by_cmp, is_eq, ordering_then}
 use Rattle.std.specs.Bool.{Decides}
-use Rattle.std.specs.Cmp.{IsTotalOrder, eq_by_cmp_equiv, tied_itself}
+use Rattle.std.specs.Cmp.{IsTotalOrder, tied_itself}
 use Rattle.std.proofs.lemmas.Map.Keys.{sorted_head, sorted_tail}
 use Rattle.cfg_base.specs.Order.{word_cmp, step_cmp, path_cmp, paths_total, steps_total}
 use Rattle.cfg_base.specs.declared.path.Step.{Step}
 use Rattle.cfg_base.specs.declared.value.Value.{Value}
 use Rattle.cfg_tree.specs.Statements.{Statements}
-use Rattle.std.specs.Option.{option_map}
-use Rattle.cfg_tree.specs.Shown.{shown, with_names}
-use Rattle.cfg_tree.specs.Change.{with_order, with_order_of}
+use Rattle.cfg_tree.specs.Shown.{shown}
 
 pub word_same : IsAntisymmetric word_cmp
 word_same = slice_cmp-IsAntisymmetric nat_cmp-IsAntisymmetric
@@ -63,7 +61,7 @@ find_lookup [] q = refl
 find_lookup (e ∷ es) q = ap (cond (is_eq (path_cmp q e.0)) (Some e.1)) (find_lookup es q)
 
 -- what a look-up in the entries tells
-pub get_is : (m : BTreeMap (List Step) Value) (q : List Step) → map.get (shown m) q ≡ lookup (is_at (path_cmp q)) m.entries
+pub get_is : (m : EntryMap (List Step) Value) (q : List Step) → map.get (shown m) q ≡ lookup (is_at (path_cmp q)) m.entries
 get_is m q = map.get-from_entries paths_total m.entries q ∙ find_lookup m.entries q
 
 put_first : (k : List Step) (v : Value) (es : List (List Step × Value)) → AllByRecursion (λ y. path_cmp k y ≡ Less) (keys_of es) → put path_cmp k v es ≡ (k, v) ∷ es
@@ -88,58 +86,3 @@ len_is es h = map.len-entries (map.from_entries es) ∙ ap length (entries_is es
 -- maps that answer alike are one
 pub same_statements : (m n : Statements) → ((q : List Step) → map.get m q ≡ map.get n q) → m ≡ n
 same_statements m n = map.same_map paths_total path_same m n
-
--- two keys tie in either order
-flipped : (k q : List Step) → is_at (path_cmp k) q ≡ eq_by_cmp path_cmp q k
-flipped k q = (eq_by_cmp_equiv paths_total).symm k q
-
--- what `insert` of the tree map makes
-pub inserted : (m n : BTreeMap (List Step) Value) (k : List Step) (v : Value) → Updates path_cmp m n k (Some v)
-    → shown n ≡ map.insert (shown m) k v
-inserted m n k v u = same_statements _ _ (λ q.
-    get_is n q
-    ∙ u.0 q
-    ∙ ap (λ (b : Bool). cond b (Some v) (get path_cmp m q)) (flipped k q)
-    ∙ ap (λ (o : Option Value). cond (eq_by_cmp path_cmp q k) (Some v) o) (sym (get_is m q))
-    ∙ sym (map.get-insert paths_total (shown m) k v q))
-
--- what `remove` of the tree map makes
-pub taken : (m n : BTreeMap (List Step) Value) (k : List Step) → Updates path_cmp m n k None
-    → shown n ≡ map.remove (shown m) k
-taken m n k u = same_statements _ _ (λ q.
-    get_is n q
-    ∙ u.0 q
-    ∙ ap (λ (b : Bool). cond b None (get path_cmp m q)) (flipped k q)
-    ∙ ap (λ (o : Option Value). cond (eq_by_cmp path_cmp q k) None o) (sym (get_is m q))
-    ∙ sym (map.get-remove paths_total (shown m) k q))
-
--- what a write of the order at a key makes
-module _ (m n : BTreeMap (List Step) Value) (p : List Step) (names : List (List ℕ))
-    (at : get path_cmp n p ≡ option_map (with_names names) (get path_cmp m p))
-    (others : (q : List Step) → is_at (path_cmp p) q ≡ false → get path_cmp n q ≡ get path_cmp m q) where
-  unwritten : (q : List Step) (b : Bool) → is_at (path_cmp p) q ≡ b → get path_cmp m p ≡ None → map.get (shown n) q ≡ map.get (shown m) q
-  unwritten q true e none =
-      let same = (same_path p q).0 e
-      in let there : map.get (shown n) p ≡ map.get (shown m) p =
-      get_is n p ∙ at ∙ ap (λ (o : Option Value). option_map (with_names names) o) none ∙ sym none ∙ sym (get_is m p)
-      in subst (λ (x : List Step). map.get (shown n) x ≡ map.get (shown m) x) same there
-  unwritten q false e none = get_is n q ∙ others q e ∙ sym (get_is m q)
-
-  written : (v : Value) (q : List Step) (b : Bool) → is_at (path_cmp p) q ≡ b → get path_cmp m p ≡ Some v
-      → map.get (shown n) q ≡ cond b (Some (with_names names v)) (map.get (shown m) q)
-  written v q true e some =
-      let same = (same_path p q).0 e
-      in let there : map.get (shown n) p ≡ Some (with_names names v) =
-      get_is n p ∙ at ∙ ap (λ (o : Option Value). option_map (with_names names) o) some
-      in subst (λ (x : List Step). map.get (shown n) x ≡ Some (with_names names v)) same there
-  written v q false e some = get_is n q ∙ others q e ∙ sym (get_is m q)
-
-  ordered_at : (o : Option Value) → get path_cmp m p ≡ o → shown n ≡ with_order_of (shown m) p (λ _. names) o
-  ordered_at None e = same_statements _ _ (λ q. unwritten q _ refl e)
-  ordered_at (Some v) e = same_statements _ _ (λ q.
-      written v q _ refl e
-      ∙ ap (λ (b : Bool). cond b (Some (with_names names v)) (map.get (shown m) q)) (flipped p q)
-      ∙ sym (map.get-insert paths_total (shown m) p (with_names names v) q))
-
-  pub ordered : shown n ≡ with_order (shown m) p (λ _. names)
-  ordered = subst (λ (o : Option Value). shown n ≡ with_order_of (shown m) p (λ _. names) o) (sym (get_is m p)) (ordered_at _ refl)

@@ -1,7 +1,7 @@
 -- Whether there is room, and that a tree stays one.
 use Rattle.std.proofs.Common.{◌≡◌, ℕ, zero, suc, ◌+◌, ◌-◌, ◌<◌, ◌≤◌, nat_le, Bool, true, false, not, List, length, refl, sym, ap, subst, ◌∙◌, Option, Some, None, is_some, is_none, arith, rules, Fits, w32, take}
 use Rattle.std.specs.FinMap as map
-use Rattle.std.specs.BTreeMap.{BTreeMap, IsOrdered, is_at}
+use Rattle.cfg_entries.specs.EntryMap.{EntryMap, IsOrdered, is_at}
 use Rattle.std.specs.Map.{lookup}
 use Rattle.cfg_base.specs.Order.{path_cmp}
 use Rattle.cfg_base.specs.declared.path.Step.{Step}
@@ -22,12 +22,12 @@ none_some : (o : Option Value) → not (is_some o) ≡ is_none o
 none_some None = refl
 none_some (Some v) = refl
 
-pub new_is : (m : BTreeMap (List Step) Value) (path : List Step) (b : Bool) → b ≡ is_some (lookup (is_at (path_cmp path)) m.entries)
+pub new_is : (m : EntryMap (List Step) Value) (path : List Step) (b : Bool) → b ≡ is_some (lookup (is_at (path_cmp path)) m.entries)
     → not b ≡ is_none (map.get (shown m) path)
 new_is m path b e =
     ap not e ∙ none_some (lookup (is_at (path_cmp path)) m.entries) ∙ ap (λ (o : Option Value). is_none o) (sym (get_is m path))
 
-pub full_is : (m : BTreeMap (List Step) Value) (n : ℕ) → n ≡ length m.entries → IsOrdered path_cmp m
+pub full_is : (m : EntryMap (List Step) Value) (n : ℕ) → n ≡ length m.entries → IsOrdered path_cmp m
     → nat_le MAX_STATEMENTS n ≡ nat_le MAX_STATEMENTS (size_of (shown m))
 full_is m n e sorted = ap (λ (k : ℕ). nat_le MAX_STATEMENTS k) (e ∙ sym (len_is m.entries sorted))
 

@@ -1,16 +1,14 @@
 -- Two trees are the same exactly where their entries are.
-use Rattle.std.proofs.Common.{eqb, eqb-true, ◌≡◌, ℕ, Bool, true, false, ◌&&◌, List, length, refl, sym, ap, ◌∙◌}
+use Rattle.std.proofs.Common.{eqb, eqb-true, ◌≡◌, ℕ, Bool, true, false, List, length, refl, sym, ap, subst, ◌∙◌}
 use Rattle.std.specs.FinMap as map
-use Rattle.std.specs.BTreeMap.{BTreeMap, IsOrdered}
+use Rattle.cfg_entries.specs.EntryMap.{EntryMap, IsOrdered, same_pair}
 use Rattle.std.specs.Bool.{Decides}
 use Rattle.std.specs.Cmp.Lexicographic.{pointwise, pointwise_decides}
 use Rattle.std.proofs.lemmas.Bool.Decides.{Decides-and, Decides-like}
-use Rattle.std.proofs.lemmas.Map.Lookups.{btree_map_eq-Decides}
 use Rattle.cfg_base.specs.Order.{path_cmp, words_total, words_eq}
 use Rattle.cfg_base.specs.declared.path.Step.{Step}
 use Rattle.cfg_base.specs.declared.value.Value.{Value}
 use Rattle.cfg_base.specs.contracts.value.ValuePartialEq.TheImpl as value
-use Rattle.cfg_base.specs.contracts.path.PathPartialEq.TheImpl as path
 use mathlib.Core.Bool.{beq}
 use Rattle.cfg_tree.specs.Statements.{Statements}
 use Rattle.cfg_tree.specs.Shown.{shown}
@@ -28,7 +26,7 @@ same_bool false false = (λ _. refl, λ _. refl)
 value_of : (v w : Value) → v.inactive ≡ w.inactive → v.protected ≡ w.protected → v.order ≡ w.order → v.words ≡ w.words → v ≡ w
 value_of v w a b c d = λ i. record { inactive = a i; protected = b i; order = c i; words = d i }
 
-same_value : (v w : Value) → Decides ((value.ghosts).eq v w) (v ≡ w)
+pub same_value : (v w : Value) → Decides ((value.ghosts).eq v w) (v ≡ w)
 same_value v w =
     Decides-like _
     (λ h. value_of v w h.0 h.1.0 h.1.1.0 h.1.1.1)
@@ -37,22 +35,29 @@ same_value v w =
     (Decides-and _ _ (same_bool v.protected w.protected)
     (Decides-and _ _ (same_words v.order w.order) (same_words v.words w.words))))
 
+same_entry : (p q : List Step × Value) → Decides (same_pair p q) (p ≡ q)
+same_entry p q =
+    Decides-like _
+    (λ h i. (h.0 i, h.1 i))
+    (λ e. (ap (λ (x : List Step × Value). x.0) e, ap (λ (x : List Step × Value). x.1) e))
+    (Decides-and _ _ (same_path p.0 q.0) (same_value p.1 q.1))
+
 -- the maps of two lists of entries in order are the same exactly where the lists are
-entries_same : (a b : BTreeMap (List Step) Value) → IsOrdered path_cmp a → IsOrdered path_cmp b → shown a ≡ shown b → a.entries ≡ b.entries
+entries_same : (a b : EntryMap (List Step) Value) → IsOrdered path_cmp a → IsOrdered path_cmp b → shown a ≡ shown b → a.entries ≡ b.entries
 entries_same a b s t e = sym (entries_is a.entries s) ∙ ap (λ (m : Statements). map.entries m) e ∙ entries_is b.entries t
 
-pub same_trees : (a b : BTreeMap (List Step) Value) (m n : Statements) (r : Bool) → shown a ≡ m → shown b ≡ n
+pub same_trees : (a b : EntryMap (List Step) Value) (m n : Statements) (r : Bool) → shown a ≡ m → shown b ≡ n
     → IsOrdered path_cmp a → IsOrdered path_cmp b
-    → r ≡ pointwise (λ (p q : List Step × Value). (path.ghosts).eq p.0 q.0 && (value.ghosts).eq p.1 q.1) a.entries b.entries
+    → r ≡ pointwise same_pair a.entries b.entries
     → (r ≡ true → m ≡ n) × (m ≡ n → r ≡ true)
 same_trees a b m n r va vb s t e =
-    let decides = btree_map_eq-Decides same_path same_value a b r e
+    let decides = subst (λ (x : Bool). Decides x (a.entries ≡ b.entries)) (sym e) (pointwise_decides same_entry a.entries b.entries)
     in (
       λ h. sym va ∙ ap (λ (es : List (List Step × Value)). map.from_entries es) (decides.0 h) ∙ vb,
       λ h. decides.1 (entries_same a b s t (va ∙ h ∙ sym vb)),
     )
 
-pub other_trees : (a b : BTreeMap (List Step) Value) (m n : Statements) (i j : ℕ) → shown a ≡ m → shown b ≡ n
+pub other_trees : (a b : EntryMap (List Step) Value) (m n : Statements) (i j : ℕ) → shown a ≡ m → shown b ≡ n
     → IsOrdered path_cmp a → IsOrdered path_cmp b → i ≡ length a.entries → j ≡ length b.entries → (i ≡ j → ⊥)
     → (eqb i j ≡ true → m ≡ n) × (m ≡ n → eqb i j ≡ true)
 other_trees a b m n i j va vb s t ea eb differ = (

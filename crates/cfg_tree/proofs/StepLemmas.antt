@@ -28,7 +28,7 @@ size-order m a f = by_value _ refl
     by_value (Some v) e =
         map.len-insert paths_total m a (renamed f v) ∙ ap (λ (x : Option Value). cond (is_some x) (map.len m) (map.len m + 1)) e
 
-differs_from_parent : (path : List Step) → 0 < length path → path ≢ parent_of path
+pub differs_from_parent : (path : List Step) → 0 < length path → path ≢ parent_of path
 differs_from_parent path long e = child_differs (parent_of path) (last_of path) (sym (split path long) ∙ e)
 
 unchanged : (o : Option Value) → o ≡ option_map (renamed (λ names. names)) o
@@ -103,17 +103,17 @@ get-cleared m path q =
     map.get-retain_keys m (λ other. not (is_below path other)) q
     (λ x tie. ap (λ (p : List Step). not (is_below path p)) (sym (path_same q x tie)))
 
-cleared_below : (m : Statements) (path q : List Step) → is_below path q ≡ true → map.get (cleared m path) q ≡ None
+pub cleared_below : (m : Statements) (path q : List Step) → is_below path q ≡ true → map.get (cleared m path) q ≡ None
 cleared_below m path q e = get-cleared m path q ∙ ap (λ (b : Bool). cond (not b) (map.get m q) None) e
 
-cleared_other : (m : Statements) (path q : List Step) → is_below path q ≡ false → map.get (cleared m path) q ≡ map.get m q
+pub cleared_other : (m : Statements) (path q : List Step) → is_below path q ≡ false → map.get (cleared m path) q ≡ map.get m q
 cleared_other m path q e = get-cleared m path q ∙ ap (λ (b : Bool). cond (not b) (map.get m q) None) e
 
-parent_out : (path : List Step) → 0 < length path → is_below path (parent_of path) ≡ false
+pub parent_out : (path : List Step) → 0 < length path → is_below path (parent_of path) ≡ false
 parent_out path long =
     ap (λ (p : List Step). is_below p (parent_of path)) (split path long) ∙ parent_apart (parent_of path) (last_of path)
 
-below_out : (path q : List Step) → is_below path q ≡ true → is_below path (parent_of path) ≡ false → q ≢ parent_of path
+pub below_out : (path q : List Step) → is_below path q ≡ true → is_below path (parent_of path) ≡ false → q ≢ parent_of path
 below_out path q e f is_parent = let d = ap (λ (x : List Step). is_below path x) (sym is_parent) ∙ e in cc
 
 remove_by : (m : Statements) (path : List Step) → (b : Bool) → is_ordered path ≡ b → (b ≡ true → 0 < length path)
@@ -135,7 +135,7 @@ remove_by m path false e long few = record {
     clash : is_ordered path ≡ true → is_ordered path ≡ false → ⊥
     clash t u = cc
 
-long_if : (path : List Step) → is_ordered path ≡ true → 0 < length path
+pub long_if : (path : List Step) → is_ordered path ≡ true → 0 < length path
 long_if [] h = let d = top_is_unordered [] refl in cc
 long_if (x ∷ path) h = omega arith
 

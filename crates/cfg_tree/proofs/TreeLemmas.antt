@@ -2,7 +2,7 @@
 use Rattle.std.proofs.Common.{◌≡◌, ℕ, ◌≤◌, List, [], length, sym, subst, ◌∙◌, Some, rules, Fits, w32, lit≤}
 use Rattle.std.specs.Prelude.{IsSome}
 use Rattle.std.specs.FinMap as map
-use Rattle.std.specs.BTreeMap.{BTreeMap, IsOrdered}
+use Rattle.cfg_entries.specs.EntryMap.{EntryMap, IsOrdered}
 use Rattle.cfg_base.specs.Order.{path_cmp}
 use Rattle.cfg_base.specs.declared.path.Step.{Step}
 use Rattle.cfg_base.specs.declared.value.Value.{Value}
@@ -37,6 +37,6 @@ nothing_is_tree es e = subst (λ (xs : List (List Step × Value)). IsTree (map.f
 small : (n : ℕ) → n ≤ 16384 → Fits w32 n
 small n h = search rules
 
-pub count_fits : (m : BTreeMap (List Step) Value) (n : ℕ) → n ≡ length m.entries → IsOrdered path_cmp m → IsTree (shown m) → Fits w32 n
+pub count_fits : (m : EntryMap (List Step) Value) (n : ℕ) → n ≡ length m.entries → IsOrdered path_cmp m → IsTree (shown m) → Fits w32 n
 count_fits m n e sorted tree =
     small _ (subst (λ (k : ℕ). k ≤ MAX_STATEMENTS) (len_is m.entries sorted ∙ sym e) tree.few)

@@ -4,5 +4,6 @@ pub mod Typed
 pub mod Tree
 pub mod Change
 pub mod Children
+pub mod After
 pub mod Resolve
 pub mod Renaming

@@ -1,13 +1,13 @@
--- The statements that a tree map holds.
+-- The statements that a list of entries holds.
 use Rattle.std.specs.FinMap as map
-use Rattle.std.specs.BTreeMap.{BTreeMap}
+use Rattle.cfg_entries.specs.EntryMap.{EntryMap}
 use Rattle.std.specs.Prelude.{List, ℕ, [], ◌∷◌}
 use Rattle.cfg_base.specs.declared.path.Step.{Step}
 use Rattle.cfg_base.specs.declared.value.Value.{Value}
 use Rattle.cfg_tree.specs.Statements.{Statements}
 
--- the entries of a tree map as a finite map
-abbrev pub shown : BTreeMap (List Step) Value → Statements
+-- the entries as a finite map
+abbrev pub shown : EntryMap (List Step) Value → Statements
 shown m = map.from_entries m.entries
 
 -- a value with other names in its order

@@ -2,20 +2,40 @@
 
 ghost use Rattle.std.specs.Prelude.{◌≡◌, ◌<◌, ◌+◌, length, OnOk, OnErr, IfOk, IfErr, is_none, nat_le};
 ghost use Rattle.std.specs.FinMap as finite;
-ghost use Rattle.std.specs.BTreeMap as tree;
 ghost use Rattle.cfg_tree.specs.Statements.{size_of};
 ghost use Rattle.cfg_tree.specs.declared.limit.TheConstants.{MAX_STATEMENTS};
 ghost use Rattle.cfg_tree.specs.Tree.{IsTree};
 ghost use Rattle.cfg_tree.specs.Shown.{shown, without_all};
 ghost use Rattle.cfg_tree.specs.Change.{put_at, removed, HasRoom, IsReady, IsPut, IsPutFault};
+ghost use Rattle.cfg_tree.specs.Renaming.{reordered_by};
 
 use crate::fault::TreeFault;
 use crate::limit::MAX_STATEMENTS;
-use crate::reorder::{Change, carry_out, listing_of, reorder_of};
+use crate::reorder::{Change, Reorder, carry_out, listing_of, reorder_of};
 use crate::store::{Entries, keys_below, put_entry, take_entry};
 use crate::typed::check;
 use cfg_base::{NoMemory, Path, Value};
 use std::alloc::Global;
+
+/// Puts a value at a path and then changes the parent's order, all or nothing.
+fn put_listed(
+    entries: &mut Entries,
+    path: Path,
+    value: Value,
+    reorder: Option<Reorder>,
+) -> Result<(), NoMemory>
+    ensures ok { OnOk result (shown entries.new ≡ reordered_by reorder (finite.insert (shown entries.old) path value)) }
+    ensures unchanged { OnErr result (entries.new ≡ entries.old) }
+{
+    if reorder.is_none() {
+        return put_entry(entries, path, value);
+    }
+    let mut next = entries.clone()?;
+    put_entry(&mut next, path, value)?;
+    carry_out(&mut next, reorder)?;
+    *entries = next;
+    Ok(())
+}
 
 /// Puts a value at a path; `new` says that none is there.
 pub fn store(
@@ -31,17 +51,32 @@ pub fn store(
     ensures unchanged { OnErr result (shown entries.new ≡ shown entries.old) }
 {
     let reorder = listing_of(alloc, entries, path, new)?;
-    put_entry(entries, path.clone()?, value)?;
-    carry_out(entries, reorder);
+    put_listed(entries, path.clone()?, value, reorder)
+}
+
+fn take_all(entries: &mut Entries, keys: &[Path]) -> Result<(), NoMemory>
+    ensures { OnOk result (shown entries.new ≡ without_all (shown entries.old) keys.now) }
+{
+    for key in keys {
+        take_entry(entries, key)?;
+    }
     Ok(())
 }
 
-fn take_all(entries: &mut Entries, keys: &[Path])
-    ensures { shown entries.new ≡ without_all (shown entries.old) keys.now }
+/// Takes paths away and then changes the parent's order, all or nothing.
+fn take_listed(
+    entries: &mut Entries,
+    keys: &[Path],
+    reorder: Option<Reorder>,
+) -> Result<(), NoMemory>
+    ensures ok { OnOk result (shown entries.new ≡ reordered_by reorder (without_all (shown entries.old) keys.now)) }
+    ensures unchanged { OnErr result (entries.new ≡ entries.old) }
 {
-    for key in keys {
-        take_entry(entries, key);
-    }
+    let mut next = entries.clone()?;
+    take_all(&mut next, keys)?;
+    carry_out(&mut next, reorder)?;
+    *entries = next;
+    Ok(())
 }
 
 /// Takes a path and all below it away, and tells how many paths went.
@@ -52,8 +87,7 @@ pub fn unstore(alloc: Global, entries: &mut Entries, path: &Path) -> Result<usiz
 {
     let keys = keys_below(alloc, entries, path)?;
     let reorder = reorder_of(alloc, entries, path, Change::Without)?;
-    take_all(entries, &keys);
-    carry_out(entries, reorder);
+    take_listed(entries, &keys, reorder)?;
     Ok(keys.len())
 }
 

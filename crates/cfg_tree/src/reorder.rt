@@ -1,8 +1,6 @@
 //! The order of the children of an ordered row, which stands with their parent.
 
-ghost use Rattle.std.specs.Prelude.{◌≡◌, ◌≤◌, ◌<◌, ◌++◌, ◌∷◌, [], length, filter, not, IfOk, IsTrue};
-ghost use Rattle.std.specs.BTreeMap as tree;
-ghost use Rattle.cfg_base.specs.Order.{path_cmp};
+ghost use Rattle.std.specs.Prelude.{◌≡◌, ◌≤◌, ◌<◌, ◌++◌, ◌∷◌, [], length, filter, not, IfOk, OnOk, OnErr, IsTrue};
 ghost use Rattle.cfg_base.specs.declared.path.TheConstants.{MAX_STEPS};
 ghost use Rattle.cfg_schema.specs.Profile.{same_word};
 ghost use Rattle.cfg_schema.specs.Place.{place_of};
@@ -66,7 +64,8 @@ fn pushed(path: &Path, step: &Step) -> Result<Path, NoMemory>
     }
 }
 
-fn path_of(alloc: Global, steps: &[Step]) -> Result<Path, NoMemory>
+/// The path of these steps.
+pub fn path_of(alloc: Global, steps: &[Step]) -> Result<Path, NoMemory>
     requires { length steps.now ≤ MAX_STEPS }
     ensures { IfOk result (λ path. path ≡ steps.now) }
 {
@@ -157,10 +156,12 @@ pub fn listing_of(
 }
 
 /// Carries the change out.
-pub fn carry_out(entries: &mut Entries, reorder: Option<Reorder>)
-    ensures { shown entries.new ≡ reordered_by reorder (shown entries.old) }
+pub fn carry_out(entries: &mut Entries, reorder: Option<Reorder>) -> Result<(), NoMemory>
+    ensures ok { OnOk result (shown entries.new ≡ reordered_by reorder (shown entries.old)) }
+    ensures unchanged { OnErr result (entries.new ≡ entries.old) }
 {
-    if let Some(Reorder { parent, order }) = reorder {
-        set_order(entries, &parent, order);
+    match reorder {
+        None => Ok(()),
+        Some(Reorder { parent, order }) => set_order(entries, &parent, order),
     }
 }

@@ -1,20 +1,17 @@
 //! The map from paths to values that a tree stands on.
 
-ghost use Rattle.std.specs.Prelude.{◌≡◌, false, List, OnOk, OnErr, IfOk, filter};
+ghost use Rattle.std.specs.Prelude.{◌≡◌, OnOk, OnErr, IfOk, filter};
 ghost use Rattle.std.specs.Option.{option_map};
 ghost use Rattle.std.specs.FinMap as finite;
-ghost use Rattle.std.specs.BTreeMap as tree;
-ghost use Rattle.cfg_base.specs.declared.path.Step.{Step};
 ghost use Rattle.cfg_base.specs.Order.{path_cmp};
+ghost use Rattle.cfg_entries.specs.EntryMap as tree;
 ghost use Rattle.cfg_tree.specs.Statements.{is_below};
+ghost use Rattle.cfg_tree.specs.Change.{with_order};
 ghost use Rattle.cfg_tree.specs.Shown.{shown, with_names};
 
 use cfg_base::{NoMemory, Path, Value, Words};
+pub use cfg_entries::Entries;
 use std::alloc::{AllocError, Global};
-use std::collections::BTreeMap;
-
-/// Values by their paths.
-pub type Entries = BTreeMap<Path, Value>;
 
 /// Whether a path is another one or below it.
 pub fn is_below(above: &Path, path: &Path) -> bool
@@ -26,28 +23,42 @@ pub fn is_below(above: &Path, path: &Path) -> bool
 /// Puts a value at a path.
 pub fn put_entry(entries: &mut Entries, path: Path, value: Value) -> Result<(), NoMemory>
     ensures ok { OnOk result (shown entries.new ≡ finite.insert (shown entries.old) path value) }
-    ensures unchanged { OnErr result (entries.new.entries ≡ entries.old.entries) }
+    ensures unchanged { OnErr result (entries.new ≡ entries.old) }
 {
-    let _ = entries.insert(path, value)?;
-    Ok(())
+    entries.insert(path, value)
 }
 
 /// Takes a path away.
-pub fn take_entry(entries: &mut Entries, path: &Path)
-    ensures { shown entries.new ≡ finite.remove (shown entries.old) path.now }
+pub fn take_entry(entries: &mut Entries, path: &Path) -> Result<(), NoMemory>
+    ensures ok { OnOk result (shown entries.new ≡ finite.remove (shown entries.old) path.now) }
+    ensures unchanged { OnErr result (entries.new ≡ entries.old) }
 {
-    let _ = entries.remove(path);
+    entries.remove(path)
+}
+
+/// The value at a path, with another order.
+fn reordered(entries: &Entries, path: &Path, order: Words) -> Result<Option<Value>, NoMemory>
+    ensures { IfOk result (λ value. value ≡ option_map (with_names order) (tree.get path_cmp entries.now path.now)) }
+{
+    match entries.get(path) {
+        None => Ok(None),
+        Some(value) => Ok(Some(Value {
+            inactive: value.inactive,
+            protected: value.protected,
+            order,
+            words: value.words.clone()?,
+        })),
+    }
 }
 
 /// Gives the value at a path, where there is one, another order.
-pub fn set_order(entries: &mut Entries, path: &Path, order: Words)
-    ensures at { tree.get path_cmp entries.new path.now
-        ≡ option_map (with_names order) (tree.get path_cmp entries.old path.now) }
-    ensures others { (q : List Step) → tree.is_at (path_cmp path.now) q ≡ false
-        → tree.get path_cmp entries.new q ≡ tree.get path_cmp entries.old q }
+pub fn set_order(entries: &mut Entries, path: &Path, order: Words) -> Result<(), NoMemory>
+    ensures ok { OnOk result (shown entries.new ≡ with_order (shown entries.old) path.now (λ _. order)) }
+    ensures unchanged { OnErr result (entries.new ≡ entries.old) }
 {
-    if let Some(value) = entries.get_mut(path) {
-        value.order = order;
+    match reordered(entries, path, order)? {
+        None => Ok(()),
+        Some(value) => put_entry(entries, path.clone()?, value),
     }
 }
 
@@ -57,11 +68,12 @@ pub fn keys_below(alloc: Global, entries: &Entries, path: &Path) -> Result<Vec<P
     ensures ordered { tree.IsOrdered path_cmp entries.now }
 {
     let mut keys = Vec::new(alloc);
-    for (key, _) in entries.range(path..) {
-        if !is_below(path, key) {
+    let mut rest = entries.from(path);
+    while let Some(entry) = rest.next() {
+        if !is_below(path, entry.path()) {
             break;
         }
-        keys.push(key.clone()?)?;
+        keys.push(entry.path().clone()?)?;
     }
     Ok(keys)
 }

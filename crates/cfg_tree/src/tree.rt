@@ -1,10 +1,16 @@
-ghost use Rattle.std.specs.Prelude.{◌≡◌, ◌+◌, ◌↔◌, OnOk, OnErr, IfOk, IfErr, IsTrue};
+ghost use Rattle.std.specs.Prelude.{◌≡◌, ◌+◌, ◌↔◌, OnOk, OnErr, IfOk, IfErr, IsTrue, MatchOption, [], ◌∷◌, ◌++◌, filter, is_some};
+ghost use Rattle.std.specs.Ordering.{eq_by_cmp};
+ghost use Rattle.cfg_base.specs.Order.{step_cmp};
+ghost use Rattle.cfg_base.specs.declared.path.Step.{Step};
 ghost use Rattle.std.specs.Option.{option_copied};
 ghost use Rattle.std.specs.FinMap as map;
 ghost use Rattle.cfg_tree.specs.Statements.{Statements, size_of};
-ghost use Rattle.cfg_tree.specs.Children.{children_of};
+ghost use Rattle.cfg_tree.specs.Tree.{IsTree};
+ghost use Rattle.cfg_tree.specs.After.{IsNext, IsLast};
+ghost use Rattle.cfg_tree.specs.Children.{step_if, children_of};
 ghost use Rattle.cfg_tree.specs.Change.{removed, IsReady, IsPut, IsPutFault};
 
+use crate::after::next_in;
 use crate::change::{put_in, remove_in};
 use crate::children::children_in;
 use crate::fault::TreeFault;
@@ -48,14 +54,16 @@ impl Tree {
 
     /// The value at a path, where it is there.
     pub fn at(&self, path: &Path) -> Option<&Value>
-        ensures { option_copied result ≡ map.get self.now path.now }
+        ensures value { option_copied result ≡ map.get self.now path.now }
+        ensures tree { IsTree self.now }
     {
         self.statements.get(path)
     }
 
     /// How many statements there are.
     pub fn count(&self) -> u32
-        ensures { result ≡ size_of self.now }
+        ensures count { result ≡ size_of self.now }
+        ensures tree { IsTree self.now }
     {
         self.statements.len() as u32
     }
@@ -65,7 +73,7 @@ impl Tree {
         ensures { IsTrue result ↔ (self.now ≡ other.now) }
     {
         let alike = self.statements.len() == other.statements.len();
-        alike && self.statements == other.statements
+        alike && self.statements.same(&other.statements)
     }
 
     /// A copy of the tree.
@@ -100,9 +108,19 @@ impl Tree {
 
     /// The steps of the children of a path, in printing order.
     pub fn children(&self, path: &Path) -> Result<Steps, NoMemory>
-        ensures { IfOk result (λ steps. steps ≡ children_of self.now path.now) }
+        ensures order { IfOk result (λ steps. steps ≡ children_of self.now path.now) }
+        ensures once { IfOk result (λ steps. (step : Step) → filter (eq_by_cmp step_cmp step) steps
+            ≡ step_if (is_some (map.get self.now (path.now ++ step ∷ []))) step) }
     {
         let steps = children_in(self.alloc, &self.statements, path)?;
         Ok(Steps::from(steps))
+    }
+
+    /// The first statement after a path in the order of paths, where one stands there.
+    pub fn next(&self, path: &Path) -> Option<(&Path, &Value)>
+        ensures { MatchOption result (IsLast self.now path.now)
+            (λ found. IsNext self.now path.now found.0.now found.1.now) }
+    {
+        next_in(&self.statements, path)
     }
 }

@@ -7,10 +7,9 @@ use Rattle.cfg_tree.proofs.change.unstore.Goals as goal
 
 pub returns-clause-ok : goal.returns-clause-ok
 returns-clause-ok c =
-    c.carry_out.ensures
+    c.in_ok-take_listed.ensures.ok
     ∙ unstored (shown c.args.entries.now) _ c.args.path.now c.in_ok-reorder.reorder c.in_ok-reorder.ensures
-    (c.take_all.ensures
-    ∙ ap (λ (ks : List (List Step)). without_all (shown c.args.entries.now) ks) c.deref.ensures.value
+    (ap (λ (ks : List (List Step)). without_all (shown c.args.entries.now) ks) c.deref.ensures.value
     ∙ all_taken c.args.entries.now c.args.path.now _ c.keys_below.ensures.ordered c.in_ok-keys.ensures.ok)
 
 pub returns-clause-count : goal.returns-clause-count

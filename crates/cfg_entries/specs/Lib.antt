@@ -1,0 +1,5 @@
+pub mod EntryMap
+pub mod Rows
+pub mod Places
+pub mod Pieces
+pub mod Changes

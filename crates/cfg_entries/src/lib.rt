@@ -1,0 +1,25 @@
+//! Values by their paths, in the order of paths, in pages and blocks that copies share.
+//!
+//! Guarantees: a map is the list of its entries in the order of their paths; a change that wants memory
+//! leaves the map as it was; a copy equals its source, and shares what doesn't change.
+//! Leaves to others: which paths and values may stand in a map (`cfg_tree`).
+#![tactic(auto)]
+
+mod blocks;
+mod entries;
+mod entry;
+mod layers;
+mod limit;
+mod pages;
+mod pieces;
+mod place;
+mod rest;
+mod shared;
+mod splice;
+
+pub use entries::Entries;
+pub use entry::Entry;
+pub use rest::Rest;
+
+#[cfg(test)]
+mod tests;

@@ -1,0 +1,31 @@
+-- What a change answers, from what its parts make.
+use Rattle.std.proofs.Common.{◌≡◌, ◌≢◌, ◌≤◌, ◌⊎◌, inl, inr, Bool, true, false, List, refl, sym, ap, Option, Some, None, Result, Ok, Err}
+use Rattle.std.specs.FinMap as map
+use Rattle.cfg_base.specs.declared.path.Step.{Step}
+use Rattle.cfg_tree.specs.declared.limit.TheConstants.{MAX_STATEMENTS}
+use Rattle.cfg_tree.specs.declared.target.Target.{Target}
+use Rattle.cfg_tree.specs.Statements.{Statements, size_of}
+use Rattle.edit_ops.specs.declared.op.Op.{Op}
+use Rattle.edit_ops.specs.declared.fault.EditFault.{EditFault}
+use Rattle.edit_ops.specs.declared.fault.EditFault.TheVariants.{Unknown, BadValue, Incomplete, Extra, NotThere, Protected, TooMany, NoMemory}
+use Rattle.edit_ops.specs.Change.{changed}
+use Rattle.edit_ops.specs.Block.{IsSpared}
+use Rattle.edit_ops.specs.Answer.{Asks, IsChangeFault, IsChange, IsRefused, IsEditFault}
+use Rattle.edit_ops.specs.Made.{IsMade}
+
+module _ (m : Statements) (level : List Step) (op : Op) (target : Target) (asks : Asks level op target) where
+  abbrev Made : Result (Option Statements) EditFault → Type 0
+  Made result = IsMade m target.path (changed m op target) (IsSpared op target.path) result
+
+  cause : (fault : EditFault) → Made (Err fault) → IsChangeFault m op target fault
+  cause (Unknown p) e = absurd e
+  cause (BadValue p) e = absurd e
+  cause (Incomplete p) e = absurd e
+  cause (Extra p) e = absurd e
+  cause (NotThere p) e = e
+  cause (Protected p) (next, made, blocked) = record { next = next; made = made; blocked = blocked }
+  cause TooMany (next, made, free, many) = record { next = next; made = made; free = free; many = many }
+  cause NoMemory e = tt
+
+  pub refused : (fault : EditFault) → Made (Err fault) → IsEditFault m level op fault
+  refused fault e = inr record { target = target; asks = asks; cause = cause fault e }

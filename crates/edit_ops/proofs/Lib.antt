@@ -1,0 +1,9 @@
+pub mod WayLemmas
+pub mod NearLemmas
+pub mod BlockLemmas
+pub mod WordLemmas
+pub mod GuardLemmas
+pub mod SetLemmas
+pub mod FitLemmas
+pub mod DeleteLemmas
+pub mod AnswerLemmas

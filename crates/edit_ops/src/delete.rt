@@ -1,0 +1,74 @@
+//! Taking statements, and words of them, away.
+
+ghost use Rattle.std.specs.Prelude.{◌<◌, length, Some, IsSome};
+ghost use Rattle.std.specs.FinMap as map;
+ghost use Rattle.cfg_tree.specs.Tree.{IsTree};
+ghost use Rattle.cfg_tree.specs.Change.{removed};
+ghost use Rattle.edit_ops.specs.Change.{left_at, deleted_of};
+ghost use Rattle.edit_ops.specs.Made.{IsTarget, IsMade, IsPart};
+
+use crate::fault::EditFault;
+use crate::guard::{guard, guard_below};
+use crate::set::replace;
+use crate::words::{lists_all, words_without};
+use cfg_base::{Path, Value, Words};
+use cfg_tree::{Target, Tree};
+use std::alloc::Global;
+
+/// The statements without one and all below it.
+fn take(alloc: Global, tree: &Tree, path: &Path) -> Result<Option<Tree>, EditFault>
+    requires steps { 0 < length path.now }
+    requires tree { IsTree tree.now }
+    requires there { IsSome (map.get tree.now path.now) }
+    ensures { IsMade tree.now path.now (Some (removed tree.now path.now)) (λ _. ⊥) result }
+{
+    if let Err(fault) = guard(alloc, tree, path, false) {
+        return Err(fault);
+    }
+    if let Err(fault) = guard_below(tree, path) {
+        return Err(fault);
+    }
+    let mut next = tree.copy()?;
+    let _ = next.remove(path)?;
+    Ok(Some(next))
+}
+
+fn leave(
+    alloc: Global,
+    tree: &Tree,
+    path: &Path,
+    value: &Value,
+    left: Words,
+) -> Result<Option<Tree>, EditFault>
+    requires steps { 0 < length path.now }
+    requires tree { IsTree tree.now }
+    requires part { IsPart tree.now path.now value.now left }
+    ensures { IsMade tree.now path.now (Some (left_at tree.now path.now value.now left)) (λ _. ⊥) result }
+{
+    if left.as_slice().is_empty() {
+        return take(alloc, tree, path);
+    }
+    let mut value = value.clone()?;
+    value.words = left;
+    replace(alloc, tree, path, value, false)
+}
+
+/// The statements without the target, or without its words.
+pub fn delete(alloc: Global, tree: &Tree, target: &Target) -> Result<Option<Tree>, EditFault>
+    requires { IsTarget target.now }
+    ensures { IsMade tree.now target.now.path (deleted_of tree.now target.now.path (map.get tree.now target.now.path) target.now.words) (λ _. ⊥) result }
+{
+    let value = match tree.at(&target.path) {
+        Some(value) => value,
+        None => return Err(EditFault::NotThere(target.path.clone()?)),
+    };
+    let gone = target.words.as_slice();
+    if gone.is_empty() {
+        return take(alloc, tree, &target.path);
+    }
+    if !lists_all(value.words.as_slice(), gone) {
+        return Err(EditFault::NotThere(target.path.clone()?));
+    }
+    let left = words_without(alloc, value.words.as_slice(), gone)?;
+    leave(alloc, tree, &target.path, value, left)
+}

@@ -1,0 +1,21 @@
+//! Changes of a configuration: set, delete, and the marks.
+//!
+//! Guarantees: a change is exactly the one that its words ask for, or the statements stay as they are and the
+//! first cause is told; a statement that is protected, and all below it, stays as it is.
+//! Leaves to others: what a candidate is (`config_core`), and how a line becomes a change (`shell_words`).
+#![tactic(auto)]
+
+mod applying;
+mod asked;
+mod delete;
+mod fault;
+mod guard;
+mod mark;
+mod op;
+mod set;
+mod way;
+mod words;
+
+pub use applying::apply;
+pub use fault::EditFault;
+pub use op::Op;

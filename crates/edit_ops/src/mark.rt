@@ -1,0 +1,50 @@
+//! Setting and clearing marks.
+
+ghost use Rattle.std.specs.Prelude.{not};
+ghost use Rattle.std.specs.FinMap as map;
+ghost use Rattle.edit_ops.specs.Change.{marked};
+ghost use Rattle.edit_ops.specs.Made.{IsMade, IsItself};
+
+use crate::fault::EditFault;
+use crate::set::replace;
+use cfg_base::Path;
+use cfg_tree::Tree;
+use std::alloc::Global;
+
+/// The statements with the inactive mark of one set or cleared.
+pub fn mark_inactive(
+    alloc: Global,
+    tree: &Tree,
+    path: &Path,
+    mark: bool,
+) -> Result<Option<Tree>, EditFault>
+    ensures { IsMade tree.now path.now (marked tree.now path.now (map.get tree.now path.now) (λ value. record value { inactive = mark })) (λ _. ⊥) result }
+{
+    match tree.at(path) {
+        Some(value) => {
+            let mut value = value.clone()?;
+            value.inactive = mark;
+            replace(alloc, tree, path, value, false)
+        }
+        None => Err(EditFault::NotThere(path.clone()?)),
+    }
+}
+
+/// The statements with the protected mark of one set or cleared.
+pub fn mark_protected(
+    alloc: Global,
+    tree: &Tree,
+    path: &Path,
+    mark: bool,
+) -> Result<Option<Tree>, EditFault>
+    ensures { IsMade tree.now path.now (marked tree.now path.now (map.get tree.now path.now) (λ value. record value { protected = mark })) (IsItself (not mark) path.now) result }
+{
+    match tree.at(path) {
+        Some(value) => {
+            let mut value = value.clone()?;
+            value.protected = mark;
+            replace(alloc, tree, path, value, !mark)
+        }
+        None => Err(EditFault::NotThere(path.clone()?)),
+    }
+}
