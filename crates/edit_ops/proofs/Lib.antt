@@ -7,3 +7,4 @@ pub mod SetLemmas
 pub mod FitLemmas
 pub mod DeleteLemmas
 pub mod AnswerLemmas
+pub mod UniqueLemmas

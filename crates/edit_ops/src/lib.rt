@@ -10,6 +10,7 @@ mod asked;
 mod delete;
 mod fault;
 mod guard;
+mod laws;
 mod mark;
 mod op;
 mod set;
@@ -18,4 +19,5 @@ mod words;
 
 pub use applying::apply;
 pub use fault::EditFault;
+pub use laws::changes_have_one_answer;
 pub use op::Op;
