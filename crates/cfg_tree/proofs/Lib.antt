@@ -15,3 +15,10 @@ pub mod ChildrenLemmas
 pub mod SpelledLemmas
 pub mod ReadsLemmas
 pub mod TopLemmas
+pub mod FollowLemmas
+pub mod NameLemmas
+pub mod ReadyLemmas
+pub mod TargetLemmas
+pub mod UniqueLemmas
+pub mod OnceLemmas
+pub mod PutAnswerLemmas

@@ -1,5 +1,5 @@
 -- Each exit of the reader is one rule of what words say.
-use Rattle.std.proofs.Common.{◌≡◌, ℕ, zero, suc, ◌<◌, ◌≤◌, ◌==◌, Bool, true, false, List, [], ◌∷◌, ◌++◌, length, drop, sym, ap, subst, ◌∙◌, Ok, Err, Result, MatchBool, eqb-true, inl, inr, arith}
+use Rattle.std.proofs.Common.{◌≡◌, ℕ, zero, suc, ◌<◌, ◌≤◌, ◌==◌, Bool, true, false, List, [], ◌∷◌, ◌++◌, length, drop, sym, ap, subst, ◌∙◌, Ok, Err, Result, MatchBool, eqb-true, inl, inr, arith, length-drop}
 use Rattle.cfg_base.specs.declared.path.Step.{Step}
 use Rattle.cfg_base.specs.declared.kind.Kind.{Kind}
 use Rattle.cfg_base.specs.declared.kind.Shape.{Shape}
@@ -122,3 +122,10 @@ begun_uses here (begun.Row id) word rest step next used h = statement_uses here 
 -- a level takes a word
 pub front_uses : (here : Place) (words : List (List ℕ)) (front : Front) (step : Step) (next : Place) (used : ℕ) → IsFront here words front → front ≡ Level step next used → 0 < used
 front_uses here words front step next used h e = begun_uses here (child_of here.row here.in_group (first_of words) (first_of (drop 1 words))) (first_of words) (drop 1 words) step next used (subst (λ (x : Front). IsFront here words x) e h)
+
+-- so fewer words are left
+pub fewer_words : (here : Place) (words : List (List ℕ)) (front : Front) (step : Step) (next : Place) (used : ℕ) (rest : List (List ℕ))
+    → IsFront here words front → front ≡ Level step next used → used < length words → rest ≡ drop used words → length rest < length words
+fewer_words here words front step next used rest h e more f =
+    let some = front_uses here words front step next used h e
+    in omega (arith, some, more, ap (λ (ws : List (List ℕ)). length ws) f, length-drop used words)

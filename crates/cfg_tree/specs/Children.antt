@@ -1,6 +1,6 @@
 -- The children of a path in the order in which they are printed: by their rows, and within a row by
 -- the bytes of their names, or in the user's order.
-use Rattle.std.specs.Prelude.{ℕ, ◌+◌, ◌==◌, Bool, ◌&&◌, List, [], length, map, filter, Option, Some, None, if◌then◌else◌}
+use Rattle.std.specs.Prelude.{ℕ, ◌+◌, ◌==◌, Bool, ◌&&◌, List, [], ◌∷◌, length, map, filter, Option, Some, None, if◌then◌else◌}
 use Rattle.std.specs.List.{flat_map}
 use Rattle.std.specs.FinMap as finite
 use Rattle.cfg_base.specs.declared.path.Step.{Step}
@@ -19,6 +19,11 @@ is_child above path = is_below above path && (length path == length above + 1)
 abbrev pub steps_below : Statements → List Step → List Step
 steps_below m path = map last_of (filter (is_child path) (finite.keys m))
 
+-- a step alone, where it is that of a child that is there, else none
+abbrev pub step_if : Bool → Step → List Step
+step_if there step = (if there then step ∷ [] else [])
+
+-- the names of a value, and none where there is no value
 abbrev pub order_in : Option Value → List (List ℕ)
 order_in None = []
 order_in (Some value) = value.order

@@ -19,7 +19,7 @@ use Rattle.cfg_tree.specs.declared.front.Why.TheVariants as why
 use Rattle.cfg_tree.specs.declared.target.Target.{Target}
 use Rattle.cfg_tree.specs.declared.target.WordsFault.{WordsFault}
 use Rattle.cfg_tree.specs.declared.target.WordsFault.TheVariants.{Unknown, BadValue, Incomplete, Extra, NoMemory}
-use Rattle.cfg_tree.specs.Typed.{IsNameOf, IsTypedPath}
+use Rattle.cfg_tree.specs.Typed.{IsNameOf, IsTypedPath, AreCanonical}
 use Rattle.cfg_tree.specs.Tree.{step_of}
 
 -- the first word, or no bytes
@@ -133,6 +133,21 @@ fault_of why.Extra path = Extra path
 
 abbrev pub target : List Step → List (List ℕ) → Target
 target path words = record { path = path; words = words }
+
+-- the words of a statement of a shape that words may name: at most one of a Leaf, any of a Many, else none
+abbrev pub AreGiven : Shape → List (List ℕ) → Type 0
+AreGiven Leaf words = length words ≤ 1
+AreGiven Many words = Unit {0}
+AreGiven _ words = words ≡ []
+
+-- a statement below a level, of a path that a typed map may have, with words of its row's kind
+pub record IsTargetBelow (level : List Step) (target : Target) : Type 0 where
+  pub rest : List Step
+  pub steps : 0 < length rest
+  pub below : target.path ≡ level ++ rest
+  pub typed : IsTypedPath target.path
+  pub given : (here : Place) → place_of target.path ≡ Some here → AreGiven (row_of here.row).shape target.words
+  pub canonical : (here : Place) → place_of target.path ≡ Some here → AreCanonical (row_of here.row).value_kind target.words
 
 -- what words say from a path on, read from the left: levels are entered until the words or a statement end
 pub data Reads : List Step → Place → List (List ℕ) → Result Target WordsFault → Type 0 where

@@ -11,6 +11,7 @@ mod change;
 mod children;
 mod fault;
 mod front;
+mod laws;
 mod limit;
 mod reading;
 mod reorder;
@@ -21,11 +22,14 @@ mod tree;
 mod typed;
 
 pub use fault::TreeFault;
+pub use laws::{puts_have_one_answer, words_have_one_answer};
 pub use limit::MAX_STATEMENTS;
 pub use reading::resolve;
 pub use steps::Steps;
 pub use target::{Target, WordsFault};
 pub use tree::Tree;
 
+#[cfg(test)]
+mod change_tests;
 #[cfg(test)]
 mod tests;

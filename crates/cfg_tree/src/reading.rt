@@ -10,7 +10,7 @@ ghost use Rattle.cfg_schema.specs.Place.{place_of, entered};
 ghost use Rattle.cfg_values.specs.Spelling.{IsSpelling, IsCanonicalOf};
 ghost use Rattle.cfg_tree.specs.Typed.{IsNameOf};
 ghost use Rattle.cfg_tree.specs.Tree.{step_of};
-ghost use Rattle.cfg_tree.specs.Resolve.{first_of, IsNamedLevel, IsLeafWord, AreManyWords, IsStatementOf, SpelledAll, IsBadName, IsBegun, IsFront, IsReading, ResolvesTo, fault_of, IsLevelPath, NamedBy, SpelledBy};
+ghost use Rattle.cfg_tree.specs.Resolve.{first_of, IsNamedLevel, IsLeafWord, AreManyWords, IsStatementOf, SpelledAll, IsBadName, IsBegun, IsFront, IsReading, ResolvesTo, IsTargetBelow, fault_of, IsLevelPath, NamedBy, SpelledBy};
 
 use crate::front::{Front, Why};
 use crate::target::{Target, WordsFault};
@@ -226,6 +226,7 @@ fn fault_of(why: Why, path: Path) -> WordsFault
 }
 
 fn longer(path: &Path, step: Step) -> Result<Path, NoMemory>
+    requires { length path.now < MAX_STEPS }
     ensures { IfOk result (λ longer. longer ≡ path.now ++ step ∷ []) }
 {
     match path.push(step) {
@@ -235,6 +236,7 @@ fn longer(path: &Path, step: Step) -> Result<Path, NoMemory>
 }
 
 fn read_on(alloc: Global, path: Path, here: Place, words: &[Word]) -> Result<Target, WordsFault>
+    requires { place_of path ≡ Some here }
     ensures { IsReading path here words.now result }
 {
     if words.is_empty() {
@@ -263,7 +265,8 @@ fn read_on(alloc: Global, path: Path, here: Place, words: &[Word]) -> Result<Tar
 /// The statement that words name below a level, read from the left.
 pub fn resolve(alloc: Global, level: &Path, words: &Words) -> Result<Target, WordsFault>
     requires { IsLevelPath level.now }
-    ensures { ResolvesTo level.now words.now result }
+    ensures says { ResolvesTo level.now words.now result }
+    ensures target { IfOk result (λ found. IsTargetBelow level.now found) }
 {
     match Place::of(level.steps()) {
         Some(here) => read_on(alloc, level.clone()?, here, words.as_slice()),

@@ -64,7 +64,8 @@ fn pushed(path: &Path, step: &Step) -> Result<Path, NoMemory>
     }
 }
 
-fn path_of(alloc: Global, steps: &[Step]) -> Result<Path, NoMemory>
+/// The path of these steps.
+pub fn path_of(alloc: Global, steps: &[Step]) -> Result<Path, NoMemory>
     requires { length steps.now ≤ MAX_STEPS }
     ensures { IfOk result (λ path. path ≡ steps.now) }
 {

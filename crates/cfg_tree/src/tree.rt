@@ -1,8 +1,12 @@
-ghost use Rattle.std.specs.Prelude.{◌≡◌, ◌+◌, ◌↔◌, OnOk, OnErr, IfOk, IfErr, IsTrue};
+ghost use Rattle.std.specs.Prelude.{◌≡◌, ◌+◌, ◌↔◌, OnOk, OnErr, IfOk, IfErr, IsTrue, [], ◌∷◌, ◌++◌, filter, is_some};
+ghost use Rattle.std.specs.Ordering.{eq_by_cmp};
+ghost use Rattle.cfg_base.specs.Order.{step_cmp};
+ghost use Rattle.cfg_base.specs.declared.path.Step.{Step};
 ghost use Rattle.std.specs.Option.{option_copied};
 ghost use Rattle.std.specs.FinMap as map;
 ghost use Rattle.cfg_tree.specs.Statements.{Statements, size_of};
-ghost use Rattle.cfg_tree.specs.Children.{children_of};
+ghost use Rattle.cfg_tree.specs.Tree.{IsTree};
+ghost use Rattle.cfg_tree.specs.Children.{step_if, children_of};
 ghost use Rattle.cfg_tree.specs.Change.{removed, IsReady, IsPut, IsPutFault};
 
 use crate::change::{put_in, remove_in};
@@ -48,14 +52,16 @@ impl Tree {
 
     /// The value at a path, where it is there.
     pub fn at(&self, path: &Path) -> Option<&Value>
-        ensures { option_copied result ≡ map.get self.now path.now }
+        ensures value { option_copied result ≡ map.get self.now path.now }
+        ensures tree { IsTree self.now }
     {
         self.statements.get(path)
     }
 
     /// How many statements there are.
     pub fn count(&self) -> u32
-        ensures { result ≡ size_of self.now }
+        ensures count { result ≡ size_of self.now }
+        ensures tree { IsTree self.now }
     {
         self.statements.len() as u32
     }
@@ -100,7 +106,9 @@ impl Tree {
 
     /// The steps of the children of a path, in printing order.
     pub fn children(&self, path: &Path) -> Result<Steps, NoMemory>
-        ensures { IfOk result (λ steps. steps ≡ children_of self.now path.now) }
+        ensures order { IfOk result (λ steps. steps ≡ children_of self.now path.now) }
+        ensures once { IfOk result (λ steps. (step : Step) → filter (eq_by_cmp step_cmp step) steps
+            ≡ step_if (is_some (map.get self.now (path.now ++ step ∷ []))) step) }
     {
         let steps = children_in(self.alloc, &self.statements, path)?;
         Ok(Steps::from(steps))

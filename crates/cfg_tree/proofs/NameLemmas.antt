@@ -1,0 +1,183 @@
+-- Names by their first bytes: no number, address, prefix or area is a wildcard name, and no address or prefix is a head.
+use Rattle.std.proofs.Common.{◌≡◌, ℕ, ◌<◌, ◌≤◌, nat_le, Bool, true, false, not, ◌&&◌, ◌||◌, List, [], ◌∷◌, ◌++◌, length, get_or, refl, sym, ap, subst, ◌∙◌, inl, inr, arith, length-append}
+use Rattle.std.specs.List.{list_all}
+use Rattle.std.specs.Fmt.{decimal}
+use Rattle.std.specs.Str.Parse.{IsNumeral}
+use Rattle.std.proofs.Math.ListN.{get_or-append}
+use Rattle.std.proofs.lemmas.Bool.Decides.{nat_tests}
+use Rattle.std.proofs.lemmas.Fmt.{decimal_is_IsNumeral}
+use Rattle.std.proofs.lemmas.Str.Parse.{digit_at}
+use Rattle.cfg_base.specs.declared.kind.Kind.{Kind}
+use Rattle.cfg_base.specs.declared.kind.Kind.TheVariants.{Name, Host, Text, Address, Prefix, Area, IfName, IfUnit, Number, OneOf}
+use Rattle.cfg_base.specs.declared.kind.Shape.TheVariants.{Bare}
+use Rattle.cfg_schema.specs.declared.table.Line.{Line}
+use Rattle.cfg_schema.specs.Keyword.{spelled}
+use Rattle.cfg_schema.specs.Profile.{profile, line_at, no_line, row_of, is_bare}
+use Rattle.cfg_schema.specs.Child.{IsNoHead}
+use Rattle.cfg_schema.proofs.TestLemmas.{bare_is}
+use Rattle.cfg_schema.proofs.LevelLemmas.{all_at}
+use Rattle.cfg_values.specs.Number.{IsNumberWithin}
+use Rattle.cfg_values.specs.Address.{IsAddress, IsPrefix, IsArea, AreOctets, dotted}
+use Rattle.cfg_values.specs.Interface.{IsInterface, IsUnits, EveryUnit, UnitOf}
+use Rattle.cfg_values.specs.Pattern.{IsPattern}
+use Rattle.cfg_values.specs.Spelling.{IsCanonicalOf, ValueOf}
+use Rattle.cfg_values.proofs.SpellingLemmas.{IsCanonicalOf-unique, IsCanonical-from}
+use Rattle.cfg_tree.specs.Typed.{IsNameOf, IsName}
+
+-- the bytes begin with a byte between two
+abbrev Begins : ℕ → ℕ → List ℕ → Type 0
+Begins from to bytes = (0 < length bytes) × (from ≤ get_or bytes 0 0) × (get_or bytes 0 0 ≤ to)
+
+begins_more : (from to : ℕ) (bytes more : List ℕ) → Begins from to bytes → Begins from to (bytes ++ more)
+begins_more from to bytes more h =
+    let first = get_or-append bytes more 0 0 h.0
+    in (omega (arith, h.0, length-append bytes more), omega (arith, h.1, first), omega (arith, h.2, first))
+
+numeral_begins : (bytes : List ℕ) → IsNumeral 10 bytes → Begins 48 57 bytes
+numeral_begins bytes h = let range = digit_at bytes 0 h.1 h.0 in (h.0, omega (arith, range), omega (arith, range))
+
+decimal_begins : (n : ℕ) → n < 256 → Begins 48 57 (decimal n)
+decimal_begins n h = numeral_begins (decimal n) (decimal_is_IsNumeral n (omega arith)).0
+
+dotted_begins : (numbers : List ℕ) → 0 < length numbers → AreOctets numbers → Begins 48 57 (dotted numbers)
+dotted_begins [] some octets = absurd (omega arith)
+dotted_begins (n ∷ []) some octets = decimal_begins n octets.0
+dotted_begins (n ∷ m ∷ numbers) some octets = begins_more 48 57 (decimal n) _ (decimal_begins n octets.0)
+
+address_begins : (bytes quad : List ℕ) → IsAddress bytes quad → Begins 48 57 bytes
+address_begins bytes quad h =
+    subst (λ (b : List ℕ). Begins 48 57 b) (sym h.spelled) (dotted_begins quad (omega (arith, h.four)) h.octets)
+
+number_begins : (from to : ℕ) (bytes : List ℕ) (n : ℕ) → IsNumberWithin from to bytes n → Begins 48 57 bytes
+number_begins from to bytes n h = numeral_begins bytes h.read.digits
+
+lowercase_begins : (bytes : List ℕ) → IsInterface bytes → Begins 97 122 bytes
+lowercase_begins [] h = absurd (omega (arith, h.some))
+lowercase_begins (b ∷ bytes) h = (omega arith, low b h.first, high b h.first)
+  where
+    low : (c : ℕ) → (nat_le 97 c && nat_le c 122) ≡ true → 97 ≤ c
+    low c t = grind (arith, nat_tests)
+
+    high : (c : ℕ) → (nat_le 97 c && nat_le c 122) ≡ true → c ≤ 122
+    high c t = grind (arith, nat_tests)
+
+units_begin : (bytes : List ℕ) (units : ValueOf IfUnit) → IsUnits bytes units → Begins 97 122 bytes
+units_begin bytes EveryUnit h = subst (λ (b : List ℕ). Begins 97 122 b) (sym h) (omega arith, omega arith, omega arith)
+units_begin bytes (UnitOf name unit) (inl h) = lowercase_begins bytes h.interface
+units_begin bytes (UnitOf name unit) (inr h) =
+    subst (λ (b : List ℕ). Begins 97 122 b) (sym h.spelled) (begins_more 97 122 name _ (lowercase_begins name h.interface))
+
+-- a wildcard name begins with `<`
+pattern_begins : (bytes : List ℕ) → IsPattern bytes → get_or bytes 0 0 ≡ 60
+pattern_begins bytes h = ap (λ (b : List ℕ). get_or b 0 0) h.spelled
+
+not_digit : (bytes : List ℕ) → Begins 48 57 bytes → IsPattern bytes → ⊥
+not_digit bytes h p = omega (arith, h.2, pattern_begins bytes p)
+
+not_lowercase : (bytes : List ℕ) → Begins 97 122 bytes → IsPattern bytes → ⊥
+not_lowercase bytes h p = omega (arith, h.1, pattern_begins bytes p)
+
+prefix_begins : (bytes : List ℕ) (net : ValueOf Prefix) → IsPrefix bytes net → Begins 48 57 bytes
+prefix_begins bytes net (inl h) = address_begins bytes net.quad h.address
+prefix_begins bytes net (inr h) =
+    subst (λ (b : List ℕ). Begins 48 57 b) (sym h.spelled)
+    (begins_more 48 57 h.text _
+    (subst (λ (b : List ℕ). Begins 48 57 b) (sym h.front.spelled) (dotted_begins h.numbers h.front.some h.front.octets)))
+
+-- where a wildcard name is a spelling of a kind, it is the canonical one
+spelled_pattern : (kind : Kind) (bytes word : List ℕ) → IsCanonicalOf kind bytes word → IsPattern bytes → word ≡ bytes
+spelled_pattern Name bytes word h p = h.canonical_is ∙ h.spells.1
+spelled_pattern Host bytes word h p = h.canonical_is ∙ h.spells.1
+spelled_pattern Text bytes word h p = h.canonical_is ∙ h.spells.1
+spelled_pattern IfName bytes word h p = h.canonical_is ∙ h.spells.1
+spelled_pattern (OneOf choice) bytes word h p = h.canonical_is ∙ h.spells.1
+spelled_pattern Address bytes word h p = absurd (not_digit bytes (address_begins bytes h.value h.spells) p)
+spelled_pattern Prefix bytes word h p = absurd (not_digit bytes (prefix_begins bytes h.value h.spells) p)
+spelled_pattern Area bytes word h p = by_area h.spells
+  where
+    by_area : IsArea bytes h.value → word ≡ bytes
+    by_area (inl a) = absurd (not_digit bytes (address_begins bytes h.value a) p)
+    by_area (inr n) = absurd (not_digit bytes (number_begins _ _ bytes _ n.read) p)
+spelled_pattern IfUnit bytes word h p = absurd (not_lowercase bytes (units_begin bytes h.value h.spells) p)
+spelled_pattern (Number from to) bytes word h p = absurd (not_digit bytes (number_begins from to bytes h.value h.spells) p)
+
+-- bytes are one name at most
+pub name_unique : (in_group : Bool) (kind : Kind) (bytes one two : List ℕ) → IsNameOf in_group kind bytes one → IsNameOf in_group kind bytes two → one ≡ two
+name_unique in_group kind bytes one two (inl h) (inl g) = IsCanonicalOf-unique kind bytes one two h g
+name_unique in_group kind bytes one two (inl h) (inr g) = spelled_pattern kind bytes one h g.0.2 ∙ sym g.1
+name_unique in_group kind bytes one two (inr h) (inl g) = h.1 ∙ sym (spelled_pattern kind bytes two g h.0.2)
+name_unique in_group kind bytes one two (inr h) (inr g) = h.1 ∙ sym g.1
+
+-- what bytes name is a name as it is kept
+pub name_again : (in_group : Bool) (kind : Kind) (bytes word : List ℕ) → IsNameOf in_group kind bytes word → IsName in_group kind word
+name_again in_group kind bytes word (inl h) = inl (IsCanonical-from kind bytes word h)
+name_again in_group kind bytes word (inr h) =
+    inr ((h.0.0, h.0.1, subst (λ (b : List ℕ). IsPattern b) (sym h.1) h.0.2), refl)
+
+-- no head begins with a digit
+abbrev no_digit : List ℕ → Bool
+no_digit [] = true
+no_digit (b ∷ bytes) = not (nat_le 48 b && nat_le b 57)
+
+abbrev begins_plain : Line → Bool
+begins_plain line = no_digit (spelled line.head)
+
+profile_plain : list_all begins_plain profile ≡ true
+unfolding profile
+profile_plain = refl
+
+digit_clash : (bytes : List ℕ) → no_digit bytes ≡ true → Begins 48 57 bytes → ⊥
+digit_clash [] e h = omega (arith, h.0)
+digit_clash (b ∷ bytes) e h = by_byte b e h.1 h.2
+  where
+    by_byte : (c : ℕ) → not (nat_le 48 c && nat_le c 57) ≡ true → 48 ≤ c → c ≤ 57 → ⊥
+    by_byte c t low high = grind (arith, nat_tests)
+
+no_head : (parent : ℕ) (in_group : Bool) (name : List ℕ) → Begins 48 57 name → IsNoHead parent in_group name
+no_head parent in_group name h id head =
+    digit_clash (spelled (line_at profile id).head) (all_at begins_plain profile id no_line profile_plain head.0.0)
+    (subst (λ (b : List ℕ). Begins 48 57 b) (sym head.2) h)
+
+-- the kinds of bare names
+abbrev is_bare_kind : Kind → Bool
+is_bare_kind Name = true
+is_bare_kind IfName = true
+is_bare_kind Address = true
+is_bare_kind Prefix = true
+is_bare_kind _ = false
+
+abbrev has_bare_kind : Line → Bool
+has_bare_kind line = not (is_bare line.shape) || is_bare_kind line.name_kind
+
+profile_bare_kinds : list_all has_bare_kind profile ≡ true
+unfolding profile
+profile_bare_kinds = refl
+
+kind_of_bare : (b c : Bool) → (not b || c) ≡ true → b ≡ true → c ≡ true
+kind_of_bare true c h e = h
+kind_of_bare false c h e = cc
+
+canonical_no_head : (kind : Kind) (parent : ℕ) (in_group : Bool) (bytes word : List ℕ) → is_bare_kind kind ≡ true → IsCanonicalOf kind bytes word
+    → IsNoHead parent in_group bytes → IsNoHead parent in_group word
+canonical_no_head Name parent in_group bytes word e h none =
+    subst (λ (b : List ℕ). IsNoHead parent in_group b) (sym (h.canonical_is ∙ h.spells.1)) none
+canonical_no_head IfName parent in_group bytes word e h none =
+    subst (λ (b : List ℕ). IsNoHead parent in_group b) (sym (h.canonical_is ∙ h.spells.1)) none
+canonical_no_head Address parent in_group bytes word e h none =
+    no_head parent in_group word (address_begins word _ (IsCanonical-from Address bytes word h).spells)
+canonical_no_head Prefix parent in_group bytes word e h none =
+    no_head parent in_group word (prefix_begins word _ (IsCanonical-from Prefix bytes word h).spells)
+canonical_no_head Host parent in_group bytes word e h none = cc
+canonical_no_head Text parent in_group bytes word e h none = cc
+canonical_no_head Area parent in_group bytes word e h none = cc
+canonical_no_head IfUnit parent in_group bytes word e h none = cc
+canonical_no_head (Number from to) parent in_group bytes word e h none = cc
+canonical_no_head (OneOf choice) parent in_group bytes word e h none = cc
+
+-- where a bare word is no head, the name that it is is none
+pub name_no_head : (id parent : ℕ) (in_group : Bool) (bytes word : List ℕ) → id < length profile → (row_of id).shape ≡ Bare
+    → IsNameOf in_group (row_of id).name_kind bytes word → IsNoHead parent in_group bytes → IsNoHead parent in_group word
+name_no_head id parent in_group bytes word within is_bare_row (inr h) none = subst (λ (b : List ℕ). IsNoHead parent in_group b) (sym h.1) none
+name_no_head id parent in_group bytes word within is_bare_row (inl h) none =
+    canonical_no_head (row_of id).name_kind parent in_group bytes word
+    (kind_of_bare (is_bare (line_at profile id).shape) _ (all_at has_bare_kind profile id no_line profile_bare_kinds within) (bare_is _ is_bare_row)) h none
