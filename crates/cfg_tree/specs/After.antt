@@ -1,5 +1,5 @@
 -- The statement that follows a path in the order of paths.
-use Rattle.std.specs.Prelude.{◌≡◌, ◌≢◌, List, IsSome, Option, None, Some}
+use Rattle.std.specs.Prelude.{◌≡◌, ◌≢◌, List, IsSome, Some}
 use Rattle.std.specs.FinMap as map
 use Rattle.std.specs.declared.cmp.Ordering.TheVariants.{Less}
 use Rattle.cfg_base.specs.Order.{path_cmp}

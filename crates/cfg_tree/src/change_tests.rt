@@ -423,3 +423,28 @@ fn a_removal_takes_what_is_below_and_no_sibling(rt: HostRuntime) -> Result<(), F
     assert_eq!(rt; tree.count(), 3);
     Ok(())
 }
+
+/// Whether the statement after the one that a line names is that of another line.
+fn comes_next(alloc: Global, tree: &Tree, line: &str, next: &str) -> Result<bool, Fail> {
+    let target = target_of(alloc, line)?;
+    let wanted = target_of(alloc, next)?;
+    match tree.next(&target.path) {
+        None => Ok(false),
+        Some((path, value)) => Ok(*path == wanted.path && value.words == wanted.words),
+    }
+}
+
+#[test]
+fn the_next_statement_stands_behind_a_path_that_is_there_or_not(
+    rt: HostRuntime,
+) -> Result<(), Fail> {
+    let alloc = rt.alloc();
+    let lines = ["system", "system host-name r1", "interfaces"];
+    let tree = tree_of(&rt, alloc, &lines)?;
+    assert!(rt; comes_next(alloc, &tree, "interfaces", "system")?);
+    assert!(rt; comes_next(alloc, &tree, "interfaces ge-0/0/0", "system")?);
+    assert!(rt; comes_next(alloc, &tree, "system", "system host-name r1")?);
+    let last = target_of(alloc, "system host-name")?;
+    assert!(rt; tree.next(&last.path).is_none());
+    Ok(())
+}

@@ -1,4 +1,4 @@
-use Rattle.std.proofs.Common.{MatchOption, ◌≡◌, List, [], ◌∷◌, Option, Some, None, Bor, Bool, true, false, not, sym, ap, subst, ◌∙◌}
+use Rattle.std.proofs.Common.{MatchOption, ◌≡◌, List, [], ◌∷◌, Option, Some, None, Bor, true, not, ap, ◌∙◌}
 use Rattle.std.specs.Ordering.{eq_by_cmp}
 use Rattle.cfg_base.specs.Order.{path_cmp}
 use Rattle.cfg_base.specs.declared.path.Step.{Step}
