@@ -1,11 +1,16 @@
 -- Lists of words: one word more at a time, and what is left of them. Words that differ stay so, and canonical ones too.
-use Rattle.std.proofs.Common.{◌≡◌, ℕ, zero, suc, ◌+◌, ◌≤◌, ◌<◌, Bool, true, false, not, cond, List, [], ◌∷◌, ◌++◌, length, take, filter, get_or, refl, sym, ap, ◌∙◌, arith, length-append, if◌then◌else◌}
+use Rattle.std.proofs.Common.{◌≡◌, ℕ, zero, suc, ◌+◌, ◌≤◌, ◌<◌, Bool, true, false, not, cond, ◌||◌, List, [], ◌∷◌, ◌++◌, length, take, filter, get_or, refl, sym, ap, ◌∙◌, arith, length-append, if◌then◌else◌}
 use Rattle.std.specs.List.{All, AllByRecursion, IsDistinct}
 use Rattle.std.specs.Cmp.{IsEquivalence, nat_eq_equiv}
 use Rattle.std.specs.Cmp.Lexicographic.{lists_equiv}
 use Rattle.std.proofs.lemmas.Map.Keys.{IsDistinct-push, IsDistinct-head, IsDistinct-tail, IsDistinct-cons}
 use Rattle.std.proofs.lemmas.List.Elements.{All-push}
+use Rattle.std.specs.Bool.{Decides}
+use Rattle.std.specs.Ordering.{eq_by_cmp}
+use Rattle.cfg_base.specs.Order.{word_cmp, words_total}
 use Rattle.cfg_schema.specs.Profile.{same_word}
+use Rattle.cfg_schema.proofs.TestLemmas.{same, same_is}
+use Rattle.cfg_tree.proofs.MapLemmas.{word_same, ties_decide}
 use Rattle.cfg_tree.specs.Tree.{lists}
 use Rattle.edit_ops.specs.Value.{with_word, joined}
 
@@ -96,3 +101,23 @@ module _ (t : List ℕ → Bool) where
       by_test : (c : Bool) → length (filter t words) ≤ length words → length (cond c (x ∷ filter t words) (filter t words)) ≤ length (x ∷ words)
       by_test true go = omega (arith, go)
       by_test false go = omega (arith, go)
+
+-- two words are the same where they tie
+one_test : (P : Type 0) (a b : Bool) → Decides a P → Decides b P → a ≡ b
+one_test P true true d e = refl
+one_test P true false d e = let k = e.1 (d.0 refl) in cc
+one_test P false true d e = let k = d.1 (e.0 refl) in cc
+one_test P false false d e = refl
+
+tied_same : (word other : List ℕ) → eq_by_cmp word_cmp word other ≡ same_word other word
+tied_same word other =
+    one_test (other ≡ word) (eq_by_cmp word_cmp word other) (same_word other word)
+    (λ e. sym ((ties_decide words_total word_same word other).0 e), λ e. (ties_decide words_total word_same word other).1 (sym e))
+    (same other word, same_is other word)
+
+pub learned : (old new : Bool) (word other : List ℕ) → new ≡ cond (eq_by_cmp word_cmp word other) true old → new ≡ (same_word other word || old)
+learned old new word other e = e ∙ by_test (eq_by_cmp word_cmp word other) ∙ ap (λ (b : Bool). b || old) (tied_same word other)
+  where
+    by_test : (b : Bool) → cond b true old ≡ (b || old)
+    by_test true = refl
+    by_test false = refl

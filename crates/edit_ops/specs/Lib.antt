@@ -3,3 +3,4 @@ pub mod Change
 pub mod Block
 pub mod Answer
 pub mod Made
+pub mod Known

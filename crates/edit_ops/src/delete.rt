@@ -66,7 +66,8 @@ pub fn delete(alloc: Global, tree: &Tree, target: &Target) -> Result<Option<Tree
     if gone.is_empty() {
         return take(alloc, tree, &target.path);
     }
-    if !lists_all(value.words.as_slice(), gone) {
+    let all = lists_all(alloc, value.words.as_slice(), gone)?;
+    if !all {
         return Err(EditFault::NotThere(target.path.clone()?));
     }
     let left = words_without(alloc, value.words.as_slice(), gone)?;

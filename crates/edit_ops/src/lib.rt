@@ -21,3 +21,6 @@ pub use applying::apply;
 pub use fault::EditFault;
 pub use laws::changes_have_one_answer;
 pub use op::Op;
+
+#[cfg(test)]
+mod tests;

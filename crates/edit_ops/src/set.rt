@@ -51,7 +51,7 @@ fn put_level(alloc: Global, tree: &mut Tree, path: &Path) -> Result<(), EditFaul
     }
 }
 
-fn put_levels(alloc: Global, tree: &mut Tree, path: &Path) -> Result<(), EditFault>
+pub fn put_levels(alloc: Global, tree: &mut Tree, path: &Path) -> Result<(), EditFault>
     requires steps { 0 < length path.now }
     requires typed { IsTypedPath path.now }
     ensures ok { OnOk result (LevelsPut tree.old tree.new (length path.now - 1) path.now) }
@@ -120,14 +120,14 @@ fn add(alloc: Global, tree: &Tree, path: &Path, value: Value) -> Result<Option<T
     }
 }
 
-fn value_set(path: &Path, old: &Value, given: &Words) -> Result<Value, NoMemory>
+fn value_set(alloc: Global, path: &Path, old: &Value, given: &Words) -> Result<Value, NoMemory>
     ensures { IfOk result (λ value. value ≡ value_set path.now old.now given.now) }
 {
     Ok(Value {
         inactive: old.inactive,
         protected: old.protected,
         order: old.order.clone()?,
-        words: words_set(is_many(path), &old.words, given)?,
+        words: words_set(alloc, is_many(path), &old.words, given)?,
     })
 }
 
@@ -139,11 +139,11 @@ pub fn set(alloc: Global, tree: &Tree, target: &Target) -> Result<Option<Tree>, 
 {
     match tree.at(&target.path) {
         Some(old) => {
-            let value = value_set(&target.path, old, &target.words)?;
+            let value = value_set(alloc, &target.path, old, &target.words)?;
             replace(alloc, tree, &target.path, value, false)
         }
         None => {
-            let value = value_set(&target.path, &no_value(alloc), &target.words)?;
+            let value = value_set(alloc, &target.path, &no_value(alloc), &target.words)?;
             add(alloc, tree, &target.path, value)
         }
     }

@@ -24,7 +24,7 @@ returns c =
     (sym (deleted_is c.args.tree.now c.args.target.now.path (map.get c.args.tree.now c.args.target.now.path) c.in-Some.value.now c.args.target.now.words
     c.in-Some.ensures.value
     (subst (λ (ws : List (List ℕ)). false ≡ (length ws == 0)) c.as_slice-gone.ensures c.if-is_empty.ensures)
-    (sym (c.if-not-lists_all.ensures
+    (sym (sym c.if-not-all.false ∙ c.in_ok-all.ensures
     ∙ ap (λ (ws : List (List ℕ)). list_all (lists ws) c.as_slice-gone.result.now) c.as_slice.ensures
     ∙ ap (list_all (lists c.in-Some.value.now.words)) c.as_slice-gone.ensures))
     ∙ ap (λ (ws : List (List ℕ)). Some (left_at c.args.tree.now c.args.target.now.path c.in-Some.value.now ws))
