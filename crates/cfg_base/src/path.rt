@@ -1,4 +1,4 @@
-ghost use Rattle.std.specs.Prelude.{◌≡◌, ◌≤◌, ◌↔◌, [], ◌∷◌, ◌++◌, length, IfOk, IsErrOf};
+ghost use Rattle.std.specs.Prelude.{◌≡◌, ◌≤◌, ◌↔◌, [], ◌∷◌, ◌++◌, length, take, IfOk, IsErrOf};
 ghost use Rattle.std.specs.Ordering.{as_partial_cmp, eq_by_cmp};
 ghost use Rattle.std.specs.Cmp.Rules.{comparing};
 ghost use Rattle.std.specs.Cmp.{partial_order_from_own_ties};
@@ -7,6 +7,7 @@ ghost use Rattle.cfg_base.specs.declared.path.TheConstants.{MAX_STEPS};
 ghost use Rattle.cfg_base.specs.declared.path.PathFault.TheVariants.{NoMemory};
 ghost use Rattle.cfg_base.specs.Order.{path_cmp, paths_total, paths_equal};
 
+use crate::fault::NoMemory;
 use crate::word::Word;
 use std::alloc::{AllocError, AllocFailed, Global};
 use std::cmp::Ordering;
@@ -88,6 +89,16 @@ impl Path {
         let mut steps = self.steps.clone()?;
         steps.push(step)?;
         Ok(Path { steps })
+    }
+
+    /// The path of its first steps.
+    pub fn prefix(&self, count: usize) -> Result<Path, NoMemory>
+        requires { count ≤ length self.now }
+        ensures { IfOk result (λ path. path ≡ take count self.now) }
+    {
+        let mut first = self.steps.clone()?;
+        first.truncate(count);
+        Ok(Path { steps: first })
     }
 
     /// The steps, from the top.

@@ -1,7 +1,9 @@
 -- What a list of entries leaves: how many there are, and the last commit. Each entry is a commit.
-use Rattle.std.specs.Prelude.{ℕ, ◌+◌, List, [], ◌∷◌, Option, None, codes}
+use Rattle.std.specs.Prelude.{ℕ, ◌+◌, List, [], ◌∷◌, codes}
+use Rattle.std.specs.FinMap as map
 use Rattle.config_core.specs.declared.commit.Commit.{Commit}
 use Rattle.config_core.specs.declared.commit.Via.TheVariants.{Other}
+use Rattle.cfg_tree.specs.Statements.{Statements}
 
 pub record Kept : Type 0 where
   pub count : ℕ
@@ -11,7 +13,7 @@ pub record Kept : Type 0 where
 abbrev pub factory : Kept
 factory = record {
   count = 1;
-  last = record { number = 1; user = codes "root"; via = Other; moment = 0; tree = None };
+  last = record { number = 1; user = codes "root"; via = Other; moment = 0; tree = map.empty };
 }
 
 -- one more commit at the end of the list
@@ -24,5 +26,5 @@ after_entries kept [] = kept
 after_entries kept (commit ∷ commits) = after_entries (append_entry kept commit) commits
 
 -- the active configuration: the map of the last commit
-abbrev pub active_of : Kept → Option (List ℕ)
+abbrev pub active_of : Kept → Statements
 active_of kept = kept.last.tree

@@ -1,7 +1,7 @@
-pub mod Tree
+pub mod Printed
 pub mod Kept
 pub mod State
-pub mod Change
+pub mod Levels
 pub mod Machine
 pub mod Plan
 pub mod Prepared

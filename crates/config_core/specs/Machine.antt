@@ -1,24 +1,33 @@
 -- One step of the machine: what an event makes of the state, and the reply to it.
--- Junos OS CLI User Guide, on entering and leaving configuration mode, set, commit and show configuration.
-use Rattle.std.specs.Prelude.{ℕ, ◌+◌, ◌-◌, ◌≤◌, ◌<◌, nat_lt, List, [], length, Bool, if◌then◌else◌, Option, None, Some, is_some, option_and_then, slice_get, slice_set, Result, Ok, Err}
-use Rattle.cfg_base.specs.Sound.{IsSound}
+-- Junos OS CLI User Guide, on entering and leaving configuration mode, on moves through levels, on changes of the candidate,
+-- on commit and on show configuration.
+use Rattle.std.specs.Prelude.{◌≡◌, ◌⊎◌, ℕ, ◌+◌, ◌-◌, ◌≤◌, ◌<◌, nat_lt, List, [], length, Bool, if◌then◌else◌, MatchBool, Option, None, Some, is_some, slice_get, slice_set, Result, Ok, Err}
 use Rattle.cfg_base.specs.declared.command.Mode.{Mode}
+use Rattle.cfg_base.specs.declared.command.Op.{Op}
 use Rattle.cfg_base.specs.declared.command.Command.{Command}
-use Rattle.cfg_base.specs.declared.command.Command.TheVariants.{Configure, ShowActive, Logout, Exit, Change, Commit as CommitOf}
+use Rattle.cfg_base.specs.declared.command.Command.TheVariants.{Configure, ShowActive, Logout, Edit, Up, Top, Exit, ExitAll, Change, Commit as CommitOf}
+use Rattle.cfg_base.specs.declared.path.Step.{Step}
+use Rattle.cfg_tree.specs.declared.target.Target.{Target}
+use Rattle.cfg_tree.specs.declared.target.WordsFault.{WordsFault}
+use Rattle.cfg_tree.specs.Statements.{Statements}
+use Rattle.cfg_tree.specs.Resolve.{ResolvesTo}
+use Rattle.edit_ops.specs.declared.fault.EditFault.{EditFault}
+use Rattle.edit_ops.specs.declared.fault.EditFault.TheVariants as edit
+use Rattle.edit_ops.specs.Answer.{edit_fault, IsChange, IsEditFault}
 use Rattle.config_core.specs.declared.commit.Commit.{Commit}
 use Rattle.config_core.specs.declared.commit.Via.TheVariants.{Cli}
 use Rattle.config_core.specs.declared.event.Event.{Event}
 use Rattle.config_core.specs.declared.event.Event.TheVariants.{Command as CommandOf}
 use Rattle.config_core.specs.declared.ledger.TheConstants.{MAX_ENTRIES}
 use Rattle.config_core.specs.declared.reply.Refusal.{Refusal}
-use Rattle.config_core.specs.declared.reply.Refusal.TheVariants.{WrongMode, Exhausted}
+use Rattle.config_core.specs.declared.reply.Refusal.TheVariants.{WrongMode, Unknown, BadValue, Incomplete, Extra, NotThere, NotALevel, Protected, TooMany, Unprinted, Exhausted}
 use Rattle.config_core.specs.declared.reply.Reply.{Reply}
 use Rattle.config_core.specs.declared.reply.Reply.TheVariants.{Done, LoggedOut, Text, Entered, Left, Committed, Refused}
-use Rattle.config_core.specs.Tree.{printed}
+use Rattle.config_core.specs.Printed.{printed, IsUnprinted, AllPrinted}
 use Rattle.config_core.specs.Kept.{append_entry, active_of}
 use Rattle.config_core.specs.declared.caller.Caller.{Caller}
-use Rattle.config_core.specs.State.{State}
-use Rattle.config_core.specs.Change.{change_of}
+use Rattle.config_core.specs.State.{State, operational}
+use Rattle.config_core.specs.Levels.{Position, at_top, is_level_at, moved_to, moved_up, moved_back}
 
 -- what an event leaves: the state after it, and its reply
 pub record Turned : Type 0 where
@@ -29,81 +38,152 @@ pub record Turned : Type 0 where
 abbrev pub answered : State → Reply → Turned
 answered s reply = record { state = s; reply = reply }
 
--- how a caller edits; none in operational mode, and for a number that is no caller's
-abbrev pub mode_of : State → ℕ → Option Mode
-mode_of s caller = option_and_then (λ c. c.mode) (slice_get s.callers (caller - 1))
+abbrev pub refused : State → Refusal → Turned
+refused s refusal = answered s (Refused refusal)
+
+-- that caller; nobody has the number of none
+abbrev pub caller_in : Option Caller → Caller
+caller_in None = operational []
+caller_in (Some c) = c
+
+abbrev pub caller_of : State → ℕ → Caller
+caller_of s caller = caller_in (slice_get s.callers (caller - 1))
 
 abbrev pub is_configuring : State → ℕ → Bool
-is_configuring s caller = is_some (mode_of s caller)
+is_configuring s caller = is_some (caller_of s caller).mode
 
--- that caller's name
-abbrev pub user_of : List Caller → ℕ → List ℕ
-user_of callers caller = name_in (slice_get callers (caller - 1))
-  where
-    name_in : Option Caller → List ℕ
-    name_in None = []
-    name_in (Some c) = c.user
+-- where that caller stands
+abbrev pub position_of : State → ℕ → Position
+position_of s caller = (caller_of s caller).position
 
--- the caller edits so from now on
-abbrev pub with_mode : State → ℕ → Option Mode → State
-with_mode s caller mode =
-    record s { callers = slice_set s.callers (caller - 1) (record { user = user_of s.callers caller; mode = mode }) }
+abbrev pub level_of : State → ℕ → List Step
+level_of s caller = (position_of s caller).level
+
+-- the caller edits so from now on, and stands there
+abbrev pub with_caller : State → ℕ → Option Mode → Position → State
+with_caller s caller mode position =
+    record s { callers = slice_set s.callers (caller - 1) (record { user = (caller_of s caller).user; mode = mode; position = position }) }
+
+-- the caller stands there from now on
+abbrev pub with_position : State → ℕ → Position → State
+with_position s caller position = with_caller s caller (caller_of s caller).mode position
+
+-- the caller is in operational mode from now on
+abbrev pub without_mode : State → ℕ → State
+without_mode s caller = with_caller s caller None at_top
 
 -- the commit that a caller makes of the candidate
 abbrev pub commit_of : State → ℕ → Commit
 commit_of s caller = record {
   number = s.kept.last.number + 1;
-  user = user_of s.callers caller;
+  user = (caller_of s caller).user;
   via = Cli;
   moment = s.greatest;
   tree = s.candidate;
 }
-
--- the candidate takes the change, or the change is refused
-abbrev pub changed : State → Result (Option (List ℕ)) Refusal → Turned
-changed s (Ok map) = answered (record s { candidate = map }) Done
-changed s (Err refusal) = answered s (Refused refusal)
 
 -- the candidate becomes the active configuration, unless the list is full
 abbrev pub committed : State → ℕ → Turned
 committed s caller =
     if nat_lt s.kept.count MAX_ENTRIES
     then answered (record s { kept = append_entry s.kept (commit_of s caller) }) Committed
-    else answered s (Refused Exhausted)
+    else refused s Exhausted
+
+-- `exit` as its move says
+abbrev pub exited : State → ℕ → Option Position → Turned
+exited s caller None = answered (without_mode s caller) Left
+exited s caller (Some position) = answered (with_position s caller position) Done
+
+-- a change is refused so; want of memory is no refusal
+abbrev pub refusal_of : EditFault → Option Refusal
+refusal_of (edit.Unknown path) = Some (Unknown path)
+refusal_of (edit.BadValue path) = Some (BadValue path)
+refusal_of (edit.Incomplete path) = Some (Incomplete path)
+refusal_of (edit.Extra path) = Some (Extra path)
+refusal_of (edit.NotThere path) = Some (NotThere path)
+refusal_of (edit.Protected path) = Some (Protected path)
+refusal_of edit.TooMany = Some TooMany
+refusal_of edit.NoMemory = None
+
+-- `edit` goes to the level that the words name
+abbrev pub edited : State → ℕ → List Step → Turned
+edited s caller path =
+    if is_level_at path then answered (with_position s caller (moved_to (position_of s caller) path)) Done
+    else refused s (NotALevel path)
+
+pub record Moves (s : State) (caller : ℕ) (asked : List (List ℕ)) (turned : Turned) : Type 0 where
+  pub target : Target
+  pub names : ResolvesTo (level_of s caller) asked (Ok target)
+  pub is : turned ≡ edited s caller target.path
+
+-- or its words are refused
+pub record IsLost (s : State) (caller : ℕ) (asked : List (List ℕ)) (turned : Turned) : Type 0 where
+  pub why : WordsFault
+  pub refusal : Refusal
+  pub names : ResolvesTo (level_of s caller) asked (Err why)
+  pub told : refusal_of (edit_fault why) ≡ Some refusal
+  pub is : turned ≡ refused s refusal
+
+-- a change makes another candidate of the candidate
+pub record Changes (s : State) (caller : ℕ) (op : Op) (turned : Turned) : Type 0 where
+  pub next : Statements
+  pub told : Bool
+  pub change : IsChange s.candidate next (level_of s caller) op told
+  pub is : turned ≡ answered (record s { candidate = next }) Done
+
+-- or it is refused
+pub record IsUnchanged (s : State) (caller : ℕ) (op : Op) (turned : Turned) : Type 0 where
+  pub fault : EditFault
+  pub refusal : Refusal
+  pub cause : IsEditFault s.candidate (level_of s caller) op fault
+  pub told : refusal_of fault ≡ Some refusal
+  pub is : turned ≡ refused s refusal
+
+-- a commit of a map that can't be printed is refused with the least statement of those
+pub record IsUnprintable (s : State) (turned : Turned) : Type 0 where
+  pub path : List Step
+  pub unprinted : IsUnprinted s.candidate path
+  pub is : turned ≡ refused s (Unprinted path)
+
+pub record Commits (s : State) (caller : ℕ) (turned : Turned) : Type 0 where
+  pub printable : AllPrinted s.candidate
+  pub is : turned ≡ committed s caller
 
 -- a command of operational mode, and one of configuration mode, is refused in the other
-abbrev pub operational_only : State → ℕ → Turned → Turned
-operational_only s caller turned = if is_configuring s caller then answered s (Refused WrongMode) else turned
+abbrev pub Operational : State → ℕ → Turned → Type 0 → Type 0
+Operational s caller turned Served = MatchBool (is_configuring s caller) (turned ≡ refused s WrongMode) Served
 
-abbrev pub configuring_only : State → ℕ → Turned → Turned
-configuring_only s caller turned = if is_configuring s caller then turned else answered s (Refused WrongMode)
+abbrev pub Configuring : State → ℕ → Turned → Type 0 → Type 0
+Configuring s caller turned Served = MatchBool (is_configuring s caller) Served (turned ≡ refused s WrongMode)
 
 -- what a command does at the state's own greatest moment
-abbrev pub served : State → ℕ → Command → Turned
-served s caller (Configure mode) = operational_only s caller (answered (with_mode s caller (Some mode)) (Entered mode))
-served s caller ShowActive = operational_only s caller (answered s (Text (printed (active_of s.kept))))
-served s caller Logout = answered (with_mode s caller None) LoggedOut
-served s caller Exit = configuring_only s caller (answered (with_mode s caller None) Left)
-served s caller (Change op) = configuring_only s caller (changed s (change_of op))
-served s caller CommitOf = configuring_only s caller (committed s caller)
+abbrev pub Serves : State → ℕ → Command → Turned → Type 0
+Serves s caller (Configure mode) turned =
+    Operational s caller turned (turned ≡ answered (with_caller s caller (Some mode) at_top) (Entered mode))
+Serves s caller ShowActive turned = Operational s caller turned (turned ≡ answered s (Text (printed (active_of s.kept))))
+Serves s caller Logout turned = turned ≡ answered (without_mode s caller) LoggedOut
+Serves s caller (Edit asked) turned = Configuring s caller turned (Moves s caller asked turned ⊎ IsLost s caller asked turned)
+Serves s caller (Up count) turned =
+    Configuring s caller turned (turned ≡ answered (with_position s caller (moved_up (position_of s caller) count)) Done)
+Serves s caller Top turned = Configuring s caller turned (turned ≡ answered (with_position s caller at_top) Done)
+Serves s caller Exit turned = Configuring s caller turned (turned ≡ exited s caller (moved_back (position_of s caller)))
+Serves s caller ExitAll turned = Configuring s caller turned (turned ≡ answered (without_mode s caller) Left)
+Serves s caller (Change op) turned = Configuring s caller turned (Changes s caller op turned ⊎ IsUnchanged s caller op turned)
+Serves s caller CommitOf turned = Configuring s caller turned (IsUnprintable s turned ⊎ Commits s caller turned)
 
 -- the state at a later moment
 abbrev pub later : State → ℕ → State
 later s moment = record s { greatest = moment }
 
 -- one step: the event is made at a moment, which is the state's greatest from then on
-abbrev pub step_of : State → ℕ → ℕ → Event → Turned
-step_of s caller moment (CommandOf command) = served (later s moment) caller command
-
-abbrev pub IsSoundEvent : Event → Type 0
-IsSoundEvent (CommandOf command) = IsSound command
+abbrev pub Steps : State → ℕ → ℕ → Event → Turned → Type 0
+Steps s caller moment (CommandOf command) turned = Serves (later s moment) caller command turned
 
 -- callers are numbered from 1
 abbrev pub IsCaller : State → ℕ → Type 0
 IsCaller s caller = (0 < caller) × (caller ≤ length s.callers)
 
--- which events fit: a sound command of a caller, at no earlier moment than the last
+-- which events fit: a command of a caller, at no earlier moment than the last
 pub record Fits (s : State) (caller moment : ℕ) (event : Event) : Type 0 where
   pub is_caller : IsCaller s caller
   pub no_earlier : s.greatest ≤ moment
-  pub sound : IsSoundEvent event

@@ -1,21 +1,23 @@
 -- The state of the machine between two events.
 use Rattle.std.specs.Prelude.{ℕ, List, map, Option, None}
+use Rattle.cfg_tree.specs.Statements.{Statements}
 use Rattle.config_core.specs.declared.caller.Caller.{Caller}
 use Rattle.config_core.specs.Kept.{Kept, active_of}
+use Rattle.config_core.specs.Levels.{at_top}
 
 pub record State : Type 0 where
   -- what the list of entries leaves
   pub kept : Kept
   -- the map that the sessions edit
-  pub candidate : Option (List ℕ)
+  pub candidate : Statements
   -- the sessions, numbered from 1
   pub callers : List Caller
   -- the greatest moment of an event
   pub greatest : ℕ
 
--- a session that has not begun to edit
+-- a session that has not begun to edit; it stands at the top
 abbrev pub operational : List ℕ → Caller
-operational user = record { user = user; mode = None }
+operational user = record { user = user; mode = None; position = at_top }
 
 -- how the service starts over a kept value: everyone in operational mode, the candidate as the active map
 abbrev pub opening_of : Kept → List (List ℕ) → State

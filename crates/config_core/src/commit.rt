@@ -1,5 +1,5 @@
-use crate::tree::Tree;
 use cfg_base::{Moment, UserName};
+use cfg_tree::Tree;
 
 /// How a commit came: from a session, or from the service itself.
 #[derive(Clone, Copy, Debug, PartialEq, Eq)]
@@ -9,7 +9,7 @@ pub enum Via {
 }
 
 /// One entry of the list of commits.
-#[derive(Clone, Debug, Drop)]
+#[derive(Debug, Drop)]
 pub struct Commit {
     /// Rises by 1 from the factory commit's 1.
     pub number: u64,

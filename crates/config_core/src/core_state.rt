@@ -1,10 +1,9 @@
 ghost use Rattle.std.specs.Prelude.{◌≡◌, ◌<◌, map, IfOk};
-ghost use Rattle.cfg_base.specs.Sound.{IsSoundOp};
+ghost use Rattle.cfg_tree.specs.Typed.{IsTypedPath};
 ghost use Rattle.config_core.specs.declared.effect.Effect.TheVariants.{Stay};
-ghost use Rattle.config_core.specs.declared.reply.Refusal.TheVariants.{WrongMode};
 ghost use Rattle.config_core.specs.declared.reply.Reply.TheVariants.{Refused};
 ghost use Rattle.config_core.specs.State.{opening_of, operational};
-ghost use Rattle.config_core.specs.Machine.{Fits, IsCaller, later, served, step_of, mode_of, is_configuring, commit_of};
+ghost use Rattle.config_core.specs.Machine.{Fits, IsCaller, Steps, Serves, later, caller_of, level_of, is_configuring, with_caller, edited, commit_of, committed};
 ghost use Rattle.config_core.specs.Prepared.{applied, Follows, Prepares};
 
 use crate::caller::Caller;
@@ -12,11 +11,15 @@ use crate::commit::{Commit, Via};
 use crate::effect::Effect;
 use crate::event::{Event, Outcome};
 use crate::ledger::{Ledger, MAX_ENTRIES};
+use crate::position::Position;
 use crate::prepared::Prepared;
+use crate::printing::text_of;
+use crate::refusing::{is_level_at, refusal_of};
 use crate::reply::{Refusal, Reply};
-use crate::set::change_of;
-use crate::tree::Tree;
-use cfg_base::{Command, Mode, Moment, NoMemory, Op, UserName, Users};
+use crate::unprinted::least_unprinted;
+use cfg_base::{Command, Mode, Moment, NoMemory, Op, Path, UserName, Users, Words};
+use cfg_tree::{Tree, resolve};
+use edit_ops::{EditFault, apply};
 use std::alloc::Global;
 use std::marker::Model;
 
@@ -31,9 +34,13 @@ pub struct Core {
 }
 
 impl Model for Core {
+    ghost use Rattle.std.specs.Coded.{codes};
+    ghost use Rattle.cfg_tree.specs.Statements.{statements_code};
     ghost use Rattle.config_core.specs.State.{State};
 
     ghost Value = { State };
+
+    ghost coded = { Prim.hlevel (codes, statements_code) };
 
     ghost view = { λ c. record {
       kept = c.ledger;
@@ -43,27 +50,23 @@ impl Model for Core {
     } };
 }
 
-// The reply alone: the state keeps all but its moment.
-fn answer(caller: u32, moment: Moment, reply: Reply) -> Prepared
-    ensures { result ≡ record { caller = caller; moment = moment; effect = Stay; reply = reply } }
+// A step with this effect and this reply.
+fn step(caller: u32, moment: Moment, effect: Effect, reply: Reply) -> Prepared
+    ensures { result ≡ record { caller = caller; moment = moment; effect = effect; reply = reply } }
 {
     Prepared {
         caller,
         moment,
-        effect: Effect::Stay,
+        effect,
         reply,
     }
 }
 
-fn wrong_mode(caller: u32, moment: Moment) -> Prepared
-    ensures { result ≡ record {
-      caller = caller;
-      moment = moment;
-      effect = Stay;
-      reply = Refused WrongMode;
-    } }
+// The state keeps all but its moment.
+fn refused(caller: u32, moment: Moment, refusal: Refusal) -> Prepared
+    ensures { result ≡ record { caller = caller; moment = moment; effect = Stay; reply = Refused refusal } }
 {
-    answer(caller, moment, Reply::Refused(Refusal::WrongMode))
+    step(caller, moment, Effect::Stay, Reply::Refused(refusal))
 }
 
 fn callers_of(alloc: Global, users: &[UserName]) -> Result<Vec<Caller>, NoMemory>
@@ -74,6 +77,7 @@ fn callers_of(alloc: Global, users: &[UserName]) -> Result<Vec<Caller>, NoMemory
         callers.push(Caller {
             user: user.clone()?,
             mode: None,
+            position: Position::top(alloc),
         })?;
     }
     Ok(callers)
@@ -85,7 +89,7 @@ impl Core {
         ensures { IfOk result (λ core. core ≡ opening_of ledger users.now) }
     {
         let callers = callers_of(alloc, users.as_slice())?;
-        let candidate = ledger.last().tree.clone()?;
+        let candidate = ledger.last().tree.copy()?;
         let greatest = ledger.last().moment;
         Ok(Core {
             alloc,
@@ -110,121 +114,199 @@ impl Core {
         &self.ledger
     }
 
+    /// The level at which a caller stands.
+    pub fn level(&self, caller: u32) -> &Path
+        requires { IsCaller self.now caller }
+        ensures { result.now ≡ level_of self.now caller }
+    {
+        self.session(caller).position.level()
+    }
+
     /// Makes a step ready, with all the memory that it takes, and changes nothing.
     pub fn prepare(&self, caller: u32, moment: Moment, event: &Event) -> Result<Prepared, NoMemory>
         requires { Fits self.now caller moment event.now }
-        ensures { IfOk result (Prepares self.now (step_of self.now caller moment event.now)) }
+        ensures { IfOk result (Prepares self.now (Steps self.now caller moment event.now)) }
     {
         let Event::Command(command) = event;
         match command {
             Command::Configure(mode) => Ok(self.prepare_configure(caller, moment, *mode)),
             Command::ShowActive => self.prepare_show(caller, moment),
-            Command::Logout => Ok(Prepared {
-                caller,
-                moment,
-                effect: Effect::Move(None),
-                reply: Reply::LoggedOut,
-            }),
-            Command::Exit => Ok(self.prepare_exit(caller, moment)),
+            Command::Logout => Ok(self.prepare_logout(caller, moment)),
+            Command::Edit(words) => self.prepare_edit(caller, moment, words),
+            Command::Up(count) => self.prepare_up(caller, moment, *count),
+            Command::Top => Ok(self.prepare_top(caller, moment)),
+            Command::Exit => self.prepare_exit(caller, moment),
+            Command::ExitAll => Ok(self.prepare_exit_all(caller, moment)),
             Command::Change(op) => self.prepare_change(caller, moment, op),
             Command::Commit => self.prepare_commit(caller, moment),
         }
     }
 
-    fn mode(&self, caller: u32) -> Option<Mode>
-        requires { 0 < caller }
-        ensures { result ≡ mode_of self.now caller }
+    fn session(&self, caller: u32) -> &Caller
+        requires { IsCaller self.now caller }
+        ensures { result.now ≡ caller_of self.now caller }
     {
-        match self.callers.get(caller as usize - 1) {
-            Some(session) => session.mode,
-            None => None,
-        }
+        &self.callers[caller as usize - 1]
     }
 
     fn is_configuring(&self, caller: u32) -> bool
-        requires { 0 < caller }
+        requires { IsCaller self.now caller }
         ensures { result ≡ is_configuring self.now caller }
     {
-        self.mode(caller).is_some()
+        self.session(caller).mode.is_some()
     }
 
     fn prepare_configure(&self, caller: u32, moment: Moment, mode: Mode) -> Prepared
         requires { IsCaller self.now caller }
-        ensures { Prepares self.now (served (later self.now moment) caller (Command.Configure mode)) result }
+        ensures { Prepares self.now (Serves (later self.now moment) caller (Command.Configure mode)) result }
     {
         if self.is_configuring(caller) {
-            return wrong_mode(caller, moment);
+            return refused(caller, moment, Refusal::WrongMode);
         }
-        Prepared {
-            caller,
-            moment,
-            effect: Effect::Move(Some(mode)),
-            reply: Reply::Entered(mode),
-        }
+        step(caller, moment, Effect::Enter(mode), Reply::Entered(mode))
     }
 
     fn prepare_show(&self, caller: u32, moment: Moment) -> Result<Prepared, NoMemory>
         requires { IsCaller self.now caller }
-        ensures { IfOk result (Prepares self.now (served (later self.now moment) caller Command.ShowActive)) }
+        ensures { IfOk result (Prepares self.now (Serves (later self.now moment) caller Command.ShowActive)) }
     {
         if self.is_configuring(caller) {
-            return Ok(wrong_mode(caller, moment));
+            return Ok(refused(caller, moment, Refusal::WrongMode));
         }
-        let text = self.ledger.last().tree.text(self.alloc)?;
-        Ok(answer(caller, moment, Reply::Text(text)))
+        let text = text_of(self.alloc, &self.ledger.last().tree)?;
+        Ok(step(caller, moment, Effect::Stay, Reply::Text(text)))
     }
 
-    fn prepare_exit(&self, caller: u32, moment: Moment) -> Prepared
+    fn prepare_logout(&self, caller: u32, moment: Moment) -> Prepared
         requires { IsCaller self.now caller }
-        ensures { Prepares self.now (served (later self.now moment) caller Command.Exit) result }
+        ensures { Prepares self.now (Serves (later self.now moment) caller Command.Logout) result }
+    {
+        step(caller, moment, Effect::Leave, Reply::LoggedOut)
+    }
+
+    // What `edit` makes of the level that its words name.
+    fn edited(&self, caller: u32, moment: Moment, path: Path) -> Result<Prepared, NoMemory>
+        requires caller { IsCaller self.now caller }
+        requires typed { IsTypedPath path }
+        ensures { IfOk result (Prepares self.now (λ turned. turned ≡ edited (later self.now moment) caller path)) }
+    {
+        if !is_level_at(&path) {
+            return Ok(refused(caller, moment, Refusal::NotALevel(path)));
+        }
+        let position = self.session(caller).position.moved_to(self.alloc, path)?;
+        Ok(step(caller, moment, Effect::Move(position), Reply::Done))
+    }
+
+    fn prepare_edit(&self, caller: u32, moment: Moment, words: &Words) -> Result<Prepared, NoMemory>
+        requires { IsCaller self.now caller }
+        ensures { IfOk result (Prepares self.now (Serves (later self.now moment) caller (Command.Edit words.now))) }
     {
         if !self.is_configuring(caller) {
-            return wrong_mode(caller, moment);
+            return Ok(refused(caller, moment, Refusal::WrongMode));
         }
-        Prepared {
+        match resolve(self.alloc, self.session(caller).position.level(), words) {
+            Ok(target) => self.edited(caller, moment, target.path),
+            Err(why) => {
+                let refusal = refusal_of(EditFault::from(why)).ok_or(NoMemory)?;
+                Ok(refused(caller, moment, refusal))
+            }
+        }
+    }
+
+    fn prepare_up(&self, caller: u32, moment: Moment, count: u32) -> Result<Prepared, NoMemory>
+        requires { IsCaller self.now caller }
+        ensures { IfOk result (Prepares self.now (Serves (later self.now moment) caller (Command.Up count))) }
+    {
+        if !self.is_configuring(caller) {
+            return Ok(refused(caller, moment, Refusal::WrongMode));
+        }
+        let position = self.session(caller).position.moved_up(self.alloc, count)?;
+        Ok(step(caller, moment, Effect::Move(position), Reply::Done))
+    }
+
+    fn prepare_top(&self, caller: u32, moment: Moment) -> Prepared
+        requires { IsCaller self.now caller }
+        ensures { Prepares self.now (Serves (later self.now moment) caller Command.Top) result }
+    {
+        if !self.is_configuring(caller) {
+            return refused(caller, moment, Refusal::WrongMode);
+        }
+        step(
             caller,
             moment,
-            effect: Effect::Move(None),
-            reply: Reply::Left,
+            Effect::Move(Position::top(self.alloc)),
+            Reply::Done,
+        )
+    }
+
+    fn prepare_exit(&self, caller: u32, moment: Moment) -> Result<Prepared, NoMemory>
+        requires { IsCaller self.now caller }
+        ensures { IfOk result (Prepares self.now (Serves (later self.now moment) caller Command.Exit)) }
+    {
+        if !self.is_configuring(caller) {
+            return Ok(refused(caller, moment, Refusal::WrongMode));
         }
+        match self.session(caller).position.moved_back(self.alloc)? {
+            Some(position) => Ok(step(caller, moment, Effect::Move(position), Reply::Done)),
+            None => Ok(step(caller, moment, Effect::Leave, Reply::Left)),
+        }
+    }
+
+    fn prepare_exit_all(&self, caller: u32, moment: Moment) -> Prepared
+        requires { IsCaller self.now caller }
+        ensures { Prepares self.now (Serves (later self.now moment) caller Command.ExitAll) result }
+    {
+        if !self.is_configuring(caller) {
+            return refused(caller, moment, Refusal::WrongMode);
+        }
+        step(caller, moment, Effect::Leave, Reply::Left)
     }
 
     fn prepare_change(&self, caller: u32, moment: Moment, op: &Op) -> Result<Prepared, NoMemory>
-        requires caller { IsCaller self.now caller }
-        requires sound { IsSoundOp op.now }
-        ensures { IfOk result (Prepares self.now (served (later self.now moment) caller (Command.Change op.now))) }
+        requires { IsCaller self.now caller }
+        ensures { IfOk result (Prepares self.now (Serves (later self.now moment) caller (Command.Change op.now))) }
     {
         if !self.is_configuring(caller) {
-            return Ok(wrong_mode(caller, moment));
+            return Ok(refused(caller, moment, Refusal::WrongMode));
         }
-        match change_of(self.alloc, op)? {
-            Ok(tree) => Ok(Prepared {
-                caller,
-                moment,
-                effect: Effect::Edit(tree),
-                reply: Reply::Done,
-            }),
-            Err(refusal) => Ok(answer(caller, moment, Reply::Refused(refusal))),
+        let mut tree = self.candidate.copy()?;
+        match apply(
+            self.alloc,
+            &mut tree,
+            self.session(caller).position.level(),
+            op,
+        ) {
+            Ok(_) => Ok(step(caller, moment, Effect::Edit(tree), Reply::Done)),
+            Err(fault) => {
+                let refusal = refusal_of(fault).ok_or(NoMemory)?;
+                Ok(refused(caller, moment, refusal))
+            }
         }
     }
 
     fn prepare_commit(&self, caller: u32, moment: Moment) -> Result<Prepared, NoMemory>
         requires { IsCaller self.now caller }
-        ensures { IfOk result (Prepares self.now (served (later self.now moment) caller Command.Commit)) }
+        ensures { IfOk result (Prepares self.now (Serves (later self.now moment) caller Command.Commit)) }
     {
         if !self.is_configuring(caller) {
-            return Ok(wrong_mode(caller, moment));
+            return Ok(refused(caller, moment, Refusal::WrongMode));
         }
+        match least_unprinted(self.alloc, &self.candidate)? {
+            Some(path) => Ok(refused(caller, moment, Refusal::Unprinted(path))),
+            None => self.committed(caller, moment),
+        }
+    }
+
+    // A commit of a candidate that can be printed.
+    fn committed(&self, caller: u32, moment: Moment) -> Result<Prepared, NoMemory>
+        requires { IsCaller self.now caller }
+        ensures { IfOk result (Prepares self.now (λ turned. turned ≡ committed (later self.now moment) caller)) }
+    {
         if self.ledger.count() >= MAX_ENTRIES {
-            return Ok(answer(caller, moment, Reply::Refused(Refusal::Exhausted)));
+            return Ok(refused(caller, moment, Refusal::Exhausted));
         }
         let commit = self.next_commit(caller, moment)?;
-        Ok(Prepared {
-            caller,
-            moment,
-            effect: Effect::Append(commit),
-            reply: Reply::Committed,
-        })
+        Ok(step(caller, moment, Effect::Append(commit), Reply::Committed))
     }
 
     fn next_commit(&self, caller: u32, moment: Moment) -> Result<Commit, NoMemory>
@@ -234,10 +316,10 @@ impl Core {
         let last = self.ledger.last();
         Ok(Commit {
             number: last.number + 1,
-            user: self.callers[caller as usize - 1].user.clone()?,
+            user: self.session(caller).user.clone()?,
             via: Via::Cli,
             moment,
-            tree: self.candidate.clone()?,
+            tree: self.candidate.copy()?,
         })
     }
 
@@ -257,10 +339,21 @@ impl Core {
         self.greatest = moment;
         match effect {
             Effect::Stay => {}
-            Effect::Move(mode) => self.callers[caller as usize - 1].mode = mode,
+            Effect::Leave => self.place(caller, None, Position::top(self.alloc)),
+            Effect::Enter(mode) => self.place(caller, Some(mode), Position::top(self.alloc)),
+            Effect::Move(position) => self.callers[caller as usize - 1].position = position,
             Effect::Edit(tree) => self.candidate = tree,
             Effect::Append(commit) => self.ledger.append(commit),
         }
         reply
+    }
+
+    fn place(&mut self, caller: u32, mode: Option<Mode>, position: Position)
+        requires { IsCaller self.old caller }
+        ensures { self.new ≡ with_caller self.old caller mode position }
+    {
+        let session = &mut self.callers[caller as usize - 1];
+        session.mode = mode;
+        session.position = position;
     }
 }

@@ -1,13 +1,18 @@
 use crate::commit::Commit;
-use crate::tree::Tree;
+use crate::position::Position;
 use cfg_base::Mode;
+use cfg_tree::Tree;
 
 /// What a step does to the state beside the moment.
 #[derive(Debug, Drop)]
 pub enum Effect {
     Stay,
-    /// The caller edits so from now on; in operational mode where there is none.
-    Move(Option<Mode>),
+    /// The caller is in operational mode.
+    Leave,
+    /// The caller edits so, at the top.
+    Enter(Mode),
+    /// The caller stands there.
+    Move(Position),
     /// The candidate becomes this map.
     Edit(Tree),
     /// The list gets this entry.

@@ -3,8 +3,8 @@ ghost use Rattle.config_core.specs.declared.ledger.TheConstants.{MAX_ENTRIES};
 ghost use Rattle.config_core.specs.Kept.{factory, append_entry};
 
 use crate::commit::{Commit, Via};
-use crate::tree::Tree;
 use cfg_base::{Moment, NoMemory, UserName, Word};
+use cfg_tree::Tree;
 use std::alloc::Global;
 use std::marker::Model;
 
@@ -26,11 +26,15 @@ pub struct Ledger {
 }
 
 impl Model for Ledger {
+    ghost use Rattle.std.specs.Coded.{codes};
+    ghost use Rattle.cfg_tree.specs.Statements.{statements_code};
     ghost use Rattle.std.specs.Prelude.{◌≤◌};
     ghost use Rattle.config_core.specs.declared.ledger.TheConstants.{MAX_ENTRIES};
     ghost use Rattle.config_core.specs.Kept.{Kept};
 
     ghost Value = { Kept };
+
+    ghost coded = { Prim.hlevel (codes, statements_code) };
 
     ghost view = { λ l. record { count = l.count; last = l.last } };
 
@@ -50,7 +54,7 @@ impl Ledger {
                 user,
                 via: Via::Other,
                 moment: Moment::of(0),
-                tree: Tree::empty(),
+                tree: Tree::empty(alloc),
             },
         })
     }

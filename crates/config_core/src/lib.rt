@@ -2,8 +2,8 @@
 //!
 //! Guarantees: `prepare` then `accept` is exactly one step of the machine (specs/Machine.antt);
 //! `prepare` changes nothing and takes all memory, `accept` can't fail and takes none.
-//! Leaves to others: where events come from and what is kept of them (`session_history`, `confd`),
-//! and how a reply is written.
+//! Leaves to others: which statement words name (`cfg_tree`), what a change makes of the statements (`edit_ops`), where
+//! events come from and what is kept of them (`session_history`, `confd`), and how a reply is written.
 #![tactic(auto)]
 
 mod caller;
@@ -12,10 +12,13 @@ mod core_state;
 mod effect;
 mod event;
 mod ledger;
+mod position;
 mod prepared;
+mod printing;
+mod refusing;
 mod reply;
-mod set;
-mod tree;
+mod shown;
+mod unprinted;
 
 pub use caller::Caller;
 pub use commit::{Commit, Via};
@@ -23,9 +26,9 @@ pub use core_state::Core;
 pub use effect::Effect;
 pub use event::{Event, Outcome};
 pub use ledger::{Ledger, MAX_ENTRIES};
+pub use position::Position;
 pub use prepared::Prepared;
 pub use reply::{Refusal, Reply};
-pub use tree::Tree;
 
 #[cfg(test)]
 mod tests;

@@ -13,9 +13,13 @@ pub struct Prepared {
 }
 
 impl Model for Prepared {
+    ghost use Rattle.std.specs.Coded.{codes};
+    ghost use Rattle.cfg_tree.specs.Statements.{statements_code};
     ghost use Rattle.config_core.specs.Plan.{Plan};
 
     ghost Value = { Plan };
+
+    ghost coded = { Prim.hlevel (codes, statements_code) };
 
     ghost view = { λ p. record { caller = p.caller; moment = p.moment; effect = p.effect; reply = p.reply } };
 }

@@ -5,10 +5,24 @@ use cfg_base::{Bytes, Mode, Path};
 pub enum Refusal {
     /// The command belongs to the other mode.
     WrongMode,
-    /// The last word of the path is no statement there.
+    /// No row of the profile takes the last word.
     Unknown(Path),
-    /// The value of that statement isn't of its kind.
+    /// A name or a value isn't of its kind.
     BadValue(Path),
+    /// A name or a value is missing.
+    Incomplete(Path),
+    /// Words follow the end of a statement.
+    Extra(Path),
+    /// The statement, or a word of it, isn't there.
+    NotThere(Path),
+    /// The statement is no level.
+    NotALevel(Path),
+    /// This statement is protected, and the change would change it or what stands below it.
+    Protected(Path),
+    /// There would be more than 16384 statements.
+    TooMany,
+    /// The candidate has this statement, which can't be printed so far.
+    Unprinted(Path),
     /// The list of entries is full.
     Exhausted,
 }

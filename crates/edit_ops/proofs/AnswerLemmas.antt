@@ -5,7 +5,7 @@ use Rattle.cfg_base.specs.declared.path.Step.{Step}
 use Rattle.cfg_tree.specs.declared.limit.TheConstants.{MAX_STATEMENTS}
 use Rattle.cfg_tree.specs.declared.target.Target.{Target}
 use Rattle.cfg_tree.specs.Statements.{Statements, size_of}
-use Rattle.edit_ops.specs.declared.op.Op.{Op}
+use Rattle.cfg_base.specs.declared.command.Op.{Op}
 use Rattle.edit_ops.specs.declared.fault.EditFault.{EditFault}
 use Rattle.edit_ops.specs.declared.fault.EditFault.TheVariants.{Unknown, BadValue, Incomplete, Extra, NotThere, Protected, TooMany, NoMemory}
 use Rattle.edit_ops.specs.Change.{changed}

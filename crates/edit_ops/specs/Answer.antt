@@ -1,7 +1,7 @@
 -- What a change answers: what its words name, and the first cause for which it is refused.
 use Rattle.std.specs.Prelude.{◌≡◌, ◌≢◌, ◌≤◌, ◌<◌, ◌⊎◌, ℕ, Bool, true, Decides, List, [], length, Option, Some, None, Result, Ok, Err}
-use Rattle.edit_ops.specs.declared.op.Op.{Op}
-use Rattle.edit_ops.specs.declared.op.Op.TheVariants.{Set, Delete, Activate, Deactivate, Protect, Unprotect}
+use Rattle.cfg_base.specs.declared.command.Op.{Op}
+use Rattle.cfg_base.specs.declared.command.Op.TheVariants.{Set, Delete, Activate, Deactivate, Protect, Unprotect}
 use Rattle.cfg_base.specs.declared.path.Step.{Step}
 use Rattle.cfg_tree.specs.declared.limit.TheConstants.{MAX_STATEMENTS}
 use Rattle.cfg_tree.specs.declared.target.Target.{Target}

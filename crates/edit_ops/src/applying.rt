@@ -26,10 +26,10 @@ fn made(alloc: Global, tree: &Tree, op: &Op, target: &Target) -> Result<Option<T
     match op {
         Op::Set(_) => set(alloc, tree, target),
         Op::Delete(_) => delete(alloc, tree, target),
-        Op::Activate(_) => mark_inactive(alloc, tree, &target.path, false),
-        Op::Deactivate(_) => mark_inactive(alloc, tree, &target.path, true),
-        Op::Protect(_) => mark_protected(alloc, tree, &target.path, true),
-        Op::Unprotect(_) => mark_protected(alloc, tree, &target.path, false),
+        Op::Activate(_) => mark_inactive(tree, &target.path, false),
+        Op::Deactivate(_) => mark_inactive(tree, &target.path, true),
+        Op::Protect(_) => mark_protected(tree, &target.path, true),
+        Op::Unprotect(_) => mark_protected(tree, &target.path, false),
     }
 }
 

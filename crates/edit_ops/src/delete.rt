@@ -16,13 +16,13 @@ use cfg_tree::{Target, Tree};
 use std::alloc::Global;
 
 /// The statements without one and all below it.
-fn take(alloc: Global, tree: &Tree, path: &Path) -> Result<Option<Tree>, EditFault>
+fn take(tree: &Tree, path: &Path) -> Result<Option<Tree>, EditFault>
     requires steps { 0 < length path.now }
     requires tree { IsTree tree.now }
     requires there { IsSome (map.get tree.now path.now) }
     ensures { IsMade tree.now path.now (Some (removed tree.now path.now)) (λ _. ⊥) result }
 {
-    if let Err(fault) = guard(alloc, tree, path, false) {
+    if let Err(fault) = guard(tree, path, false) {
         return Err(fault);
     }
     if let Err(fault) = guard_below(tree, path) {
@@ -34,7 +34,6 @@ fn take(alloc: Global, tree: &Tree, path: &Path) -> Result<Option<Tree>, EditFau
 }
 
 fn leave(
-    alloc: Global,
     tree: &Tree,
     path: &Path,
     value: &Value,
@@ -46,11 +45,11 @@ fn leave(
     ensures { IsMade tree.now path.now (Some (left_at tree.now path.now value.now left)) (λ _. ⊥) result }
 {
     if left.as_slice().is_empty() {
-        return take(alloc, tree, path);
+        return take(tree, path);
     }
     let mut value = value.clone()?;
     value.words = left;
-    replace(alloc, tree, path, value, false)
+    replace(tree, path, value, false)
 }
 
 /// The statements without the target, or without its words.
@@ -64,12 +63,12 @@ pub fn delete(alloc: Global, tree: &Tree, target: &Target) -> Result<Option<Tree
     };
     let gone = target.words.as_slice();
     if gone.is_empty() {
-        return take(alloc, tree, &target.path);
+        return take(tree, &target.path);
     }
     let all = lists_all(alloc, value.words.as_slice(), gone)?;
     if !all {
         return Err(EditFault::NotThere(target.path.clone()?));
     }
     let left = words_without(alloc, value.words.as_slice(), gone)?;
-    leave(alloc, tree, &target.path, value, left)
+    leave(tree, &target.path, value, left)
 }

@@ -7,10 +7,8 @@ ghost use Rattle.edit_ops.specs.Block.{IsProtected};
 ghost use Rattle.edit_ops.specs.Made.{guarded, IsOpen, IsGuardFault, IsOpenBelow, IsFirstBelow, IsBelowFault};
 
 use crate::fault::EditFault;
-use crate::way::front;
 use cfg_base::Path;
 use cfg_tree::Tree;
-use std::alloc::Global;
 
 fn is_protected(tree: &Tree, path: &Path) -> bool
     ensures { Decides result (IsProtected tree.now path.now) }
@@ -33,14 +31,14 @@ fn guarded(path: &Path, spared: bool) -> usize
 }
 
 /// Refuses a change where a level on the way to a path, or the path itself unless it is spared, is protected.
-pub fn guard(alloc: Global, tree: &Tree, path: &Path, spared: bool) -> Result<(), EditFault>
+pub fn guard(tree: &Tree, path: &Path, spared: bool) -> Result<(), EditFault>
     requires steps { 0 < length path.now }
     requires tree { IsTree tree.now }
     ensures ok { OnOk result (IsOpen tree.now (guarded spared (length path.now)) path.now) }
     ensures err { IfErr result (IsGuardFault tree.now (guarded spared (length path.now)) path.now) }
 {
     for k in 0..guarded(path, spared) {
-        let above = front(alloc, path, k + 1)?;
+        let above = path.prefix(k + 1)?;
         if is_protected(tree, &above) {
             return Err(EditFault::Protected(above));
         }

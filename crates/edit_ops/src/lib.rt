@@ -14,7 +14,6 @@ mod laws;
 mod mark;
 mod op;
 mod set;
-mod way;
 mod words;
 
 pub use applying::apply;

@@ -9,11 +9,9 @@ use crate::fault::EditFault;
 use crate::set::replace;
 use cfg_base::Path;
 use cfg_tree::Tree;
-use std::alloc::Global;
 
 /// The statements with the inactive mark of one set or cleared.
 pub fn mark_inactive(
-    alloc: Global,
     tree: &Tree,
     path: &Path,
     mark: bool,
@@ -24,7 +22,7 @@ pub fn mark_inactive(
         Some(value) => {
             let mut value = value.clone()?;
             value.inactive = mark;
-            replace(alloc, tree, path, value, false)
+            replace(tree, path, value, false)
         }
         None => Err(EditFault::NotThere(path.clone()?)),
     }
@@ -32,7 +30,6 @@ pub fn mark_inactive(
 
 /// The statements with the protected mark of one set or cleared.
 pub fn mark_protected(
-    alloc: Global,
     tree: &Tree,
     path: &Path,
     mark: bool,
@@ -43,7 +40,7 @@ pub fn mark_protected(
         Some(value) => {
             let mut value = value.clone()?;
             value.protected = mark;
-            replace(alloc, tree, path, value, !mark)
+            replace(tree, path, value, !mark)
         }
         None => Err(EditFault::NotThere(path.clone()?)),
     }

@@ -11,7 +11,6 @@ ghost use Rattle.edit_ops.specs.Made.{IsTarget, IsMade, IsLevelReady, IsRoomFaul
 
 use crate::fault::EditFault;
 use crate::guard::guard;
-use crate::way::front;
 use crate::words::{is_many, words_set};
 use cfg_base::{NoMemory, Path, Value, Words};
 use cfg_tree::{Target, Tree};
@@ -58,7 +57,7 @@ pub fn put_levels(alloc: Global, tree: &mut Tree, path: &Path) -> Result<(), Edi
     ensures err { IfErr result (IsLevelsFault tree.old (length path.now - 1) path.now) }
 {
     for k in 0..path.steps().len() - 1 {
-        let above = front(alloc, path, k + 1)?;
+        let above = path.prefix(k + 1)?;
         if let Err(fault) = put_level(alloc, tree, &above) {
             return Err(fault);
         }
@@ -78,7 +77,6 @@ fn has(tree: &Tree, path: &Path, value: &Value) -> bool
 /// The statements with another value at a path that is there. Where the statement itself is spared, its own
 /// protection doesn't keep it.
 pub fn replace(
-    alloc: Global,
     tree: &Tree,
     path: &Path,
     value: Value,
@@ -91,7 +89,7 @@ pub fn replace(
     if has(tree, path, &value) {
         return Ok(None);
     }
-    if let Err(fault) = guard(alloc, tree, path, spared) {
+    if let Err(fault) = guard(tree, path, spared) {
         return Err(fault);
     }
     let mut next = tree.copy()?;
@@ -107,7 +105,7 @@ fn add(alloc: Global, tree: &Tree, path: &Path, value: Value) -> Result<Option<T
     requires new { IsNewStatement tree.now path.now value }
     ensures { IsMade tree.now path.now (Some (put_at (with_levels tree.now (length path.now - 1) path.now) path.now value)) (λ _. ⊥) result }
 {
-    if let Err(fault) = guard(alloc, tree, path, false) {
+    if let Err(fault) = guard(tree, path, false) {
         return Err(fault);
     }
     let mut next = tree.copy()?;
@@ -140,7 +138,7 @@ pub fn set(alloc: Global, tree: &Tree, target: &Target) -> Result<Option<Tree>, 
     match tree.at(&target.path) {
         Some(old) => {
             let value = value_set(alloc, &target.path, old, &target.words)?;
-            replace(alloc, tree, &target.path, value, false)
+            replace(tree, &target.path, value, false)
         }
         None => {
             let value = value_set(alloc, &target.path, &no_value(alloc), &target.words)?;

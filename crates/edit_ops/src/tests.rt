@@ -10,7 +10,6 @@ ghost use Rattle.edit_ops.specs.Made.{IsTarget};
 use super::*;
 use crate::asked::asked;
 use crate::set::put_levels;
-use crate::way::front;
 use cfg_base::{Path, Step, Value, Word, Words};
 use cfg_tree::{Target, Tree};
 use std::alloc::Global;
@@ -62,7 +61,7 @@ fn level_of(alloc: Global, line: &str) -> Result<Path, Fail>
     ensures { IfOk result IsLevelPath }
 {
     let target = target_of(alloc, line)?;
-    Ok(front(alloc, &target.path, target.path.steps().len() - 1)?)
+    Ok(target.path.prefix(target.path.steps().len() - 1)?)
 }
 
 fn add_word(text: &mut Vec<u8>, word: &Word) -> Result<(), Fail> {

@@ -5,9 +5,13 @@
 //! Leaves to others: how input is cut into lines (`io_edge`), and what a command does (`config_core`).
 #![tactic(auto)]
 
+mod keyword;
+mod number;
 mod plain;
 mod reader;
 mod token;
+mod unserved;
+mod verb;
 
 pub use plain::is_plain;
 pub use reader::{ReadFault, read_line};
