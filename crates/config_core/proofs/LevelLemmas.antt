@@ -4,11 +4,10 @@ use Rattle.std.proofs.lemmas.List.{take_all, length-take-le}
 use Rattle.std.proofs.lemmas.List.Elements.{All-nil}
 use Rattle.std.specs.List.{All}
 use Rattle.cfg_base.specs.declared.path.Step.{Step}
-use Rattle.cfg_tree.specs.Statements.{parent_of}
 use Rattle.cfg_tree.specs.Resolve.{IsLevelPath}
 use Rattle.cfg_tree.proofs.FollowLemmas.{typed_front, parent_is_level}
 use Rattle.cfg_tree.proofs.TopLemmas.{top_is_level}
-use Rattle.config_core.specs.Levels.{Position, AreLevels}
+use Rattle.config_core.specs.Levels.{AreLevels}
 
 take_shorter : (path : List Step) (n : ℕ) → take n (take (suc n) path) ≡ take n path
 take_shorter [] zero = refl

@@ -1,3 +1,4 @@
 pub mod LevelLemmas
 pub mod WalkLemmas
 pub mod StepLemmas
+pub mod OutcomeLemmas

@@ -1,16 +1,15 @@
 -- Prepared steps.
-use Rattle.std.proofs.Common.{◌≡◌, ℕ, Bool, true, false, List, refl, sym, subst, inl, inr, None, Option, Some, Result, Ok, Err}
-use Rattle.std.specs.Prelude.{MatchBool, MatchOption, IfOk}
+use Rattle.std.proofs.Common.{◌≡◌, ℕ, Bool, true, false, refl, sym, subst, inl, inr, Result, Ok, Err}
+use Rattle.std.specs.Prelude.{MatchBool, IfOk}
 use Rattle.cfg_base.specs.declared.command.Op.{Op}
 use Rattle.cfg_base.specs.declared.command.Command.TheVariants.{Change, Commit}
-use Rattle.cfg_base.specs.declared.path.Step.{Step}
 use Rattle.cfg_tree.specs.Statements.{Statements}
 use Rattle.edit_ops.specs.Answer.{IsChange}
 use Rattle.config_core.specs.declared.effect.Effect.TheVariants.{Edit}
 use Rattle.config_core.specs.declared.reply.Reply.TheVariants.{Done}
 use Rattle.config_core.specs.Plan.{Plan}
 use Rattle.config_core.specs.State.{State}
-use Rattle.config_core.specs.Printed.{AllPrinted, IsUnprinted}
+use Rattle.config_core.specs.Printed.{AllPrinted}
 use Rattle.config_core.specs.Machine.{IsCaller, Turned, Serves, later, level_of, is_configuring, committed}
 use Rattle.config_core.specs.Prepared.{Prepares}
 

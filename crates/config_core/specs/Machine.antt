@@ -1,7 +1,7 @@
 -- One step of the machine: what an event makes of the state, and the reply to it.
 -- Junos OS CLI User Guide, on entering and leaving configuration mode, on moves through levels, on changes of the candidate,
 -- on commit and on show configuration.
-use Rattle.std.specs.Prelude.{◌≡◌, ◌⊎◌, ℕ, ◌+◌, ◌-◌, ◌≤◌, ◌<◌, nat_lt, List, [], length, Bool, if◌then◌else◌, MatchBool, Option, None, Some, is_some, slice_get, slice_set, Result, Ok, Err}
+use Rattle.std.specs.Prelude.{◌≡◌, ◌⊎◌, ℕ, ◌+◌, ◌-◌, ◌≤◌, ◌<◌, nat_lt, List, [], length, Bool, if◌then◌else◌, MatchBool, Option, None, Some, is_some, slice_get, slice_set, Ok, Err}
 use Rattle.cfg_base.specs.declared.command.Mode.{Mode}
 use Rattle.cfg_base.specs.declared.command.Op.{Op}
 use Rattle.cfg_base.specs.declared.command.Command.{Command}

@@ -1,6 +1,6 @@
 -- The text of the statements in curly form, and which statements can't be printed so far.
 -- Junos OS CLI User Guide, on displaying the configuration. That only these are printed is this project's own.
-use Rattle.std.specs.Prelude.{◌≡◌, ◌≢◌, ℕ, Bool, true, false, ◌||◌, List, [], ◌∷◌, ◌++◌, if◌then◌else◌, Option, Some, None, IsSome, slice_index_or, codes}
+use Rattle.std.specs.Prelude.{◌≡◌, ◌≢◌, ℕ, Bool, false, ◌||◌, List, [], ◌∷◌, ◌++◌, if◌then◌else◌, Option, Some, None, IsSome, slice_index_or, codes}
 use Rattle.std.specs.declared.cmp.Ordering.TheVariants.{Greater}
 use Rattle.std.specs.Ordering.{eq_by_cmp}
 use Rattle.std.specs.FinMap as map

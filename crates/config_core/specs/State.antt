@@ -1,5 +1,5 @@
 -- The state of the machine between two events.
-use Rattle.std.specs.Prelude.{ℕ, List, map, Option, None}
+use Rattle.std.specs.Prelude.{ℕ, List, map, None}
 use Rattle.cfg_tree.specs.Statements.{Statements}
 use Rattle.config_core.specs.declared.caller.Caller.{Caller}
 use Rattle.config_core.specs.Kept.{Kept, active_of}

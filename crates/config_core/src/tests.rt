@@ -7,9 +7,7 @@ ghost use Rattle.std.specs.Prelude.{◌≡◌, ◌<◌, ◌≤◌, length, IfOk,
 ghost use Rattle.config_core.specs.Machine.{IsCaller};
 
 use super::*;
-use cfg_base::{
-    Bytes, Command, Mode, Moment, NoMemory, Op, Path, Step, UserName, Users, Word, Words,
-};
+use cfg_base::{Bytes, Command, Mode, Moment, NoMemory, Op, Path, UserName, Users, Word, Words};
 use std::alloc::Global;
 use std::process::Abort;
 use std::test::Fail;

@@ -11,9 +11,8 @@ use crate::asked::asked;
 use crate::delete::delete;
 use crate::fault::EditFault;
 use crate::mark::{mark_inactive, mark_protected};
-use crate::op::Op;
 use crate::set::set;
-use cfg_base::Path;
+use cfg_base::{Op, Path};
 use cfg_tree::{Target, Tree};
 use std::alloc::Global;
 

@@ -7,9 +7,8 @@ ghost use Rattle.edit_ops.specs.Answer.{Asks, IsWhole, IsWordsFault, unwhole};
 ghost use Rattle.edit_ops.specs.Made.{IsTarget};
 
 use crate::fault::EditFault;
-use crate::op::Op;
 use crate::words::has_words;
-use cfg_base::{Path, Words};
+use cfg_base::{Op, Path, Words};
 use cfg_tree::{Target, resolve};
 use std::alloc::Global;
 

@@ -33,12 +33,7 @@ fn take(tree: &Tree, path: &Path) -> Result<Option<Tree>, EditFault>
     Ok(Some(next))
 }
 
-fn leave(
-    tree: &Tree,
-    path: &Path,
-    value: &Value,
-    left: Words,
-) -> Result<Option<Tree>, EditFault>
+fn leave(tree: &Tree, path: &Path, value: &Value, left: Words) -> Result<Option<Tree>, EditFault>
     requires steps { 0 < length path.now }
     requires tree { IsTree tree.now }
     requires part { IsPart tree.now path.now value.now left }

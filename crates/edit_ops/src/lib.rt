@@ -12,14 +12,12 @@ mod fault;
 mod guard;
 mod laws;
 mod mark;
-mod op;
 mod set;
 mod words;
 
 pub use applying::apply;
 pub use fault::EditFault;
 pub use laws::changes_have_one_answer;
-pub use op::Op;
 
 #[cfg(test)]
 mod tests;

@@ -11,11 +11,7 @@ use cfg_base::Path;
 use cfg_tree::Tree;
 
 /// The statements with the inactive mark of one set or cleared.
-pub fn mark_inactive(
-    tree: &Tree,
-    path: &Path,
-    mark: bool,
-) -> Result<Option<Tree>, EditFault>
+pub fn mark_inactive(tree: &Tree, path: &Path, mark: bool) -> Result<Option<Tree>, EditFault>
     ensures { IsMade tree.now path.now (marked tree.now path.now (map.get tree.now path.now) (λ value. record value { inactive = mark })) (λ _. ⊥) result }
 {
     match tree.at(path) {
@@ -29,11 +25,7 @@ pub fn mark_inactive(
 }
 
 /// The statements with the protected mark of one set or cleared.
-pub fn mark_protected(
-    tree: &Tree,
-    path: &Path,
-    mark: bool,
-) -> Result<Option<Tree>, EditFault>
+pub fn mark_protected(tree: &Tree, path: &Path, mark: bool) -> Result<Option<Tree>, EditFault>
     ensures { IsMade tree.now path.now (marked tree.now path.now (map.get tree.now path.now) (λ value. record value { protected = mark })) (IsItself (not mark) path.now) result }
 {
     match tree.at(path) {

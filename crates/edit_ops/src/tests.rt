@@ -10,7 +10,7 @@ ghost use Rattle.edit_ops.specs.Made.{IsTarget};
 use super::*;
 use crate::asked::asked;
 use crate::set::put_levels;
-use cfg_base::{Path, Step, Value, Word, Words};
+use cfg_base::{Op, Path, Step, Value, Word, Words};
 use cfg_tree::{Target, Tree};
 use std::alloc::Global;
 use std::process::Abort;
@@ -173,9 +173,12 @@ fn answers_at(
     requires { IsLevelPath level.now }
 {
     for row in rows.split('\n') {
-        if let Some((line, wanted)) = row.split_once(" = ") {
-            let told = answer(alloc, tree, level, line)?;
-            assert!(rt; told.as_slice() == wanted.as_bytes(), "{row}");
+        match row.split_once(" = ") {
+            Some((line, wanted)) => {
+                let told = answer(alloc, tree, level, line)?;
+                assert!(rt; told.as_slice() == wanted.as_bytes(), "{row}");
+            }
+            None => assert!(rt; row.is_empty(), "{row}"),
         }
     }
     Ok(())

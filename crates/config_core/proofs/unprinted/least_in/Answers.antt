@@ -1,4 +1,4 @@
-use Rattle.std.proofs.Common.{◌≡◌, sym, ◌∙◌}
+use Rattle.std.proofs.Common.{sym, ◌∙◌}
 use Rattle.config_core.proofs.WalkLemmas.{past_printed, ends_unprinted, none_printed, walk_falls}
 use Rattle.config_core.proofs.unprinted.least_in.Goals as goal
 

@@ -1,4 +1,4 @@
-use Rattle.std.proofs.Common.{◌≡◌, true, sym, subst, ◌∙◌, rules}
+use Rattle.std.proofs.Common.{◌≡◌, true, sym, ◌∙◌, rules}
 use Rattle.config_core.specs.Machine.{is_configuring}
 use Rattle.config_core.specs.Printed.{AllPrinted}
 use Rattle.config_core.proofs.StepLemmas.{prepares_commit}
