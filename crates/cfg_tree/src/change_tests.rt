@@ -250,7 +250,7 @@ fn are_children(steps: &[Step], list: &[Kept], path: &Path) -> bool {
     left.is_empty()
 }
 
-/// The line of a change: seven statements with numbers in them.
+/// The line of a change: eight forms, with numbers in them.
 fn line_at(alloc: Global, n: u32) -> Result<String, Fail> {
     let slot = n / 9 % 3;
     let last = n / 4 % 5;
