@@ -13,20 +13,17 @@ use Rattle.session_history.specs.declared.turn.Stance.{Stance}
 use Rattle.confd.specs.declared.session.Next.{Next}
 use Rattle.session_history.specs.declared.turn.Turn.{Turn}
 use Rattle.session_history.specs.declared.turn.Turn.TheVariants.{Kept, Local, NoMemory}
-use Rattle.session_history.specs.Events.{IsAt, asked_event, state_after, state_before, places_from, places_of}
+use Rattle.session_history.specs.Events.{places_from, places_of}
 use Rattle.session_history.specs.Told.{Told, Item, item_of, stance_after, Answered, Refuses, Unanswered, text_of, answer_of, turn_of, places_told, IsTrueOf}
 use Rattle.session_history.specs.Session.{Sides, Served, Delivers, TakesAnswers, AnswersAre}
 use Rattle.session_history.proofs.EventLemmas.{places_from-push}
-use Rattle.confd.specs.Log.{Log, Adds, opened, state_of}
+use Rattle.confd.specs.Log.{Log, Adds, opened}
 use Rattle.confd.specs.Steps.{Asks, TakesTurn, ServesItem, how_next}
 
 -- a command that was answered
 pub asks_reply : (caller answer : ℕ) (command : Command) (place : ℕ) (reply : Reply) (old new : Log) (coming coming' : Option (ℕ → ℕ)) (turns turns' : List Turn) → Adds caller answer command place reply old new → TakesAnswer coming coming' answer → turns' ≡ turns ++ Kept place ∷ [] → Asks (opened old) caller command (Some reply) coming coming' turns turns' old.events new.events
 asks_reply caller answer command place reply old new coming coming' turns turns' adds takes turned =
-    let event : Happened = asked_event caller (max answer (state_of old).greatest) command in
-    let grown : new.events ≡ old.events ++ event ∷ [] = ap (λ l. l.events) adds.grown in
-    let before : state_before (opened old) new.events place ≡ state_of old =
-    ap (state_after (opened old)) (ap (λ p. take p new.events) adds.at_end ∙ ap (take (length old.events)) grown ∙ take-append_seam old.events (event ∷ [])) in
+    let grown : new.events ≡ old.events ++ adds.event ∷ [] = ap (λ l. l.events) adds.grown in
     record {
       told = Answered place answer command reply;
       item = refl;
@@ -35,11 +32,11 @@ asks_reply caller answer command place reply old new coming coming' turns turns'
       takes = record {
         answer = takes;
         turned = turned;
-        is_true = subst (λ s. IsAt (opened old) new.events place (asked_event caller (max answer s.greatest) command) reply) (sym before) adds.added;
-        more = event ∷ [];
+        is_true = adds.added;
+        more = adds.event ∷ [];
         grown = grown;
-        own = (refl, tt);
-        places = ap (places_of caller) grown ∙ places_from-push 0 caller old.events event refl ∙ ap (λ p. places_of caller old.events ++ p ∷ []) (zero-add (length old.events) ∙ sym adds.at_end);
+        own = (adds.own, tt);
+        places = ap (places_of caller) grown ∙ places_from-push 0 caller old.events adds.event adds.own ∙ ap (λ p. places_of caller old.events ++ p ∷ []) (zero-add (length old.events) ∙ sym adds.at_end);
       };
     }
 

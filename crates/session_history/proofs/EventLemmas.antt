@@ -1,23 +1,20 @@
 -- A history that grows at its end.
-use Rattle.std.proofs.Common.{◌≡◌, ℕ, ◌+◌, ◌<◌, ◌≤◌, List, [], ◌∷◌, ◌++◌, length, take, Bool, true, false, cond, eqb, refl, sym, ap, subst, ◌∙◌, zero, suc, max, add-zero, eq-eqb, arith, Option, Some, slice_get}
+use Rattle.std.proofs.Common.{◌≡◌, ℕ, ◌+◌, ◌<◌, ◌≤◌, List, [], ◌∷◌, ◌++◌, length, take, Bool, true, false, cond, eqb, refl, sym, ap, subst, ◌∙◌, zero, suc, add-zero, eq-eqb, arith, Option, Some, slice_get}
 use Rattle.std.specs.List.{AllByRecursion, flat_map}
 use Rattle.std.proofs.lemmas.List.{take-append-le, length-append, append-nil}
 use Rattle.config_core.specs.declared.reply.Reply.{Reply}
 use Rattle.config_core.specs.State.{State}
-use Rattle.config_core.specs.Machine.{Fits}
+use Rattle.config_core.specs.Machine.{Fits, Steps, Turned}
 use Rattle.session_history.specs.declared.history.Happened.{Happened}
-use Rattle.session_history.specs.Events.{turned_by, asked_event, state_after, IsLegal, state_before, IsAt, places_from, places_of}
+use Rattle.session_history.specs.Events.{Leads, IsAt, IsAsked, places_from, places_of}
 use Rattle.session_history.specs.Told.{Told, Answered, Refuses, Unanswered, IsTrueOf}
 
--- the state after one more event
-pub state_after-push : (s : State) (events : List Happened) (event : Happened) → state_after s (events ++ event ∷ []) ≡ (turned_by (state_after s events) event).state
-state_after-push s [] event = refl
-state_after-push s (first ∷ events) event = state_after-push (turned_by s first).state events event
-
--- one more event that fits
-pub IsLegal-push : (s : State) (events : List Happened) (event : Happened) → IsLegal s events → Fits (state_after s events) event.caller event.moment event.event → IsLegal s (events ++ event ∷ [])
-IsLegal-push s [] event legal fits = (fits, tt)
-IsLegal-push s (first ∷ events) event legal fits = (legal.0, IsLegal-push (turned_by s first).state events event legal.1 fits)
+-- one more event that fits, and its step
+pub Leads-push : (s : State) (events : List Happened) (event : Happened) (last : State) (turned : Turned) → Leads s events last → Fits last event.caller event.moment event.event → Steps last event.caller event.moment event.event turned → Leads s (events ++ event ∷ []) turned.state
+Leads-push s [] event last turned leads fits steps =
+    (subst (λ x. Fits x event.caller event.moment event.event) leads fits, turned, subst (λ x. Steps x event.caller event.moment event.event turned) leads steps, refl)
+Leads-push s (first ∷ events) event last turned leads fits steps =
+    (leads.0, leads.1, leads.2, Leads-push leads.1.state events event last turned leads.3 fits steps)
 
 -- an element that is there stays there
 slice_get-append : {A : Type 0} → (xs ys : List A) (place : ℕ) → place < length xs → slice_get (xs ++ ys) place ≡ slice_get xs place
@@ -26,18 +23,20 @@ slice_get-append (x ∷ xs) ys zero within = refl
 slice_get-append (x ∷ xs) ys (suc place) within = slice_get-append xs ys place (omega arith)
 
 -- what is at a place stays so
-pub IsAt-append : (s : State) (events more : List Happened) (place : ℕ) (event : Happened) (reply : Reply) → IsAt s events place event reply → IsAt s (events ++ more) place event reply
-IsAt-append s events more place event reply at_place = record {
-  within = omega (arith, length-append events more, at_place.within);
-  is = slice_get-append events more place at_place.within ∙ at_place.is;
-  replied = subst (λ front. reply ≡ (turned_by (state_after s front) event).reply) (sym (take-append-le place events more (omega (arith, at_place.within)))) at_place.replied;
+pub IsAt-append : (s : State) (events more : List Happened) (place : ℕ) (before : State) (event : Happened) (reply : Reply) → IsAt s events place before event reply → IsAt s (events ++ more) place before event reply
+IsAt-append s events more place before event reply there = record {
+  within = omega (arith, length-append events more, there.within);
+  is = slice_get-append events more place there.within ∙ there.is;
+  leads = subst (λ front. Leads s front before) (sym (take-append-le place events more (omega (arith, there.within)))) there.leads;
+  turned = there.turned;
+  steps = there.steps;
+  replied = there.replied;
 }
 
 -- what is told stays so
 pub IsTrueOf-append : (s : State) (caller : ℕ) (events more : List Happened) (told : Told) → IsTrueOf s caller events told → IsTrueOf s caller (events ++ more) told
 IsTrueOf-append s caller events more (Answered place answer command reply) so =
-    let before : state_before s (events ++ more) place ≡ state_before s events place = ap (state_after s) (take-append-le place events more (omega (arith, so.within))) in
-    subst (λ state. IsAt s (events ++ more) place (asked_event caller (max answer state.greatest) command) reply) (sym before) (IsAt-append s events more place _ reply so)
+    record { before = so.before; is_at = IsAt-append s events more place so.before _ reply so.is_at }
 IsTrueOf-append s caller events more (Refuses answer fault) so = tt
 IsTrueOf-append s caller events more (Unanswered answer command) so = tt
 

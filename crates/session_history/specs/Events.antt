@@ -1,27 +1,23 @@
 -- The events of a run, as the machine takes them one by one.
-use Rattle.std.specs.Prelude.{◌≡◌, ℕ, ◌+◌, ◌==◌, ◌<◌, List, [], ◌∷◌, length, take, if◌then◌else◌, Option, Some, slice_get}
+use Rattle.std.specs.Prelude.{◌≡◌, ℕ, ◌+◌, ◌==◌, ◌<◌, List, [], ◌∷◌, length, take, if◌then◌else◌, Option, Some, slice_get, max}
 use Rattle.cfg_base.specs.declared.command.Command.{Command}
 use Rattle.config_core.specs.declared.event.Event.{Event}
 use Rattle.config_core.specs.declared.event.Event.TheVariants.{Command as CommandOf}
 use Rattle.config_core.specs.declared.event.Outcome.TheVariants.{Done}
 use Rattle.config_core.specs.declared.reply.Reply.{Reply}
 use Rattle.config_core.specs.State.{State}
-use Rattle.config_core.specs.Machine.{Fits, Turned, step_of}
+use Rattle.config_core.specs.Machine.{Fits, Turned, Steps}
 use Rattle.session_history.specs.declared.history.Happened.{Happened}
 
--- what an event makes of a state, and its reply
-abbrev pub turned_by : State → Happened → Turned
-turned_by s event = step_of s event.caller event.moment event.event
+-- the events lead from one state to the other: each fits the state before it and is a step of the machine
+abbrev pub Leads : State → List Happened → State → Type 0
+Leads s [] last = last ≡ s
+Leads s (event ∷ events) last =
+    Fits s event.caller event.moment event.event × (turned : Turned) × Steps s event.caller event.moment event.event turned × Leads turned.state events last
 
--- the state that a list of events leaves
-abbrev pub state_after : State → List Happened → State
-state_after s [] = s
-state_after s (event ∷ events) = state_after (turned_by s event).state events
-
--- each event fits the state that the events before it leave
+-- the events lead to some state
 abbrev pub IsLegal : State → List Happened → Type 0
-IsLegal s [] = Unit {0}
-IsLegal s (event ∷ events) = Fits s event.caller event.moment event.event × IsLegal (turned_by s event).state events
+IsLegal s events = (last : State) × Leads s events last
 
 -- a command of a caller, made while no disk is called
 abbrev pub asked_event : ℕ → ℕ → Command → Happened
@@ -33,15 +29,19 @@ asked_event caller moment command = record {
   calls = record { a = 0; b = 0 };
 }
 
--- the state before the event at a place
-abbrev pub state_before : State → List Happened → ℕ → State
-state_before s events place = state_after s (take place events)
-
--- the event at that place is this one, and this is its reply
-pub record IsAt (s : State) (events : List Happened) (place : ℕ) (event : Happened) (reply : Reply) : Type 0 where
+-- the event at that place is this one; the events before it lead to this state, and this is its reply there
+pub record IsAt (s : State) (events : List Happened) (place : ℕ) (before : State) (event : Happened) (reply : Reply) : Type 0 where
   pub within : place < length events
   pub is : slice_get events place ≡ Some event
-  pub replied : reply ≡ (turned_by (state_before s events place) event).reply
+  pub leads : Leads s (take place events) before
+  pub turned : Turned
+  pub steps : Steps before event.caller event.moment event.event turned
+  pub replied : reply ≡ turned.reply
+
+-- the event at that place is the caller's command, made at the greater of the clock's answer and the greatest moment before it
+pub record IsAsked (s : State) (events : List Happened) (place caller answer : ℕ) (command : Command) (reply : Reply) : Type 0 where
+  pub before : State
+  pub is_at : IsAt s events place before (asked_event caller (max answer before.greatest) command) reply
 
 -- the places of a caller's events, of those that stand from a place on
 abbrev pub places_from : ℕ → ℕ → List Happened → List ℕ

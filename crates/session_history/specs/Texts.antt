@@ -5,7 +5,7 @@ use Rattle.cfg_base.specs.declared.path.Step.{Step}
 use Rattle.cfg_base.specs.declared.command.Mode.{Mode}
 use Rattle.cfg_base.specs.declared.command.Mode.TheVariants.{Shared}
 use Rattle.config_core.specs.declared.reply.Refusal.{Refusal}
-use Rattle.config_core.specs.declared.reply.Refusal.TheVariants.{WrongMode, Unknown, BadValue, Exhausted}
+use Rattle.config_core.specs.declared.reply.Refusal.TheVariants.{WrongMode, Unknown, BadValue, Incomplete, Extra, NotThere, NotALevel, Protected, TooMany, Unprinted, Exhausted}
 use Rattle.config_core.specs.declared.reply.Reply.{Reply}
 use Rattle.config_core.specs.declared.reply.Reply.TheVariants.{Done, LoggedOut, Text, Entered, Left, Committed, Refused}
 use Rattle.shell_words.specs.Printed.{is_empty, printed_word}
@@ -32,6 +32,13 @@ abbrev pub text_of_refusal : Refusal → List ℕ
 text_of_refusal WrongMode = error_line (codes "not in this mode")
 text_of_refusal (Unknown path) = error_line (codes "unknown statement: " ++ printed_path path)
 text_of_refusal (BadValue path) = error_line (codes "bad value: " ++ printed_path path)
+text_of_refusal (Incomplete path) = error_line (codes "incomplete statement: " ++ printed_path path)
+text_of_refusal (Extra path) = error_line (codes "unexpected words after: " ++ printed_path path)
+text_of_refusal (NotThere path) = error_line (codes "statement not found: " ++ printed_path path)
+text_of_refusal (NotALevel path) = error_line (codes "not a level: " ++ printed_path path)
+text_of_refusal (Protected path) = error_line (codes "statement is protected: " ++ printed_path path)
+text_of_refusal TooMany = error_line (codes "more than 16384 statements")
+text_of_refusal (Unprinted path) = error_line (codes "statement not printed yet: " ++ printed_path path)
 text_of_refusal Exhausted = error_line (codes "no more entries")
 
 abbrev pub text_of_reply : Reply → List ℕ

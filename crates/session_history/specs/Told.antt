@@ -1,5 +1,5 @@
 -- What a session's items came to, one by one.
-use Rattle.std.specs.Prelude.{◌≡◌, ℕ, List, [], ◌∷◌, map, max}
+use Rattle.std.specs.Prelude.{◌≡◌, ℕ, List, [], ◌∷◌, map}
 use Rattle.std.specs.List.{flat_map, AllByRecursion}
 use Rattle.cfg_base.specs.declared.command.Command.{Command}
 use Rattle.cfg_base.specs.declared.command.Mode.{Mode}
@@ -13,7 +13,7 @@ use Rattle.session_history.specs.declared.turn.Stance.{Stance}
 use Rattle.session_history.specs.declared.turn.Stance.TheVariants.{Operational, Configuring, Out}
 use Rattle.session_history.specs.declared.turn.Turn.{Turn}
 use Rattle.session_history.specs.declared.turn.Turn.TheVariants.{Kept, Local, NoMemory}
-use Rattle.session_history.specs.Events.{IsAt, asked_event, state_before}
+use Rattle.session_history.specs.Events.{IsAsked}
 use Rattle.session_history.specs.Texts.{text_of_reply, text_of_fault, no_memory_text}
 
 -- an item: a command, or a line that is refused
@@ -68,10 +68,8 @@ stance_after stance (Answered place answer command reply) = after_reply stance r
 stance_after stance (Refuses answer fault) = stance
 stance_after stance (Unanswered answer command) = stance
 
--- what is told of an event is so: it is that caller's command, made at the greater of the clock's answer and the greatest
--- moment before it, and the reply is the machine's
+-- what is told of an event is so: that command was asked there, and the reply is the machine's
 abbrev pub IsTrueOf : State → ℕ → List Happened → Told → Type 0
-IsTrueOf opening caller events (Answered place answer command reply) =
-    IsAt opening events place (asked_event caller (max answer (state_before opening events place).greatest) command) reply
+IsTrueOf opening caller events (Answered place answer command reply) = IsAsked opening events place caller answer command reply
 IsTrueOf opening caller events (Refuses answer fault) = Unit {0}
 IsTrueOf opening caller events (Unanswered answer command) = Unit {0}

@@ -1,7 +1,7 @@
 use Rattle.std.proofs.Common.{◌≡◌, ◌∷◌, ◌++◌, [], List, ℕ, length, max, ap, sym, subst, ◌∙◌, rules}
 use Rattle.config_core.specs.declared.event.Event.TheVariants.{Command as CommandOf}
-use Rattle.config_core.specs.Machine.{step_of}
-use Rattle.config_core.specs.Prepared.{Prepares}
+use Rattle.config_core.specs.Machine.{Steps}
+use Rattle.config_core.specs.Prepared.{Prepares, turned_by}
 use Rattle.session_history.specs.Events.{asked_event}
 use Rattle.confd.specs.Log.{Log, IsLog, Adds}
 use Rattle.confd.proofs.LogLemmas.{Adds-more, IsLog-more, fits_of}
@@ -11,28 +11,28 @@ pub prepare-requires : goal.prepare-requires
 prepare-requires c =
     let log : Log = record { kept = c.self.inside.opening; users = c.self.inside.users; events = c.self.inside.events.items } in
     fits_of c.self.inside.core log c.args.self.now c.args.caller c.args.moment c.greatest.result c.later-moment.result c.args.command
-    c.self.invariant c.self.view_is c.requires.caller c.greatest.ensures c.later-moment.ensures c.requires.sound
+    c.self.invariant c.self.view_is c.requires.caller c.greatest.ensures c.later-moment.ensures
 
 pub invariant_of-self-2 : goal.invariant_of-self-2
 invariant_of-self-2 c =
     let core = c.self.inside.core in
     let log : Log = record { kept = c.self.inside.opening; users = c.self.inside.users; events = c.self.inside.events.items } in
     let grown : c.push_reserved.new.self.items ≡ log.events ++ asked_event c.args.caller c.later-moment.result c.args.command ∷ [] = search rules in
-    let prepares : Prepares core (step_of core c.args.caller c.later-moment.result (CommandOf c.args.command)) c.in_ok-prepared.prepared = c.in_ok-prepared.ensures in
+    let prepares : Prepares core (Steps core c.args.caller c.later-moment.result (CommandOf c.args.command)) c.in_ok-prepared.prepared = c.in_ok-prepared.ensures in
     subst (λ events. IsLog c.accept-reply.new.self (record { kept = log.kept; users = log.users; events = events })) (sym grown)
-    (IsLog-more core c.accept-reply.new.self log c.args.caller c.later-moment.result c.args.command c.self.invariant
+    (IsLog-more core c.accept-reply.new.self log c.args.caller c.later-moment.result c.args.command (turned_by c.in_ok-prepared.prepared core) c.self.invariant
     (fits_of core log c.args.self.now c.args.caller c.args.moment c.greatest.result c.later-moment.result c.args.command
-    c.self.invariant c.self.view_is c.requires.caller c.greatest.ensures c.later-moment.ensures c.requires.sound)
-    (c.accept-reply.ensures.state ∙ prepares.state))
+    c.self.invariant c.self.view_is c.requires.caller c.greatest.ensures c.later-moment.ensures)
+    prepares.steps c.accept-reply.ensures.state)
 
 pub returns-clause-adds : goal.returns-clause-adds
 returns-clause-adds c =
     let core = c.self.inside.core in
     let log : Log = record { kept = c.self.inside.opening; users = c.self.inside.users; events = c.self.inside.events.items } in
     let grown : c.push_reserved.new.self.items ≡ log.events ++ asked_event c.args.caller c.later-moment.result c.args.command ∷ [] = search rules in
-    let prepares : Prepares core (step_of core c.args.caller c.later-moment.result (CommandOf c.args.command)) c.in_ok-prepared.prepared = c.in_ok-prepared.ensures in
+    let prepares : Prepares core (Steps core c.args.caller c.later-moment.result (CommandOf c.args.command)) c.in_ok-prepared.prepared = c.in_ok-prepared.ensures in
     let late : c.later-moment.result ≡ max c.args.moment core.greatest = c.later-moment.ensures ∙ ap (max c.args.moment) c.greatest.ensures in
     let at_end : c.len-place.result ≡ length log.events = search rules in
     subst (λ old. Adds c.args.caller c.args.moment c.args.command c.len-place.result c.accept-reply.result old (record { kept = log.kept; users = log.users; events = c.push_reserved.new.self.items })) c.self.view_is
     (subst (λ events. Adds c.args.caller c.args.moment c.args.command c.len-place.result c.accept-reply.result log (record { kept = log.kept; users = log.users; events = events })) (sym grown)
-    (Adds-more core log c.args.caller c.args.moment c.later-moment.result c.args.command c.len-place.result c.accept-reply.result c.self.invariant late (c.accept-reply.ensures.reply ∙ prepares.reply) at_end))
+    (Adds-more core log c.args.caller c.args.moment c.later-moment.result c.args.command (turned_by c.in_ok-prepared.prepared core) c.len-place.result c.accept-reply.result c.self.invariant late prepares.steps c.accept-reply.ensures.reply at_end))
