@@ -1,5 +1,5 @@
 -- A log that grows by one event.
-use Rattle.std.proofs.Common.{◌≡◌, ℕ, ◌+◌, ◌-◌, ◌<◌, ◌≤◌, ◌⊎◌, List, [], ◌∷◌, ◌++◌, length, map, take, max, Bool, true, false, MatchBool, cond, refl, sym, ap, subst, ◌∙◌, arith, suc, nat_lt, Option, None, Some, inl, inr, slice_get}
+use Rattle.std.proofs.Common.{◌≡◌, ℕ, ◌-◌, ◌<◌, ◌≤◌, ◌⊎◌, List, [], ◌∷◌, ◌++◌, length, map, take, max, Bool, true, false, MatchBool, cond, refl, sym, ap, subst, ◌∙◌, arith, suc, nat_lt, Option, None, Some, inl, inr, slice_get}
 use Rattle.std.proofs.lemmas.List.{length-append}
 use Rattle.std.proofs.Math.Seq.{take-append_seam}
 use Rattle.std.proofs.Math.ListN.{length-set}
@@ -13,7 +13,7 @@ use Rattle.config_core.specs.declared.reply.Reply.{Reply}
 use Rattle.config_core.specs.declared.ledger.TheConstants.{MAX_ENTRIES}
 use Rattle.config_core.specs.State.{State, opening_of, operational}
 use Rattle.config_core.specs.Levels.{Position, is_level_at}
-use Rattle.config_core.specs.Machine.{Fits, Turned, IsCaller, is_configuring, later, with_caller, committed, exited, edited, Moves, IsLost, Changes, IsUnchanged, IsUnprintable, Commits, Serves, Steps}
+use Rattle.config_core.specs.Machine.{Fits, Turned, is_configuring, later, with_caller, committed, exited, edited, Moves, IsLost, Changes, IsUnchanged, IsUnprintable, Commits, Serves, Steps}
 use Rattle.session_history.specs.declared.history.Happened.{Happened}
 use Rattle.session_history.specs.Events.{Leads, IsAt, asked_event}
 use Rattle.session_history.proofs.EventLemmas.{Leads-push}

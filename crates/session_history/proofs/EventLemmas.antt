@@ -1,12 +1,12 @@
 -- A history that grows at its end.
-use Rattle.std.proofs.Common.{◌≡◌, ℕ, ◌+◌, ◌<◌, ◌≤◌, List, [], ◌∷◌, ◌++◌, length, take, Bool, true, false, cond, eqb, refl, sym, ap, subst, ◌∙◌, zero, suc, add-zero, eq-eqb, arith, Option, Some, slice_get}
-use Rattle.std.specs.List.{AllByRecursion, flat_map}
-use Rattle.std.proofs.lemmas.List.{take-append-le, length-append, append-nil}
+use Rattle.std.proofs.Common.{◌≡◌, ℕ, ◌+◌, ◌<◌, List, [], ◌∷◌, ◌++◌, length, true, false, cond, eqb, refl, sym, ap, subst, ◌∙◌, zero, suc, add-zero, eq-eqb, arith, slice_get}
+use Rattle.std.specs.List.{AllByRecursion}
+use Rattle.std.proofs.lemmas.List.{take-append-le, length-append}
 use Rattle.config_core.specs.declared.reply.Reply.{Reply}
 use Rattle.config_core.specs.State.{State}
 use Rattle.config_core.specs.Machine.{Fits, Steps, Turned}
 use Rattle.session_history.specs.declared.history.Happened.{Happened}
-use Rattle.session_history.specs.Events.{Leads, IsAt, IsAsked, places_from, places_of}
+use Rattle.session_history.specs.Events.{Leads, IsAt, places_from}
 use Rattle.session_history.specs.Told.{Told, Answered, Refuses, Unanswered, IsTrueOf}
 
 -- one more event that fits, and its step

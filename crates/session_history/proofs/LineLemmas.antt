@@ -1,6 +1,6 @@
 -- The lines of what was read, one after another.
 use Rattle.std.proofs.Common.{◌≡◌, ℕ, ◌+◌, ◌<◌, ◌≤◌, ◌↔◌, List, [], ◌∷◌, ◌++◌, length, map, refl, sym, ap, subst, ◌∙◌, append_assoc, Option, None, Some, inl, inr, ◌⊎◌, arith}
-use Rattle.std.specs.List.{AllByRecursion, flat_map}
+use Rattle.std.specs.List.{flat_map}
 use Rattle.std.proofs.lemmas.List.{append-nil, length-append}
 use Rattle.io_edge.specs.declared.lines.Line.{Line}
 use Rattle.io_edge.specs.Line.{HasNoLf, TellsBoth, IsEndedLine, IsLastLine, line_of, last_line_of}
@@ -8,7 +8,7 @@ use Rattle.session_history.specs.declared.turn.How.{How}
 use Rattle.session_history.specs.declared.turn.How.TheVariants.{InputFull}
 use Rattle.session_history.specs.declared.turn.Stance.{Stance}
 use Rattle.session_history.specs.declared.turn.Stance.TheVariants.{Operational, Configuring, Out}
-use Rattle.session_history.specs.Told.{Item, Told, item_of, stance_after}
+use Rattle.session_history.specs.Told.{Item, Told, stance_after}
 use Rattle.session_history.specs.Items.{GoesOn, ReadsAs, item_at}
 use Rattle.session_history.specs.Session.{ended, last_lines, IsCut, StopsBy, IsInput}
 use Rattle.session_history.proofs.ServedLemmas.{All-append, map_over_append, flat_map_over_append}

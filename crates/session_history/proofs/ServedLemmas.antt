@@ -1,13 +1,10 @@
 -- What is told, and then more.
-use Rattle.std.proofs.Common.{◌≡◌, ℕ, ◌+◌, List, [], ◌∷◌, ◌++◌, map, Bool, true, false, refl, sym, ap, subst, ◌∙◌, append_assoc, add_assoc, Option, None, Some, arith}
+use Rattle.std.proofs.Common.{◌≡◌, ℕ, ◌+◌, List, [], ◌∷◌, ◌++◌, map, Bool, true, false, refl, sym, ap, subst, ◌∙◌, append_assoc, Option, None, Some}
 use Rattle.std.specs.List.{AllByRecursion, flat_map}
-use Rattle.std.proofs.lemmas.List.{append-nil}
 use Rattle.config_core.specs.State.{State}
 use Rattle.io_edge.specs.Ends.{behind}
-use Rattle.io_edge.specs.Wrote.{WrotePart}
-use Rattle.io_edge.proofs.EndLemmas.{behind-behind, behind-nothing}
-use Rattle.io_edge.proofs.WroteLemmas.{part_then, wrote_part_of}
-use Rattle.session_history.specs.declared.history.Happened.{Happened}
+use Rattle.io_edge.proofs.EndLemmas.{behind-behind}
+use Rattle.io_edge.proofs.WroteLemmas.{part_then}
 use Rattle.session_history.specs.Events.{places_of}
 use Rattle.session_history.specs.Told.{Told, turn_of, answer_of, text_of, places_told, IsTrueOf}
 use Rattle.session_history.specs.Session.{Sides, Served, AnswersAre, TakesAnswers, Delivers}

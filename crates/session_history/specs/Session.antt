@@ -1,5 +1,5 @@
 -- One session, from the bytes read to the bytes written.
-use Rattle.std.specs.Prelude.{◌≡◌, ◌≢◌, ◌<◌, ◌+◌, ◌↔◌, ℕ, List, [], ◌∷◌, ◌++◌, length, map, take, Bool, true, false, Option, None, Some, ◌⊎◌}
+use Rattle.std.specs.Prelude.{◌≡◌, ◌<◌, ◌+◌, ◌↔◌, ℕ, List, [], ◌∷◌, ◌++◌, length, map, take, Bool, true, false, Option, None, Some, ◌⊎◌}
 use Rattle.std.specs.List.{flat_map, AllByRecursion}
 use Rattle.cfg_base.specs.declared.command.Command.TheVariants.{Logout}
 use Rattle.config_core.specs.State.{State}

@@ -1,6 +1,6 @@
-use Rattle.std.proofs.Common.{◌≡◌, ◌⊎◌, [], ◌∷◌, true, sym, subst, ◌∙◌, inl, inr, rules}
+use Rattle.std.proofs.Common.{◌≡◌, true, sym, subst, ◌∙◌, inr, rules}
 use Rattle.io_edge.specs.Ends.{Rose}
-use Rattle.confd.specs.Run.{IsServe, IsServed}
+use Rattle.confd.specs.Run.{IsServe}
 use Rattle.confd.proofs.RunLemmas.{status_is_not_1, one_of, complete_of, same_one}
 use Rattle.confd.proofs.run.run.Goals as goal
 

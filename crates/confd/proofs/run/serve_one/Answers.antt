@@ -1,4 +1,4 @@
-use Rattle.std.proofs.Common.{◌≡◌, [], ◌∷◌, ◌++◌, List, remove, sym, ap, ◌∙◌, rules}
+use Rattle.std.proofs.Common.{◌≡◌, [], ◌∷◌, ◌++◌, List, remove, ap, ◌∙◌}
 use Rattle.session_history.specs.declared.turn.Turn.{Turn}
 use Rattle.confd.proofs.RunLemmas.{IsServed-of, first_of_one}
 use Rattle.confd.proofs.run.serve_one.Goals as goal
