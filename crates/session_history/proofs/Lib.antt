@@ -1,3 +1,4 @@
 pub mod EventLemmas
 pub mod ServedLemmas
 pub mod LineLemmas
+pub mod OutcomeLemmas

@@ -1,12 +1,15 @@
 //! What happened in a run: the events, the turns of each session, and the texts that stand for them.
 //!
-//! Guarantees: none of its own: it holds the types and the definitions that the theorem of a run is stated in.
+//! Guarantees: that a history has one outcome (src/laws.rt). Else it holds the types and the definitions that the theorem
+//! of a run is stated in.
 //! In order of reading: specs/Events.antt, specs/Texts.antt, specs/Told.antt, specs/Items.antt, specs/Session.antt.
 //! Leaves to others: that they hold of a run (`confd`).
 #![tactic(auto)]
 
 mod history;
+mod laws;
 mod turn;
 
 pub use history::{Calls, Happened, History};
+pub use laws::histories_have_one_outcome;
 pub use turn::{How, ShellFault, Stance, Turn, TurnList};

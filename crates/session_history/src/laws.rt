@@ -1,0 +1,21 @@
+//! A history has one outcome.
+
+ghost use Rattle.std.specs.Prelude.{◌≡◌, ℕ, List};
+ghost use Rattle.config_core.specs.Kept.{Kept};
+ghost use Rattle.config_core.specs.State.{State, opening_of};
+ghost use Rattle.config_core.specs.declared.reply.Reply.{Reply};
+ghost use Rattle.session_history.specs.declared.history.Happened.{Happened};
+ghost use Rattle.session_history.specs.Events.{Leads, IsAt};
+
+use config_core::steps_have_one_outcome;
+
+/// The events of a run lead to one state, and what happened at a place of them is one event, with one reply.
+pub fn histories_have_one_outcome()
+    ensures state { (kept : Kept) (users : List (List ℕ)) (events : List Happened) (one other : State)
+        → Leads (opening_of kept users) events one → Leads (opening_of kept users) events other → one ≡ other }
+    ensures reply { (kept : Kept) (users : List (List ℕ)) (events : List Happened) (place : ℕ) (before again : State)
+        (event same : Happened) (one other : Reply) → IsAt (opening_of kept users) events place before event one
+        → IsAt (opening_of kept users) events place again same other → (event ≡ same) × (before ≡ again) × (one ≡ other) }
+{
+    steps_have_one_outcome();
+}
