@@ -448,3 +448,16 @@ fn the_next_statement_stands_behind_a_path_that_is_there_or_not(
     assert!(rt; tree.next(&last.path).is_none());
     Ok(())
 }
+
+#[test]
+fn a_copy_keeps_what_a_removal_takes(rt: HostRuntime) -> Result<(), Fail> {
+    let alloc = rt.alloc();
+    let host = "system host-name";
+    let mut tree = tree_of(&rt, alloc, &["system", "system host-name r1"])?;
+    let copy = tree.copy()?;
+    assert!(rt; copy.same(&tree));
+    assert_eq!(rt; remove_line(alloc, &mut tree, host)?, 1);
+    assert!(rt; !copy.same(&tree));
+    assert!(rt; is_there(alloc, &copy, host)?);
+    Ok(())
+}
