@@ -1,12 +1,11 @@
 -- What a crash may leave, from one call of a disk to the next.
-use Rattle.std.proofs.Common.{◌≡◌, ◌≢◌, ◌≤◌, ◌<◌, ◌⊎◌, inl, inr, ⊎_elim, ℕ, zero, suc, ◌+◌, ◌-◌, max, Bool, true, false, nat_le, nat_lt, ◌&&◌, ◌||◌, List, [], ◌∷◌, ◌++◌, length, get_or, take, drop, Option, Some, None, refl, sym, ◌∙◌, ap, subst, arith, append_assoc, length-append, length-take, length-drop}
+use Rattle.std.proofs.Common.{◌≡◌, ◌≤◌, ◌<◌, ◌⊎◌, inl, inr, ⊎_elim, ℕ, suc, ◌+◌, ◌-◌, Bool, true, false, nat_le, nat_lt, ◌&&◌, ◌||◌, List, [], ◌∷◌, ◌++◌, length, get_or, take, drop, Some, None, refl, sym, ◌∙◌, ap, subst, arith, append_assoc, length-append, length-take, length-drop}
 use Rattle.std.proofs.lemmas.List.{append-nil, get_or_append_left, get_or-append_right, get_or-take, get_or-drop, get_or_past}
 use Rattle.std.proofs.lemmas.Option.{slice_get-get_or, slice_get_past, get_or_from_slice_get, slice_get_within}
-use Rattle.std.proofs.lemmas.Bool.{cases_eq}
 use Rattle.std.proofs.lemmas.Bool.Decides.{nat_tests}
 use Rattle.std.specs.List.{slice_get}
-use Rattle.disk_model.specs.Disk.{Call, Write, Sync, Refused, History, State, put, pending_during, at_first, during, written, settled, step, after, state_of, contents_of, IsImage, Since, Leaves, LeftAfter, LeftSince, LeftBetween, Called, Uncounted, DidNothing, Wrote, Synced}
-use Rattle.disk_model.proofs.States.{after_push, after-append, state_called, length-put}
+use Rattle.disk_model.specs.Disk.{Call, Write, Sync, Refused, History, State, put, pending_during, at_first, during, written, settled, step, after, state_of, contents_of, IsImage, Since, Leaves, Called, DidNothing, Wrote, Synced}
+use Rattle.disk_model.proofs.States.{after-append, state_called}
 
 -- lists that agree at each place, past their ends too, are one
 pub same_places : (xs ys : List ℕ) → ((k : ℕ) → slice_get xs k ≡ slice_get ys k) → xs ≡ ys

@@ -1,18 +1,17 @@
 -- Marks of pending places, and an image with torn bytes as a crash image.
-use Rattle.std.proofs.Common.{◌≡◌, ◌≢◌, ◌≤◌, ◌<◌, ◌⊎◌, inl, inr, ⊎_elim, ℕ, zero, suc, ◌+◌, ◌-◌, max, Bool, true, false, cond, nat_le, nat_lt, ◌==◌, ◌&&◌, ◌||◌, List, [], ◌∷◌, ◌++◌, length, get_or, take, drop, Option, Some, None, refl, sym, ◌∙◌, ap, subst, arith}
+use Rattle.std.proofs.Common.{◌≡◌, ◌≤◌, ◌<◌, ◌⊎◌, inl, inr, ⊎_elim, ℕ, ◌+◌, Bool, true, false, cond, nat_le, nat_lt, ◌==◌, ◌&&◌, ◌||◌, List, [], ◌∷◌, length, get_or, take, drop, Some, refl, sym, ◌∙◌, ap, subst, arith}
 use Rattle.std.proofs.lemmas.List.{take-append-drop}
 use Rattle.disk_model.proofs.States.{after-append}
 use Rattle.disk_model.proofs.Replayed.{past}
-use Rattle.std.proofs.lemmas.Option.{slice_get-get_or, slice_get_past}
-use Rattle.std.proofs.lemmas.Bool.{cases_eq}
+use Rattle.std.proofs.lemmas.Option.{slice_get-get_or}
 use Rattle.std.proofs.lemmas.Bool.Decides.{nat_tests}
 use Rattle.std.specs.List.{slice_get}
-use Rattle.disk_model.specs.Disk.{Call, Write, Sync, Refused, History, State, put, pending_during, at_first, during, written, settled, step, after, state_of, contents_of, IsImage}
+use Rattle.disk_model.specs.Disk.{Call, Write, Sync, Refused, State, pending_during, at_first, written, settled, step, after, state_of, contents_of, IsImage}
 use Rattle.disk_model.specs.declared.replay.Mark.{Mark}
 use Rattle.disk_model.specs.declared.torn.Torn.{Torn}
-use Rattle.disk_model.specs.Marks.{covers, is_marked, Knows}
+use Rattle.disk_model.specs.Marks.{is_marked}
 use Rattle.disk_model.specs.Replay.{pending_below, IsTorn, IsChosenImage}
-use Rattle.disk_model.proofs.Images.{put_no_shorter, past_end, still_pending, contents_image, synced_after}
+use Rattle.disk_model.proofs.Images.{put_no_shorter, past_end, still_pending, contents_image}
 
 -- where there is a mark, some place is marked
 pub some_marked : (m : Mark) (ms : List Mark) → is_marked (m ∷ ms) m.size ≡ true

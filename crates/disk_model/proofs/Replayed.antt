@@ -1,9 +1,7 @@
 -- What a disk in memory holds after one call more.
-use Rattle.std.proofs.Common.{◌≡◌, ◌≤◌, ◌<◌, ℕ, nat_lt, ◌+◌, ◌^◌, Bool, true, false, IsTrue, nat_le, ◌&&◌, List, [], ◌∷◌, ◌++◌, length, refl, sym, ◌∙◌, ap, subst, arith, ◌⊎◌, ⊎_elim}
+use Rattle.std.proofs.Common.{◌≡◌, ◌≤◌, ◌<◌, ℕ, nat_lt, ◌+◌, Bool, true, false, IsTrue, nat_le, ◌&&◌, List, [], ◌∷◌, ◌++◌, length, refl, sym, ◌∙◌, ap, arith}
 use Rattle.std.proofs.lemmas.Bool.Decides.{nat_tests}
 use Rattle.disk_model.specs.Disk.{Call, Write, Sync, Refused, History, State, put, step, written, settled, state_of, contents_of}
-use Rattle.disk_model.specs.Kept.{RecordView}
-use Rattle.disk_model.specs.Memory.{written_bytes}
 use Rattle.disk_model.proofs.States.{state_pushed, length-put}
 use Rattle.disk_model.proofs.KeptLemmas.{both_true}
 

@@ -1,6 +1,6 @@
 -- How the state of a disk goes on with one call more.
-use Rattle.std.proofs.Common.{◌≡◌, ◌≤◌, ℕ, ◌+◌, ◌-◌, max, Bool, true, false, List, [], ◌∷◌, ◌++◌, length, take, drop, refl, sym, ◌∙◌, ap, subst, arith, length-append, length-take, length-drop}
-use Rattle.disk_model.specs.Disk.{Call, Write, Sync, Refused, History, State, put, at_first, during, step, after, state_of, Called}
+use Rattle.std.proofs.Common.{◌≡◌, ◌≤◌, ℕ, ◌+◌, max, List, [], ◌∷◌, ◌++◌, length, take, drop, refl, ◌∙◌, ap, arith, length-append, length-take, length-drop}
+use Rattle.disk_model.specs.Disk.{Call, History, State, put, at_first, step, after, state_of, Called}
 
 pub after_push : (s : State) (calls : List Call) (call : Call) → after s (calls ++ call ∷ []) ≡ step (after s calls) call
 after_push s [] call = refl

@@ -1,5 +1,5 @@
 -- How a disk in memory keeps the record of its calls: their kinds in a row, and the bytes of all writes one after another.
-use Rattle.std.specs.Prelude.{◌≡◌, ◌≤◌, ◌<◌, ◌+◌, ◌^◌, ◌&&◌, Bool, nat_lt, nat_le, ℕ, List, [], ◌∷◌, ◌++◌, length, take, drop, replicate, vec_capacity}
+use Rattle.std.specs.Prelude.{◌+◌, ◌&&◌, Bool, nat_lt, nat_le, ℕ, List, [], ◌∷◌, ◌++◌, length, take, drop, replicate}
 use Rattle.disk_model.specs.declared.kept.Kept.{Kept}
 use Rattle.disk_model.specs.declared.kept.Kept.TheVariants.{Written, Synced, TurnedDown}
 use Rattle.disk_model.specs.Disk.{Call, Write, Sync, Refused}

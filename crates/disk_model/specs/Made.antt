@@ -1,5 +1,4 @@
 -- A call of a disk in memory, as its record shows it.
-use Rattle.std.specs.Prelude.{ℕ, List}
 use Rattle.disk_model.specs.declared.made.Made.{Made}
 use Rattle.disk_model.specs.declared.made.Made.TheVariants.{Wrote, Synced, TurnedDown}
 use Rattle.disk_model.specs.Disk.{Call, Write, Sync, Refused}

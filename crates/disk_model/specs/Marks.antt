@@ -1,5 +1,5 @@
 -- How a replay keeps which places are pending: a mark for each write since the last sync.
-use Rattle.std.specs.Prelude.{◌≡◌, ◌≤◌, ◌<◌, ◌+◌, ◌&&◌, ◌||◌, Bool, nat_lt, nat_le, ℕ, List, [], ◌∷◌, length}
+use Rattle.std.specs.Prelude.{◌≡◌, ◌+◌, ◌&&◌, ◌||◌, Bool, nat_lt, nat_le, ℕ, List}
 use Rattle.std.specs.List.{list_any}
 use Rattle.disk_model.specs.declared.replay.Mark.{Mark}
 use Rattle.disk_model.specs.Disk.{State}

@@ -2,7 +2,6 @@
 use Rattle.std.specs.Prelude.{◌≡◌, ◌≤◌, ◌<◌, ◌^◌, length, vec_capacity}
 use Rattle.disk_model.specs.declared.memory.MemDisk.TheInside.{Inside}
 use Rattle.disk_model.specs.Disk.{contents_of}
-use Rattle.disk_model.specs.Memory.{MemView}
 
 pub record IsReplay (d : Inside) : Type 0 where
   pub bytes : d.bytes.items ≡ contents_of (record { first = d.first.items; calls = d.calls.calls })

@@ -1,5 +1,5 @@
 -- What a contract sees of a disk in memory, and what each call does to it.
-use Rattle.std.specs.Prelude.{◌≡◌, ◌≤◌, ◌+◌, ◌-◌, ◌^◌, min, ◌==◌, ◌&&◌, ◌⊎◌, Bool, true, false, nat_lt, nat_le, ℕ, List, [], ◌∷◌, length, Option, Some, None, is_none, find, if◌then◌else◌}
+use Rattle.std.specs.Prelude.{◌≡◌, ◌+◌, ◌-◌, ◌^◌, min, ◌==◌, ◌&&◌, ◌⊎◌, Bool, true, false, nat_lt, nat_le, ℕ, List, [], ◌∷◌, length, Option, Some, None, is_none, find, if◌then◌else◌}
 use Rattle.std.specs.List.{list_any}
 use Rattle.std.specs.Option.{option_map}
 use Rattle.disk_model.specs.declared.failing.FailAt.{FailAt}

@@ -1,8 +1,7 @@
 -- One crash image of a disk in memory, with the bytes of the pending places chosen.
-use Rattle.std.specs.Prelude.{◌≡◌, ◌≤◌, ◌<◌, ◌+◌, ◌&&◌, ◌||◌, Bool, true, false, nat_lt, nat_le, max, ℕ, zero, suc, List, [], ◌∷◌, length, take, slice_index, if◌then◌else◌}
-use Rattle.std.specs.List.{list_any}
+use Rattle.std.specs.Prelude.{◌≡◌, ◌<◌, ◌+◌, Bool, true, false, max, ℕ, zero, suc, List, [], length, take, slice_index, if◌then◌else◌}
 use Rattle.disk_model.specs.declared.torn.Torn.{Torn}
-use Rattle.disk_model.specs.Disk.{History, State, at_first, after}
+use Rattle.disk_model.specs.Disk.{State, at_first, after}
 use Rattle.disk_model.specs.Memory.{MemView}
 
 -- how many places below k are pending

@@ -1,16 +1,14 @@
 -- What a change answers, from what its parts make.
-use Rattle.std.proofs.Common.{◌≡◌, ◌≢◌, ◌≤◌, ◌⊎◌, inl, inr, Bool, true, false, List, refl, sym, ap, Option, Some, None, Result, Ok, Err}
-use Rattle.std.specs.FinMap as map
+use Rattle.std.proofs.Common.{inr, List, Option, Result, Err}
 use Rattle.cfg_base.specs.declared.path.Step.{Step}
-use Rattle.cfg_tree.specs.declared.limit.TheConstants.{MAX_STATEMENTS}
 use Rattle.cfg_tree.specs.declared.target.Target.{Target}
-use Rattle.cfg_tree.specs.Statements.{Statements, size_of}
+use Rattle.cfg_tree.specs.Statements.{Statements}
 use Rattle.cfg_base.specs.declared.command.Op.{Op}
 use Rattle.edit_ops.specs.declared.fault.EditFault.{EditFault}
 use Rattle.edit_ops.specs.declared.fault.EditFault.TheVariants.{Unknown, BadValue, Incomplete, Extra, NotThere, Protected, TooMany, NoMemory}
 use Rattle.edit_ops.specs.Change.{changed}
 use Rattle.edit_ops.specs.Block.{IsSpared}
-use Rattle.edit_ops.specs.Answer.{Asks, IsChangeFault, IsChange, IsRefused, IsEditFault}
+use Rattle.edit_ops.specs.Answer.{Asks, IsChangeFault, IsEditFault}
 use Rattle.edit_ops.specs.Made.{IsMade}
 
 module _ (m : Statements) (level : List Step) (op : Op) (target : Target) (asks : Asks level op target) where

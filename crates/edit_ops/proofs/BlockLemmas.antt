@@ -1,22 +1,18 @@
 -- Which protected statement keeps a change: those on the way to its path, and those below what is taken away.
-use Rattle.std.proofs.Common.{◌≡◌, ◌≢◌, ◌⊎◌, inl, inr, ⊎_elim, ℕ, zero, suc, ◌≤◌, ◌<◌, Bool, true, false, List, [], ◌∷◌, length, take, refl, sym, ap, subst, ◌∙◌, Option, Some, None, is_some, arith}
+use Rattle.std.proofs.Common.{◌≡◌, ◌≢◌, ◌⊎◌, inl, ⊎_elim, ℕ, zero, suc, ◌≤◌, true, false, List, [], ◌∷◌, length, take, refl, sym, ap, subst, ◌∙◌, Some, None, arith}
 use Rattle.std.proofs.lemmas.Bool.{cases_lt}
-use Rattle.std.specs.Prelude.{IsSome}
-use Rattle.std.specs.declared.cmp.Ordering.TheVariants.{Less, Equal, Greater}
+use Rattle.std.specs.declared.cmp.Ordering.TheVariants.{Less, Greater}
 use Rattle.std.specs.FinMap as map
 use Rattle.std.specs.Ordering.{ordering_reverse}
 use Rattle.cfg_base.specs.Order.{path_cmp, paths_total}
 use Rattle.cfg_base.specs.declared.path.Step.{Step}
 use Rattle.cfg_base.specs.declared.value.Value.{Value}
 use Rattle.cfg_tree.specs.Statements.{Statements, is_below}
-use Rattle.cfg_tree.specs.Change.{removed}
 use Rattle.cfg_schema.proofs.TestLemmas.{both_true}
 use Rattle.cfg_tree.proofs.MapLemmas.{same_step}
-use Rattle.cfg_tree.proofs.TypedLemmas.{not_both}
 use Rattle.cfg_tree.proofs.PathLemmas.{same_or_not}
 use Rattle.cfg_tree.proofs.BelowLemmas.{below_self}
-use Rattle.cfg_tree.proofs.RemoveLemmas.{Removes}
-use Rattle.edit_ops.specs.Block.{IsProtected, DiffersBelow, Blocks, IsFree, IsBlockedBy}
+use Rattle.edit_ops.specs.Block.{IsProtected, Blocks, IsFree, IsBlockedBy}
 use Rattle.edit_ops.specs.Made.{IsOpen, IsFirstProtected, IsOpenBelow, IsFirstBelow}
 use Rattle.edit_ops.proofs.WayLemmas.{take_below, below_take, below_short, below_trans, comparable, below_not_after, below_before, on_way_or_not}
 use Rattle.edit_ops.proofs.NearLemmas.{IsNear}

@@ -1,5 +1,5 @@
 -- What is taken away.
-use Rattle.std.proofs.Common.{◌≡◌, ◌≢◌, ℕ, ◌-◌, ◌==◌, ◌<◌, Bool, true, false, ◌&&◌, List, [], ◌∷◌, length, refl, sym, ap, subst, ◌∙◌, Option, Some, None, Result, Ok, Err, is_some, if◌then◌else◌}
+use Rattle.std.proofs.Common.{◌≡◌, ◌≢◌, ℕ, ◌-◌, ◌==◌, ◌<◌, Bool, true, false, List, [], ◌∷◌, length, refl, sym, ap, subst, ◌∙◌, Option, Some, None, Ok, Err, if◌then◌else◌}
 use Rattle.std.specs.Prelude.{IsSome}
 use Rattle.std.specs.List.{list_all}
 use Rattle.std.specs.FinMap as map
@@ -15,8 +15,8 @@ use Rattle.cfg_tree.proofs.StepLemmas.{cleared_below, cleared_other, parent_out,
 use Rattle.edit_ops.specs.declared.fault.EditFault.{EditFault}
 use Rattle.edit_ops.specs.declared.fault.EditFault.TheVariants.{Unknown, BadValue, Incomplete, Extra, NotThere, Protected, TooMany, NoMemory}
 use Rattle.edit_ops.specs.Value.{words_without}
-use Rattle.edit_ops.specs.Change.{left_at, deleted_from, deleted_of, marked}
-use Rattle.edit_ops.specs.Made.{IsOpen, IsFirstProtected, IsGuardFault, IsOpenBelow, IsFirstBelow, IsBelowFault, IsMade}
+use Rattle.edit_ops.specs.Change.{left_at, deleted_of, marked}
+use Rattle.edit_ops.specs.Made.{IsOpen, IsGuardFault, IsOpenBelow, IsBelowFault, IsMade}
 use Rattle.edit_ops.proofs.WayLemmas.{take_below}
 use Rattle.edit_ops.proofs.BlockLemmas.{taken_free, taken_blocked, taken_blocked_below}
 

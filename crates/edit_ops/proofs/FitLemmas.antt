@@ -1,6 +1,6 @@
 -- The value of a change fits its statement's row.
-use Rattle.std.proofs.Common.{◌≡◌, ℕ, zero, suc, ◌≤◌, ◌<◌, Bool, true, false, not, List, [], ◌∷◌, length, filter, refl, sym, ap, subst, ◌∙◌, Option, Some, None, is_some, arith}
-use Rattle.std.specs.List.{All, AllByRecursion, IsDistinct}
+use Rattle.std.proofs.Common.{◌≡◌, ℕ, zero, suc, ◌≤◌, ◌<◌, Bool, true, false, not, List, [], ◌∷◌, length, filter, refl, sym, ap, subst, ◌∙◌, Some, None, is_some, arith}
+use Rattle.std.specs.List.{IsDistinct}
 use Rattle.std.specs.FinMap as map
 use Rattle.std.proofs.lemmas.List.Elements.{All-nil, All-filter}
 use Rattle.cfg_base.specs.declared.kind.Kind.{Kind}
@@ -18,7 +18,7 @@ use Rattle.cfg_tree.specs.Typed.{AreCounted, AreCanonical, AreWordsOf}
 use Rattle.cfg_tree.specs.Tree.{lists, IsTree}
 use Rattle.cfg_tree.specs.Change.{Fits}
 use Rattle.cfg_tree.specs.Resolve.{AreGiven}
-use Rattle.edit_ops.specs.Value.{no_value, has_words, is_many, at_row, is_many_at, has_words_at, words_set, joined, value_set, words_without}
+use Rattle.edit_ops.specs.Value.{no_value, has_words, is_many, at_row, words_set, joined, value_set, words_without}
 use Rattle.edit_ops.specs.Made.{IsTarget, IsEnough, IsOther, IsNewStatement, IsPart}
 use Rattle.edit_ops.proofs.WordLemmas.{joined-distinct, joined-all, joined-longer, joined-some, distinct-left, fewer-left}
 

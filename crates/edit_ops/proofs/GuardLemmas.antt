@@ -1,5 +1,5 @@
 -- The search for a protected statement below a path, one statement after the other.
-use Rattle.std.proofs.Common.{◌≡◌, ◌≢◌, ℕ, suc, ◌+◌, ◌≤◌, ◌<◌, Bool, true, false, cond, ◌||◌, List, [], ◌∷◌, length, take, filter, refl, sym, ap, subst, ◌∙◌, Option, Some, None, is_some, arith}
+use Rattle.std.proofs.Common.{◌≡◌, ◌≢◌, ℕ, ◌≤◌, ◌<◌, Bool, true, false, cond, ◌||◌, List, [], ◌∷◌, length, take, filter, refl, sym, ap, subst, ◌∙◌, Some, is_some, arith}
 use Rattle.std.specs.Prelude.{IsSome}
 use Rattle.std.specs.List.{list_any}
 use Rattle.std.specs.FinMap as map

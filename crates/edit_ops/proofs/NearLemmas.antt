@@ -1,14 +1,14 @@
 -- What a put and a removal change of the statements: nothing but on the way to a path, and below it.
-use Rattle.std.proofs.Common.{◌≡◌, ◌≢◌, ℕ, zero, suc, ◌+◌, ◌-◌, ◌≤◌, ◌<◌, Bool, true, false, cond, ◌&&◌, List, [], ◌∷◌, ◌++◌, length, take, refl, sym, ap, subst, ◌∙◌, Option, Some, None, is_some, is_none, arith, if◌then◌else◌}
+use Rattle.std.proofs.Common.{◌≡◌, ◌≢◌, ℕ, zero, suc, ◌+◌, ◌-◌, ◌≤◌, ◌<◌, Bool, true, false, cond, ◌&&◌, List, [], ◌∷◌, length, take, refl, sym, ap, subst, ◌∙◌, Option, Some, None, is_some, is_none, arith, if◌then◌else◌}
 use Rattle.std.specs.Prelude.{IsSome}
 use Rattle.std.specs.FinMap as map
-use Rattle.std.proofs.lemmas.List.{take_all, take_min, length-take-le}
-use Rattle.cfg_base.specs.Order.{path_cmp, paths_total}
+use Rattle.std.proofs.lemmas.List.{take_all, length-take-le}
+use Rattle.cfg_base.specs.Order.{paths_total}
 use Rattle.cfg_base.specs.declared.path.Step.{Step}
 use Rattle.cfg_base.specs.declared.value.Value.{Value}
 use Rattle.cfg_tree.specs.Statements.{Statements, size_of, parent_of, last_of, is_below}
 use Rattle.cfg_tree.specs.Tree.{IsTree}
-use Rattle.cfg_tree.specs.Change.{is_ordered, put_last, with_order, put_at, removed, cleared}
+use Rattle.cfg_tree.specs.Change.{is_ordered, put_last, with_order, put_at}
 use Rattle.cfg_tree.proofs.MapLemmas.{same_statements}
 use Rattle.cfg_tree.proofs.BelowLemmas.{below_self}
 use Rattle.cfg_tree.proofs.PathLemmas.{same_or_not, get_here, get_other, order_other}

@@ -1,5 +1,5 @@
 -- Putting the levels above a statement, and then the statement.
-use Rattle.std.proofs.Common.{◌≡◌, ◌≢◌, ◌⊎◌, ⊎_elim, ℕ, zero, suc, ◌+◌, ◌-◌, ◌≤◌, ◌<◌, Bool, true, false, cond, ◌&&◌, List, [], ◌∷◌, length, take, refl, sym, ap, subst, ◌∙◌, Option, Some, None, Result, Ok, Err, is_some, is_none, arith, if◌then◌else◌}
+use Rattle.std.proofs.Common.{◌≡◌, ◌≢◌, ⊎_elim, ℕ, zero, suc, ◌+◌, ◌-◌, ◌≤◌, ◌<◌, Bool, true, false, ◌&&◌, List, length, take, refl, sym, ap, subst, ◌∙◌, Option, Some, None, Ok, Err, is_some, is_none, arith, if◌then◌else◌}
 use Rattle.std.specs.Prelude.{IsSome}
 use Rattle.std.specs.FinMap as map
 use Rattle.std.proofs.lemmas.List.{length-take-le}
@@ -7,14 +7,12 @@ use Rattle.std.proofs.lemmas.Bool.{cases_lt}
 use Rattle.std.proofs.lemmas.List.Elements.{All-nil}
 use Rattle.cfg_base.specs.declared.path.Step.{Step}
 use Rattle.cfg_base.specs.declared.value.Value.{Value}
-use Rattle.cfg_schema.specs.declared.place.Place.{Place}
-use Rattle.cfg_schema.specs.Place.{place_of}
 use Rattle.cfg_tree.specs.declared.limit.TheConstants.{MAX_STATEMENTS}
 use Rattle.cfg_tree.specs.declared.fault.TreeFault.{TreeFault}
 use Rattle.cfg_tree.specs.declared.fault.TreeFault.TheVariants as tree_fault
-use Rattle.cfg_tree.specs.Statements.{Statements, size_of, parent_of, last_of, is_below, HasParent}
+use Rattle.cfg_tree.specs.Statements.{Statements, size_of, last_of, is_below, HasParent}
 use Rattle.cfg_tree.specs.Typed.{IsTypedPath}
-use Rattle.cfg_tree.specs.Tree.{IsStatementMap, IsTree}
+use Rattle.cfg_tree.specs.Tree.{IsTree}
 use Rattle.cfg_tree.specs.Change.{is_ordered, put_last, put_at, IsReady, Fits, IsPutFault}
 use Rattle.cfg_tree.specs.Resolve.{IsLevelPath}
 use Rattle.std.specs.Bool.{Decides}
@@ -26,9 +24,8 @@ use Rattle.edit_ops.specs.declared.fault.EditFault.{EditFault}
 use Rattle.edit_ops.specs.declared.fault.EditFault.TheVariants.{Unknown, BadValue, Incomplete, Extra, NotThere, Protected, TooMany, NoMemory}
 use Rattle.edit_ops.specs.Value.{no_value}
 use Rattle.edit_ops.specs.Change.{with_level, with_levels}
-use Rattle.edit_ops.specs.Block.{IsFree}
 use Rattle.edit_ops.specs.Made.{guarded, IsOpen, IsFirstProtected, IsGuardFault, IsMade, IsLevelReady, IsRoomFault, IsLevelsFault, IsOther, IsNewStatement, IsItself, LevelsPut, fault_of_put}
-use Rattle.edit_ops.proofs.WayLemmas.{take_below, below_take, below_short, way_whole}
+use Rattle.edit_ops.proofs.WayLemmas.{below_take, below_short, way_whole}
 use Rattle.edit_ops.proofs.NearLemmas.{IsNear, put_near, put_here, put_by_other, put_same, size_new, put_grows, levels-more, levels_near, levels_grow, take_take, front_parent}
 use Rattle.edit_ops.proofs.BlockLemmas.{near_free, near_blocked}
 

@@ -1,12 +1,11 @@
 -- A change has one answer: its words name one statement, the map after it is one, and the causes of refusals exclude each other.
-use Rattle.std.proofs.Common.{◌≡◌, ◌≢◌, ◌≤◌, ◌<◌, ◌⊎◌, ⊎_elim, Bool, true, false, List, refl, sym, ap, subst, ◌∙◌, Option, Some, None, Result, Ok, Err, arith}
+use Rattle.std.proofs.Common.{◌≡◌, ◌≢◌, ⊎_elim, Bool, true, false, List, refl, sym, ap, subst, ◌∙◌, Option, Some, None, Result, Ok, Err, arith}
 use Rattle.std.specs.Bool.{Decides}
 use Rattle.std.specs.Ordering.{ordering_reverse}
 use Rattle.std.specs.declared.cmp.Ordering.{Ordering}
 use Rattle.std.specs.declared.cmp.Ordering.TheVariants.{Less, Equal, Greater}
 use Rattle.cfg_base.specs.Order.{path_cmp, paths_total}
 use Rattle.cfg_base.specs.declared.path.Step.{Step}
-use Rattle.cfg_tree.specs.declared.limit.TheConstants.{MAX_STATEMENTS}
 use Rattle.cfg_tree.specs.declared.target.Target.{Target}
 use Rattle.cfg_tree.specs.declared.target.WordsFault.{WordsFault}
 use Rattle.cfg_tree.specs.declared.target.WordsFault.TheVariants as words
@@ -19,7 +18,7 @@ use Rattle.edit_ops.specs.declared.fault.EditFault.{EditFault}
 use Rattle.edit_ops.specs.declared.fault.EditFault.TheVariants.{Unknown, BadValue, Incomplete, Extra, NotThere, Protected, TooMany, NoMemory}
 use Rattle.edit_ops.specs.Change.{words_of, changed}
 use Rattle.edit_ops.specs.Block.{Blocks, IsFree, IsSpared, IsBlockedBy}
-use Rattle.edit_ops.specs.Answer.{edit_fault, unwhole, IsWhole, Asks, IsMisnamed, IsUnwhole, IsWordsFault, IsKept, IsTooMany, IsChangeFault, Makes, IsChange, IsRefused, IsEditFault}
+use Rattle.edit_ops.specs.Answer.{edit_fault, unwhole, IsWhole, Asks, IsWordsFault, IsChangeFault, IsChange, IsEditFault}
 
 same_some : {A : Type 0} (a b : A) → Some a ≡ Some b → a ≡ b
 same_some a b e = cc

@@ -1,14 +1,14 @@
 -- Paths on the way to a path: its first steps. They stand before it, and are exactly the paths that it is below.
-use Rattle.std.proofs.Common.{◌≡◌, ◌≢◌, ◌⊎◌, inl, inr, ⊎_elim, ℕ, zero, suc, ◌+◌, ◌≤◌, ◌<◌, Bool, true, false, ◌&&◌, List, [], ◌∷◌, ◌++◌, length, take, refl, sym, ap, subst, ◌∙◌, arith}
-use Rattle.std.specs.Ordering.{eq_by_cmp, is_eq, is_le}
+use Rattle.std.proofs.Common.{◌≡◌, ◌≢◌, ◌⊎◌, inl, inr, ⊎_elim, ℕ, zero, suc, ◌≤◌, Bool, true, false, List, [], ◌∷◌, length, take, refl, sym, ap, subst, ◌∙◌, arith}
+use Rattle.std.specs.Ordering.{eq_by_cmp, is_le}
 use Rattle.std.specs.declared.cmp.Ordering.{Ordering}
 use Rattle.std.specs.declared.cmp.Ordering.TheVariants.{Less, Equal, Greater}
-use Rattle.cfg_base.specs.Order.{path_cmp, step_cmp, paths_total}
+use Rattle.cfg_base.specs.Order.{path_cmp, step_cmp}
 use Rattle.cfg_base.specs.declared.path.Step.{Step}
 use Rattle.cfg_schema.proofs.TestLemmas.{both, both_true}
 use Rattle.cfg_tree.specs.Statements.{is_below}
 use Rattle.cfg_tree.proofs.MapLemmas.{path_same, same_step}
-use Rattle.cfg_tree.proofs.BelowLemmas.{below_self, below_le}
+use Rattle.cfg_tree.proofs.BelowLemmas.{below_le}
 use Rattle.std.proofs.lemmas.List.{take_all}
 
 -- the first steps of a path are on the way to it

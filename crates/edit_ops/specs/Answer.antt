@@ -1,5 +1,5 @@
 -- What a change answers: what its words name, and the first cause for which it is refused.
-use Rattle.std.specs.Prelude.{◌≡◌, ◌≢◌, ◌≤◌, ◌<◌, ◌⊎◌, ℕ, Bool, true, Decides, List, [], length, Option, Some, None, Result, Ok, Err}
+use Rattle.std.specs.Prelude.{◌≡◌, ◌≢◌, ◌≤◌, ◌<◌, ◌⊎◌, Bool, true, Decides, List, [], length, Some, None, Ok, Err}
 use Rattle.cfg_base.specs.declared.command.Op.{Op}
 use Rattle.cfg_base.specs.declared.command.Op.TheVariants.{Set, Delete, Activate, Deactivate, Protect, Unprotect}
 use Rattle.cfg_base.specs.declared.path.Step.{Step}

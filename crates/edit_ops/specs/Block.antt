@@ -1,5 +1,5 @@
 -- Which protected statement keeps a change from being made. Junos OS CLI User Guide, on protecting statements.
-use Rattle.std.specs.Prelude.{◌≡◌, ◌≢◌, Bool, true, List, Some}
+use Rattle.std.specs.Prelude.{◌≡◌, ◌≢◌, true, List, Some}
 use Rattle.std.specs.declared.cmp.Ordering.TheVariants.{Greater}
 use Rattle.std.specs.FinMap as map
 use Rattle.cfg_base.specs.Order.{path_cmp}

@@ -17,7 +17,7 @@ use Rattle.cfg_tree.specs.Typed.{IsTypedPath, AreCanonical}
 use Rattle.cfg_tree.specs.Resolve.{AreGiven, IsLevelPath}
 use Rattle.cfg_tree.specs.Change.{Fits}
 use Rattle.edit_ops.specs.declared.fault.EditFault.{EditFault}
-use Rattle.edit_ops.specs.declared.fault.EditFault.TheVariants.{Unknown, BadValue, Incomplete, Extra, NotThere, Protected, TooMany, NoMemory}
+use Rattle.edit_ops.specs.declared.fault.EditFault.TheVariants.{Unknown, BadValue, NotThere, Protected, TooMany, NoMemory}
 use Rattle.edit_ops.specs.Value.{has_words_at}
 use Rattle.edit_ops.specs.Change.{with_levels}
 use Rattle.edit_ops.specs.Block.{IsProtected, IsFree, IsBlockedBy}

@@ -1,5 +1,5 @@
 -- Reading records: what agrees reads the same, one more at the end, and that there is one reading.
-use Rattle.std.proofs.Common.{◌≡◌, ◌≢◌, ◌≤◌, ◌<◌, ◌⊎◌, ⊎_elim, ℕ, zero, suc, ◌+◌, ◌-◌, nat_le, cond, Bool, true, false, List, [], ◌∷◌, ◌++◌, length, get_or, take, drop, refl, sym, ◌∙◌, ap, subst, arith, append_assoc, length-append, length-take, length-drop}
+use Rattle.std.proofs.Common.{◌≡◌, ◌≢◌, ◌≤◌, ℕ, ◌+◌, ◌-◌, nat_le, cond, List, [], ◌∷◌, ◌++◌, length, take, drop, refl, sym, ◌∙◌, ap, subst, arith, append_assoc, length-append}
 use Rattle.std.specs.Int.{w32, to_be_bytes, from_be_bytes}
 use Rattle.std.proofs.lemmas.List.{take_at, drop_at}
 use Rattle.std.proofs.lemmas.Nat.{from_be_bytes-to_be_bytes_4}
@@ -7,8 +7,8 @@ use Rattle.std.proofs.lemmas.Bool.Decides.{nat_tests}
 use Rattle.sha2.specs.Sha256.{sha256}
 use Rattle.sha2.proofs.Facts256.{length-sha256}
 use Rattle.record_code.specs.Record.{Record, IsSound, most_payload, head, body, record_in, IsBody}
-use Rattle.record_code.specs.Reading.{byte, slice, Agree, size_at, record_at, computed_digest, kept_digest, next_gate, IsRecordAt, Reads, Spells, first_gate}
-use Rattle.record_code.proofs.Slices.{length-slice, get_or-slice, slice_is, slice_byte, slice_same, slice-append, slice_front, slice_back}
+use Rattle.record_code.specs.Reading.{byte, slice, Agree, size_at, record_at, computed_digest, kept_digest, next_gate, IsRecordAt, Reads}
+use Rattle.record_code.proofs.Slices.{slice_byte, slice_same, slice_front, slice_back}
 
 pub length-head : (r : Record) → length (head r) ≡ 5 + length r.payload
 length-head r = omega (arith, length-append ((r.kind ∷ []) ++ to_be_bytes w32 (length r.payload)) r.payload, length-append (r.kind ∷ []) (to_be_bytes w32 (length r.payload)))

@@ -1,8 +1,5 @@
-use Rattle.std.proofs.Common.{◌≡◌, true, false, ℕ, List, [], length, ap, refl, sym, ◌∙◌, subst, arith, Result, Ok, Err, Vec}
+use Rattle.std.proofs.Common.{◌≡◌, [], length, ap, sym, ◌∙◌, arith, Result, Ok, Err}
 use Rattle.std.specs.Prelude.{IfOk}
-use Rattle.disk_model.specs.Disk.{State}
-use Rattle.disk_model.specs.Marks.{is_marked, Knows}
-use Rattle.disk_model.specs.Replay.{IsTorn, IsChosenImage}
 use Rattle.disk_model.proofs.MarkLemmas.{none_marked, not_empty}
 use Rattle.disk_model.proofs.replay.chosen_image.Goals as goal
 

@@ -1,4 +1,4 @@
-use Rattle.std.proofs.Common.{◌≡◌, ◌≤◌, ℕ, length}
+use Rattle.std.proofs.Common.{◌≡◌, ◌≤◌, length}
 use Rattle.disk_model.specs.Disk.{State, after, at_first}
 use Rattle.disk_model.specs.Kept.{calls_of, total_of}
 use Rattle.disk_model.specs.Marks.{Knows}

@@ -1,9 +1,9 @@
-use Rattle.std.proofs.Common.{◌≡◌, sym, ap, subst, ◌∙◌, not, Option, Some}
+use Rattle.std.proofs.Common.{sym, ap, subst, ◌∙◌, Option, Some}
 use Rattle.std.specs.FinMap as map
 use Rattle.cfg_base.specs.declared.value.Value.{Value}
 use Rattle.cfg_tree.specs.Statements.{Statements}
 use Rattle.cfg_tree.specs.Change.{put_at}
-use Rattle.edit_ops.specs.Made.{IsMade, IsItself}
+use Rattle.edit_ops.specs.Made.{IsMade}
 use Rattle.edit_ops.proofs.FitLemmas.{other_mark}
 use Rattle.edit_ops.proofs.DeleteLemmas.{mark_is, same_fields}
 use Rattle.edit_ops.proofs.mark.mark_inactive.Goals as goal

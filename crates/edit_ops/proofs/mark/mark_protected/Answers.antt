@@ -1,4 +1,4 @@
-use Rattle.std.proofs.Common.{◌≡◌, sym, ap, subst, ◌∙◌, not, Option, Some}
+use Rattle.std.proofs.Common.{sym, ap, subst, ◌∙◌, not, Option, Some}
 use Rattle.std.specs.FinMap as map
 use Rattle.cfg_base.specs.declared.value.Value.{Value}
 use Rattle.cfg_tree.specs.Statements.{Statements}

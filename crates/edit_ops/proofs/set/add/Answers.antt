@@ -1,4 +1,4 @@
-use Rattle.std.proofs.Common.{◌≡◌, ◌-◌, length, sym, ap, subst, ◌∙◌, Some, Ok}
+use Rattle.std.proofs.Common.{◌-◌, length, sym, ap, subst, ◌∙◌, Some, Ok}
 use Rattle.cfg_tree.specs.Statements.{Statements}
 use Rattle.cfg_tree.specs.Tree.{IsTree}
 use Rattle.cfg_tree.specs.Change.{put_at}

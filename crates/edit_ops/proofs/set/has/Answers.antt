@@ -1,4 +1,3 @@
-use Rattle.std.proofs.Common.{ap}
 use Rattle.std.specs.FinMap as map
 use Rattle.edit_ops.proofs.SetLemmas.{has_value}
 use Rattle.edit_ops.proofs.set.has.Goals as goal

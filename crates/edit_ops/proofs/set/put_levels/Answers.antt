@@ -1,4 +1,4 @@
-use Rattle.std.proofs.Common.{◌≡◌, ◌<◌, ◌+◌, ◌-◌, List, length, take, sym, ap, subst, ◌∙◌}
+use Rattle.std.proofs.Common.{◌<◌, ◌-◌, List, length, sym, ap, subst, ◌∙◌}
 use Rattle.cfg_base.specs.declared.path.Step.{Step}
 use Rattle.edit_ops.specs.Change.{with_level}
 use Rattle.edit_ops.specs.Made.{IsLevelReady, IsRoomFault}

@@ -1,10 +1,10 @@
-use Rattle.std.proofs.Common.{◌≡◌, sym, ap, subst, ◌∙◌, Some}
+use Rattle.std.proofs.Common.{sym, ap, subst, ◌∙◌, Some}
 use Rattle.cfg_base.specs.declared.value.Value.{Value}
 use Rattle.cfg_tree.specs.Statements.{Statements}
 use Rattle.cfg_tree.specs.Change.{put_at}
 use Rattle.edit_ops.specs.Value.{value_set}
 use Rattle.edit_ops.specs.Made.{IsMade, IsOther, IsNewStatement}
-use Rattle.edit_ops.proofs.NearLemmas.{set_there, set_new}
+use Rattle.edit_ops.proofs.NearLemmas.{set_there}
 use Rattle.edit_ops.proofs.FitLemmas.{other_set, new_set}
 use Rattle.edit_ops.proofs.set.set.Goals as goal
 

@@ -1,4 +1,4 @@
-use Rattle.std.proofs.Common.{◌≡◌, Bool, true, cond, List, ℕ, ap, subst, ◌∙◌}
+use Rattle.std.proofs.Common.{true, cond, List, ℕ, ap, ◌∙◌}
 use Rattle.std.specs.BTreeSet as set
 use Rattle.std.specs.Ordering.{eq_by_cmp}
 use Rattle.cfg_base.specs.Order.{word_cmp}

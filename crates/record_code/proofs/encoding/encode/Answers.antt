@@ -1,7 +1,6 @@
-use Rattle.std.proofs.Common.{◌≡◌, [], ◌∷◌, ◌++◌, ℕ, List, length, ap, sym, ◌∙◌, arith}
+use Rattle.std.proofs.Common.{ℕ, List, length, ap, ◌∙◌, arith}
 use Rattle.std.specs.Int.{w32, to_be_bytes}
-use Rattle.sha2.specs.Sha256.{sha256}
-use Rattle.record_code.specs.Record.{Record, body, head}
+use Rattle.record_code.specs.Record.{Record}
 use Rattle.record_code.proofs.ReadingLemmas.{body_is, pieces}
 use Rattle.record_code.proofs.encoding.encode.Goals as goal
 

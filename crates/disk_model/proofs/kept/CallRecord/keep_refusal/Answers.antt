@@ -1,10 +1,9 @@
-use Rattle.std.proofs.Common.{◌≡◌, ◌<◌, ◌≤◌, IsTrue, ℕ, List, nat_lt, ◌+◌, length, ap, sym, subst, arith, ◌++◌, ◌∷◌, [], ◌∙◌, inl, inr, length-append}
-use Rattle.disk_model.specs.Kept.{RecordView, keeps_call, recorded, total_of}
-use Rattle.disk_model.specs.Disk.{Call, Write, Sync, Refused}
-use Rattle.disk_model.specs.Memory.{written_bytes}
+use Rattle.std.proofs.Common.{◌≡◌, ◌<◌, List, length, ap, arith, ◌∷◌, [], ◌∙◌, inl, length-append}
+use Rattle.disk_model.specs.Kept.{RecordView, recorded, total_of}
+use Rattle.disk_model.specs.Disk.{Refused}
 use Rattle.disk_model.specs.declared.kept.Kept.{Kept}
-use Rattle.disk_model.specs.declared.kept.Kept.TheVariants.{Synced, Written, TurnedDown}
-use Rattle.disk_model.proofs.KeptLemmas.{length-recorded, written_bytes-recorded, none_refused, total_of-append, viewed, both_true, write_fits, none_past, recorded_refusal, recorded_more}
+use Rattle.disk_model.specs.declared.kept.Kept.TheVariants.{TurnedDown}
+use Rattle.disk_model.proofs.KeptLemmas.{length-recorded, total_of-append, viewed, none_past, recorded_refusal, recorded_more}
 use Rattle.disk_model.proofs.kept.CallRecord.keep_refusal.Goals as goal
 
 pub invariant_of-self : goal.invariant_of-self

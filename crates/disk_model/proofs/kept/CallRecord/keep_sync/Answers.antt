@@ -1,10 +1,9 @@
-use Rattle.std.proofs.Common.{◌≡◌, ◌<◌, ◌≤◌, IsTrue, ℕ, List, nat_lt, ◌+◌, length, ap, sym, subst, arith, ◌++◌, ◌∷◌, [], ◌∙◌, inl, inr, length-append}
-use Rattle.disk_model.specs.Kept.{RecordView, keeps_call, recorded, total_of}
-use Rattle.disk_model.specs.Disk.{Call, Write, Sync, Refused}
-use Rattle.disk_model.specs.Memory.{written_bytes}
+use Rattle.std.proofs.Common.{List, length, ap, sym, arith, ◌∷◌, [], ◌∙◌, length-append}
+use Rattle.disk_model.specs.Kept.{RecordView, recorded, total_of}
+use Rattle.disk_model.specs.Disk.{Sync}
 use Rattle.disk_model.specs.declared.kept.Kept.{Kept}
-use Rattle.disk_model.specs.declared.kept.Kept.TheVariants.{Synced, Written, TurnedDown}
-use Rattle.disk_model.proofs.KeptLemmas.{length-recorded, written_bytes-recorded, none_refused, total_of-append, viewed, both_true, write_fits, recorded_sync}
+use Rattle.disk_model.specs.declared.kept.Kept.TheVariants.{Synced}
+use Rattle.disk_model.proofs.KeptLemmas.{length-recorded, none_refused, total_of-append, viewed, recorded_sync}
 use Rattle.disk_model.proofs.kept.CallRecord.keep_sync.Goals as goal
 
 pub push_within-requires : goal.push_within-requires

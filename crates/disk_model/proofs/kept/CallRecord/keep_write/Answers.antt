@@ -1,9 +1,9 @@
-use Rattle.std.proofs.Common.{◌≡◌, ◌<◌, ◌≤◌, IsTrue, ℕ, List, nat_lt, ◌+◌, length, ap, sym, subst, arith, ◌++◌, ◌∷◌, [], ◌∙◌, refl, inl, inr, length-append}
-use Rattle.disk_model.specs.Kept.{RecordView, keeps_call, recorded, total_of}
-use Rattle.disk_model.specs.Disk.{Call, Write, Sync, Refused}
+use Rattle.std.proofs.Common.{ℕ, List, length, ap, sym, arith, ◌++◌, ◌∷◌, [], ◌∙◌, refl, length-append}
+use Rattle.disk_model.specs.Kept.{RecordView, recorded, total_of}
+use Rattle.disk_model.specs.Disk.{Write}
 use Rattle.disk_model.specs.Memory.{written_bytes}
 use Rattle.disk_model.specs.declared.kept.Kept.{Kept}
-use Rattle.disk_model.specs.declared.kept.Kept.TheVariants.{Synced, Written, TurnedDown}
+use Rattle.disk_model.specs.declared.kept.Kept.TheVariants.{Written}
 use Rattle.disk_model.proofs.KeptLemmas.{length-recorded, written_bytes-recorded, none_refused, total_of-append, viewed, both_true, write_fits, recorded_write}
 use Rattle.disk_model.proofs.kept.CallRecord.keep_write.Goals as goal
 

@@ -1,4 +1,4 @@
-use Rattle.std.proofs.Common.{length, ap, sym, arith, ◌∙◌}
+use Rattle.std.proofs.Common.{length, ap, arith}
 use Rattle.disk_model.specs.Kept.{RecordView}
 use Rattle.disk_model.proofs.KeptLemmas.{length-recorded, keeps_call_is}
 use Rattle.disk_model.proofs.kept.CallRecord.keeps_call.Goals as goal

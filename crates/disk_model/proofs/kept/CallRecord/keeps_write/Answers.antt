@@ -1,5 +1,5 @@
-use Rattle.std.proofs.Common.{◌≡◌, ◌&&◌, ◌∙◌, true, Bool, nat_le, ◌+◌, length, ap, sym, arith}
-use Rattle.disk_model.specs.Kept.{RecordView, keeps_call, keeps_write}
+use Rattle.std.proofs.Common.{◌≡◌, ◌&&◌, ◌∙◌, true, Bool, nat_le, ◌+◌, ap, sym, arith}
+use Rattle.disk_model.specs.Kept.{RecordView, keeps_call}
 use Rattle.disk_model.specs.Memory.{written_bytes}
 use Rattle.disk_model.proofs.KeptLemmas.{written_bytes-recorded, keeps_write_is}
 use Rattle.disk_model.proofs.kept.CallRecord.keeps_write.Goals as goal

@@ -1,6 +1,5 @@
-use Rattle.std.proofs.Common.{ap, ◌≡◌, refl, List, ℕ, ◌∙◌}
-use Rattle.disk_model.specs.Kept.{RecordView, recorded, calls_of}
-use Rattle.disk_model.specs.Disk.{Call}
+use Rattle.std.proofs.Common.{ap, List}
+use Rattle.disk_model.specs.Kept.{RecordView, recorded}
 use Rattle.disk_model.specs.declared.kept.Kept.{Kept}
 use Rattle.disk_model.proofs.kept.CallRecord.new.Goals as goal
 

@@ -1,7 +1,7 @@
-use Rattle.std.proofs.Common.{◌≡◌, ◌++◌, ◌≤◌, List, ℕ, map, take, min, length, replicate, ap, sym, subst, ◌∙◌, arith}
-use Rattle.disk_model.specs.Disk.{Call, Refused, State, after, at_first}
+use Rattle.std.proofs.Common.{◌≡◌, List, ℕ, take, min, length, ap, subst, ◌∙◌, arith}
+use Rattle.disk_model.specs.Disk.{State, after, at_first}
 use Rattle.disk_model.specs.declared.kept.Kept.{Kept}
-use Rattle.disk_model.specs.Kept.{RecordView, recorded, calls_of, total_of}
+use Rattle.disk_model.specs.Kept.{RecordView, calls_of}
 use Rattle.disk_model.specs.Marks.{Knows}
 use Rattle.disk_model.proofs.KeptLemmas.{total_of-take, after_recorded}
 use Rattle.disk_model.proofs.kept.CallRecord.replay_to.Goals as goal

@@ -1,4 +1,4 @@
-use Rattle.std.proofs.Common.{◌≡◌, ◌++◌, List, ℕ, map, replicate, ap, sym, ◌∙◌}
+use Rattle.std.proofs.Common.{◌++◌, List, ℕ, replicate, ap, ◌∙◌}
 use Rattle.disk_model.specs.Disk.{Call, Refused}
 use Rattle.disk_model.specs.declared.kept.Kept.{Kept}
 use Rattle.disk_model.specs.Kept.{RecordView, recorded, calls_of}

@@ -1,12 +1,9 @@
-use Rattle.std.proofs.Common.{◌≡◌, ◌<◌, ◌≤◌, IsTrue, ℕ, List, nat_lt, ◌+◌, length, take, ap, sym, subst, arith, ◌++◌, ◌∷◌, [], ◌∙◌, refl, Result, Ok, Err}
-use Rattle.std.specs.Prelude.{IfOk}
+use Rattle.std.proofs.Common.{◌≡◌, ℕ, List, length, ap, sym, arith, ◌++◌, ◌∙◌}
 use Rattle.disk_model.specs.Kept.{RecordView}
-use Rattle.disk_model.specs.Disk.{State, Call, contents_of, after, at_first}
+use Rattle.disk_model.specs.Disk.{State, contents_of}
 use Rattle.disk_model.specs.Memory.{MemView}
-use Rattle.disk_model.specs.Replay.{HoldsImage}
 use Rattle.disk_model.proofs.Replayed.{past}
 use Rattle.disk_model.proofs.States.{state_first}
-use Rattle.disk_model.proofs.MarkLemmas.{chosen_is_image, chosen_size, prefix_no_longer, sound_after}
 use Rattle.disk_model.proofs.memory.MemDisk.fresh.Goals as goal
 
 pub invariant_of-result : goal.invariant_of-result

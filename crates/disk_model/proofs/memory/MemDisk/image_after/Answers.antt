@@ -1,12 +1,8 @@
-use Rattle.std.proofs.Common.{◌≡◌, ◌<◌, ◌≤◌, IsTrue, ℕ, List, nat_lt, ◌+◌, length, take, ap, sym, subst, arith, ◌++◌, ◌∷◌, [], ◌∙◌, refl, Result, Ok, Err}
+use Rattle.std.proofs.Common.{◌≤◌, ℕ, List, length, take, ap, sym, subst, arith, Result, Ok, Err}
 use Rattle.std.specs.Prelude.{IfOk}
-use Rattle.disk_model.specs.Kept.{RecordView}
-use Rattle.disk_model.specs.Disk.{State, Call, IsImage, contents_of, after, at_first}
+use Rattle.disk_model.specs.Disk.{IsImage, after, at_first}
 use Rattle.disk_model.specs.Marks.{Knows}
 use Rattle.disk_model.specs.Memory.{MemView}
-use Rattle.disk_model.specs.Replay.{HoldsImage}
-use Rattle.disk_model.proofs.Replayed.{past}
-use Rattle.disk_model.proofs.States.{state_first}
 use Rattle.disk_model.proofs.MarkLemmas.{chosen_is_image, chosen_size, prefix_no_longer, sound_after}
 use Rattle.disk_model.proofs.memory.MemDisk.image_after.Goals as goal
 

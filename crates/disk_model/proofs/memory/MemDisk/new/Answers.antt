@@ -1,8 +1,7 @@
-use Rattle.std.proofs.Common.{◌≡◌, ◌<◌, ◌≤◌, IsTrue, ℕ, List, nat_lt, ◌+◌, length, ap, sym, subst, arith, ◌++◌, ◌∷◌, [], ◌∙◌, refl, inl, inr, ⊎_elim, length-append}
+use Rattle.std.proofs.Common.{length, ap, sym, arith, ◌∙◌}
 use Rattle.disk_model.specs.Kept.{RecordView}
-use Rattle.disk_model.specs.Disk.{Call, Write, Sync, Refused, contents_of, State}
-use Rattle.disk_model.specs.Memory.{MemView, has_call, has_room}
-use Rattle.disk_model.proofs.Replayed.{past, written_contents, unwritten_contents, synced_contents, refused_contents, ends_within, le_of, lt_of, fits}
+use Rattle.disk_model.specs.Disk.{contents_of, State}
+use Rattle.disk_model.proofs.Replayed.{past}
 use Rattle.disk_model.proofs.States.{state_first}
 use Rattle.disk_model.proofs.memory.MemDisk.new.Goals as goal
 

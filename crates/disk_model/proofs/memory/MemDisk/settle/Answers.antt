@@ -1,9 +1,6 @@
-use Rattle.std.proofs.Common.{◌≡◌, ◌<◌, ◌≤◌, IsTrue, ℕ, List, nat_lt, ◌+◌, length, ap, sym, subst, arith, ◌++◌, ◌∷◌, [], ◌∙◌, refl, inl, inr, ⊎_elim, length-append}
+use Rattle.std.proofs.Common.{ap, ◌∙◌}
 use Rattle.disk_model.specs.Kept.{RecordView}
-use Rattle.disk_model.specs.Disk.{Call, Write, Sync, Refused, contents_of}
-use Rattle.disk_model.specs.Memory.{MemView, has_call, has_room}
-use Rattle.disk_model.proofs.Replayed.{past, written_contents, unwritten_contents, synced_contents, refused_contents, ends_within, le_of, lt_of, fits}
-use Rattle.disk_model.proofs.States.{state_first}
+use Rattle.disk_model.proofs.Replayed.{synced_contents}
 use Rattle.disk_model.proofs.memory.MemDisk.settle.Goals as goal
 
 pub invariant_of-self : goal.invariant_of-self
