@@ -6,6 +6,11 @@
 //! session are (`io_edge`). That real files, terminals and clocks behave as their adapters say is trusted.
 #![tactic(auto)]
 
+ghost use Rattle.std.specs.Prelude.{◌≡◌, ◌↔◌, IfOk, codes};
+ghost use Rattle.cfg_base.specs.declared.word.WordFault.TheVariants as word;
+ghost use Rattle.confd.specs.declared.WordsFault.TheVariants.{Usage, NoMemory};
+ghost use Rattle.confd.specs.Run.{IsServe};
+
 use cfg_base::{NoMemory, UserName, Word, WordFault, Words};
 use disk_model::FileDisk;
 use io_edge::{SleepBeat, StdClock, StdSink, StdSource};
@@ -34,12 +39,16 @@ enum WordsFault {
 }
 
 impl From<NoMemory> for WordsFault {
+    ghost from_gives = { λ _ fault. fault ≡ NoMemory };
+
     fn from(_: NoMemory) -> WordsFault {
         WordsFault::NoMemory
     }
 }
 
 impl From<WordFault> for WordsFault {
+    ghost from_gives = { λ why fault. (why ≡ word.LongWord → fault ≡ Usage) × (why ≡ word.NoMemory → fault ≡ NoMemory) };
+
     fn from(fault: WordFault) -> WordsFault {
         match fault {
             WordFault::LongWord => WordsFault::Usage,
@@ -78,7 +87,9 @@ fn disk_of<R: Files<File = File>>(
     Ok(FileDisk::open(rt, path.as_str()))
 }
 
-fn root(alloc: Global) -> Result<UserName, NoMemory> {
+fn root(alloc: Global) -> Result<UserName, NoMemory>
+    ensures { IfOk result (λ user. user ≡ codes "root") }
+{
     let word = Word::of(alloc, b"root").map_err(|_| NoMemory)?;
     UserName::of(word).ok_or(NoMemory)
 }
@@ -89,6 +100,7 @@ where
     R: Threads + Wait + Sync + Send + Files<File = File> + Clock + AllocGlobal + Clone + Drop,
     I: Read + Drop + Send,
     O: Write + Drop + Send,
+    ensures usage { IfOk result (λ status. (status ≡ 1) ↔ (IsServe words.now → ⊥)) }
 {
     let alloc = rt.alloc();
     let mut ends = Vec::new(alloc);
