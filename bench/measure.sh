@@ -6,29 +6,36 @@ program=$PWD/crates/confd/out/confd
 work=$(mktemp -d)
 trap 'rm -rf "$work"' EXIT
 
-# nanoseconds a line of `session N`, the least of three runs
-measure() {
-    session "$1" > "$work/input"
-    local lines least=0 run begun taken
-    lines=$(wc -l < "$work/input")
-    for run in 1 2 3; do
-        begun=$(date +%s%N)
-        "$program" serve "$work" < "$work/input" > "$work/output"
-        taken=$(($(date +%s%N) - begun))
-        if [ "$least" -eq 0 ] || [ "$taken" -lt "$least" ]; then least=$taken; fi
-    done
+# serves an input once, on one processor, since moves between processors double the time of some runs, and notes how many
+# nanoseconds that took
+serve() {
+    local begun
+    begun=$(date +%s%N)
+    taskset -c 0 "$program" serve "$work" < "$work/$1" > "$work/output"
+    echo $(($(date +%s%N) - begun)) >> "$work/$1.times"
     if grep -q error "$work/output"; then
-        echo "a line of the session of $1 was refused" >&2
+        echo "a line was refused" >&2
         exit 1
     fi
-    echo $((least / lines))
 }
 
-# the time a line for few and for many of what NAME counts, and how many times longer a line takes with the more
+# nanoseconds a line, the least of the times noted
+least() {
+    echo $(($(sort -n "$work/$1.times" | head -n 1) / $(wc -l < "$work/$1")))
+}
+
+# the time a line for few and for many of what NAME counts, and how many times longer a line takes with the more; few and many
+# take turns, since a machine's speed changes from one minute to the next
 compare() {
-    local name=$1 few many
-    few=$(measure "$2")
-    many=$(measure "$3")
+    local name=$1 round few many
+    session "$2" > "$work/few"
+    session "$3" > "$work/many"
+    for round in 1 2 3 4 5; do
+        serve few
+        serve many
+    done
+    few=$(least few)
+    many=$(least many)
     echo "$2 $name: $few ns a line"
     echo "$3 $name: $many ns a line"
     awk -v few="$few" -v many="$many" 'BEGIN { printf "ratio: %.2f\n", many / few }'
