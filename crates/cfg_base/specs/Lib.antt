@@ -1,2 +1,3 @@
 pub mod Order
 pub mod Kind
+pub mod Counts

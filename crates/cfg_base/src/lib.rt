@@ -7,6 +7,7 @@
 #![tactic(auto)]
 
 mod bytes;
+mod calls;
 mod command;
 mod fault;
 mod kind;
@@ -19,13 +20,14 @@ mod word;
 mod words;
 
 pub use bytes::Bytes;
+pub use calls::Calls;
 pub use command::{Command, Mode, Op};
 pub use fault::NoMemory;
 pub use kind::{Choice, Kind, Shape};
-pub use limits::Limits;
+pub use limits::{Limits, limits_are_stated};
 pub use moment::{MOMENT_MAX, Moment};
 pub use path::{MAX_STEPS, Path, PathFault, Step};
-pub use user::{UserName, Users};
+pub use user::{UserName, Users, is_name};
 pub use value::Value;
 pub use word::{MAX_BYTES, Word, WordFault};
 pub use words::Words;

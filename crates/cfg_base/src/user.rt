@@ -1,4 +1,4 @@
-ghost use Rattle.std.specs.Prelude.{◌≡◌, ◌↔◌, ◌∷◌, ◌++◌, [], IsSome, IfSome, OnOk, OnErr, IsTrue};
+ghost use Rattle.std.specs.Prelude.{◌≡◌, ◌↔◌, ◌∷◌, ◌++◌, [], codes, IsSome, IfOk, IfSome, OnOk, OnErr, IsTrue};
 ghost use Rattle.std.specs.List.{list_all};
 ghost use Rattle.cfg_base.specs.Kind.{IsName, is_name_byte};
 
@@ -39,13 +39,23 @@ fn all_name_bytes(bytes: &[u8]) -> bool
     bytes.iter().all(|&byte| is_name_byte(byte))
 }
 
-fn is_name(bytes: &[u8]) -> bool
+/// Whether the bytes are the name of a user, a group or a policy.
+pub fn is_name(bytes: &[u8]) -> bool
     ensures { IsTrue result ↔ IsName bytes.now }
 {
     !bytes.is_empty() && bytes.len() <= MAX_NAME && all_name_bytes(bytes)
 }
 
 impl UserName {
+    /// The user `root`.
+    pub fn root(alloc: Global) -> Result<UserName, NoMemory>
+        ensures { IfOk result (λ user. user ≡ codes "root") }
+    {
+        Ok(UserName {
+            name: Word::short(alloc, b"root")?,
+        })
+    }
+
     /// The user of that name, where it is one.
     pub fn of(name: Word) -> Option<UserName>
         ensures some { IsSome result ↔ IsName name }

@@ -1,4 +1,4 @@
-ghost use Rattle.std.specs.Prelude.{◌≡◌, ◌<◌, ◌↔◌, [], length, IfOk, IsErrOf};
+ghost use Rattle.std.specs.Prelude.{◌≡◌, ◌<◌, ◌≤◌, ◌↔◌, [], length, IfOk, IsErrOf};
 ghost use Rattle.std.specs.Ordering.{as_partial_cmp, eq_by_cmp};
 ghost use Rattle.std.specs.Cmp.Rules.{comparing};
 ghost use Rattle.std.specs.Cmp.{partial_order_from_own_ties};
@@ -7,6 +7,7 @@ ghost use Rattle.cfg_base.specs.declared.word.TheConstants.{MAX_BYTES};
 ghost use Rattle.cfg_base.specs.declared.word.WordFault.TheVariants.{NoMemory};
 ghost use Rattle.cfg_base.specs.Order.{word_cmp, words_total, words_equal};
 
+use crate::fault::NoMemory;
 use std::alloc::{AllocError, Global};
 use std::cmp::Ordering;
 use std::marker::Model;
@@ -67,6 +68,16 @@ impl Word {
         if bytes.len() > MAX_BYTES {
             return Err(WordFault::LongWord);
         }
+        Ok(Word {
+            bytes: Vec::from_slice(alloc, bytes)?,
+        })
+    }
+
+    /// The word of bytes that fit in one.
+    pub fn short(alloc: Global, bytes: &[u8]) -> Result<Word, NoMemory>
+        requires { length bytes.now ≤ 255 }
+        ensures { IfOk result (λ word. word ≡ bytes.now) }
+    {
         Ok(Word {
             bytes: Vec::from_slice(alloc, bytes)?,
         })
