@@ -1,3 +1,4 @@
 pub mod Order
 pub mod Kind
 pub mod Counts
+pub mod Blocks

@@ -9,12 +9,10 @@ mod blocks;
 mod entries;
 mod entry;
 mod layers;
-mod limit;
 mod pages;
 mod pieces;
 mod place;
 mod rest;
-mod shared;
 mod splice;
 
 pub use entries::Entries;
