@@ -1,1 +1,3 @@
 pub mod FlatLemmas
+pub mod OrderLemmas
+pub mod WordLemmas

@@ -2,3 +2,4 @@ pub mod Order
 pub mod Kind
 pub mod Counts
 pub mod Blocks
+pub mod Words

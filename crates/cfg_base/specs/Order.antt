@@ -1,6 +1,7 @@
 -- The order of words and of paths: by bytes, and step by step, first by the head and then by the name.
 -- The order is this project's own.
 use Rattle.std.specs.Prelude.{ℕ, List, Bool}
+use Rattle.std.specs.List.{starts_with}
 use Rattle.std.specs.declared.cmp.Ordering.{Ordering}
 use Rattle.std.specs.Ordering.{nat_cmp, eq_by_cmp, on, then_cmp}
 use Rattle.std.specs.Cmp.{IsTotalOrder, IsEquivalence, IsPartialEquivalence, partial_equiv_from_equiv, on_total, then_total, eq_by_cmp_equiv}
@@ -18,6 +19,10 @@ step_cmp = then_cmp (on (λ step. step.head) word_cmp) (on (λ step. step.name) 
 -- paths by their steps, from the first one that differs
 abbrev pub path_cmp : List Step → List Step → Ordering
 path_cmp = slice_cmp step_cmp
+
+-- a path begins with the steps of another one, or is that one
+abbrev pub is_below : List Step → List Step → Bool
+is_below above path = starts_with (eq_by_cmp step_cmp) path above
 
 pub words_total : IsTotalOrder word_cmp
 words_total = nat_list_cmp_total

@@ -6,24 +6,29 @@
 //! (`config_core`).
 #![tactic(auto)]
 
+mod blocks;
 mod bytes;
 mod calls;
 mod command;
 mod fault;
+mod joining;
 mod kind;
 mod limits;
+mod lookup;
 mod moment;
 mod path;
 mod shared;
 mod user;
 mod value;
 mod word;
+mod word_list;
 mod words;
 
 pub use bytes::Bytes;
 pub use calls::Calls;
 pub use command::{Command, Mode, Op};
 pub use fault::NoMemory;
+pub use joining::joined_is_the_union;
 pub use kind::{Choice, Kind, Shape};
 pub use limits::{Limits, limits_are_stated};
 pub use moment::{MOMENT_MAX, Moment};
@@ -32,6 +37,7 @@ pub use shared::{MAX_ITEMS, Shared};
 pub use user::{UserName, Users, is_name};
 pub use value::Value;
 pub use word::{MAX_BYTES, Word, WordFault};
+pub use word_list::{WordList, WordsLeft};
 pub use words::Words;
 
 #[cfg(test)]

@@ -5,7 +5,7 @@ ghost use Rattle.std.specs.Cmp.{partial_order_from_own_ties};
 ghost use Rattle.std.proofs.Common.{rules};
 ghost use Rattle.cfg_base.specs.declared.path.TheConstants.{MAX_STEPS};
 ghost use Rattle.cfg_base.specs.declared.path.PathFault.TheVariants.{NoMemory};
-ghost use Rattle.cfg_base.specs.Order.{path_cmp, paths_total, paths_equal};
+ghost use Rattle.cfg_base.specs.Order.{path_cmp, is_below, paths_total, paths_equal};
 
 use crate::fault::NoMemory;
 use crate::word::Word;
@@ -99,6 +99,13 @@ impl Path {
         let mut first = self.steps.clone()?;
         first.truncate(count);
         Ok(Path { steps: first })
+    }
+
+    /// Whether this path is another one or below it.
+    pub fn is_below(&self, above: &Path) -> bool
+        ensures { result ≡ is_below above.now self.now }
+    {
+        self.steps.starts_with(&above.steps)
     }
 
     /// The steps, from the top.

@@ -1,8 +1,8 @@
 -- The rows of the profile and the levels that they open. The selection of statements, the order in
 -- which they are printed and these rules are this project's own.
-use Rattle.std.specs.Prelude.{ℕ, ◌<◌, ◌==◌, Bool, true, false, not, ◌&&◌, ◌||◌, List, length, map, filter, IsTrue, slice_index_or, nat_eq}
+use Rattle.std.specs.Prelude.{ℕ, ◌<◌, ◌==◌, Bool, true, false, not, ◌&&◌, ◌||◌, List, length, map, filter, IsTrue, slice_index_or}
 use Rattle.std.specs.List.{list_any}
-use Rattle.std.specs.Cmp.Lexicographic.{pointwise}
+pub use Rattle.cfg_base.specs.Words.{same_word}
 use Rattle.cfg_base.specs.declared.kind.Shape.{Shape}
 use Rattle.cfg_base.specs.declared.kind.Shape.TheVariants.{Container, Fixed, Keyed, Bare}
 use Rattle.cfg_base.specs.declared.kind.Kind.TheVariants.{Name}
@@ -86,10 +86,6 @@ reaches Everywhere here level = level.applies
 -- a row stands at a level
 abbrev pub stands : Level → Line → Bool
 stands level line = reaches line.reach (line.under == level.inner) level
-
--- two words have the same bytes
-abbrev pub same_word : List ℕ → List ℕ → Bool
-same_word = pointwise nat_eq
 
 -- a row stands at a level and begins with this word
 abbrev pub begins : Level → List ℕ → Line → Bool

@@ -23,3 +23,5 @@ pub mod TargetLemmas
 pub mod UniqueLemmas
 pub mod OnceLemmas
 pub mod PutAnswerLemmas
+pub mod OtherLemmas
+mod CanonicalLemmas

@@ -1,7 +1,7 @@
 -- Maps from paths: what a look-up in the entries tells, and that maps which answer alike are one.
-use Rattle.std.proofs.Common.{◌≡◌, true, cond, List, [], ◌∷◌, length, refl, sym, ap, subst, ◌∙◌, Some, arith}
+use Rattle.std.proofs.Common.{◌≡◌, cond, List, [], ◌∷◌, length, refl, sym, ap, ◌∙◌, Some, arith}
 use Rattle.std.specs.FinMap as map
-use Rattle.std.specs.FinMap.{IsAntisymmetric, slice_cmp-IsAntisymmetric, nat_cmp-IsAntisymmetric}
+use Rattle.std.specs.FinMap.{IsAntisymmetric, slice_cmp-IsAntisymmetric}
 use Rattle.std.specs.FinMap.Entries.{by_order, put, find}
 use Rattle.std.specs.Map.{lookup, keys_of}
 use Rattle.cfg_entries.specs.EntryMap.{EntryMap, is_at}
@@ -11,16 +11,13 @@ use Rattle.std.specs.declared.cmp.Ordering.{Ordering}
 use Rattle.std.specs.declared.cmp.Ordering.TheVariants.{Less, Equal, Greater}
 use Rattle.std.specs.Ordering.{eq_by_cmp, is_eq, ordering_then}
 use Rattle.std.specs.Bool.{Decides}
-use Rattle.std.specs.Cmp.{IsTotalOrder, tied_itself}
 use Rattle.std.proofs.lemmas.Map.Keys.{sorted_head, sorted_tail}
 use Rattle.cfg_base.specs.Order.{word_cmp, step_cmp, path_cmp, paths_total, steps_total}
 use Rattle.cfg_base.specs.declared.path.Step.{Step}
+pub use Rattle.cfg_base.proofs.OrderLemmas.{word_same, is_equal, ties_decide}
 use Rattle.cfg_base.specs.declared.value.Value.{Value}
 use Rattle.cfg_tree.specs.Statements.{Statements}
 use Rattle.cfg_tree.specs.Shown.{shown}
-
-pub word_same : IsAntisymmetric word_cmp
-word_same = slice_cmp-IsAntisymmetric nat_cmp-IsAntisymmetric
 
 -- both orders tie
 tied : (one two : Ordering) → ordering_then one two ≡ Equal → (one ≡ Equal) × (two ≡ Equal)
@@ -39,15 +36,6 @@ step_same s t e =
 -- paths that tie are equal
 pub path_same : IsAntisymmetric path_cmp
 path_same = slice_cmp-IsAntisymmetric step_same
-
-pub is_equal : (o : Ordering) → is_eq o ≡ true → o ≡ Equal
-is_equal Less e = cc
-is_equal Equal e = refl
-is_equal Greater e = cc
-
-module _ {K : Type 0} {R : K → K → Ordering} (o : IsTotalOrder R) (same : IsAntisymmetric R) where
-  pub ties_decide : (x y : K) → Decides (eq_by_cmp R x y) (x ≡ y)
-  ties_decide x y = (λ e. same x y (is_equal _ e), λ e. subst (λ (z : K). eq_by_cmp R x z ≡ true) e (ap is_eq (tied_itself o x)))
 
 pub same_path : (p q : List Step) → Decides (eq_by_cmp path_cmp p q) (p ≡ q)
 same_path = ties_decide paths_total path_same

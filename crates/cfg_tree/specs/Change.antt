@@ -106,3 +106,11 @@ pub record IsPut (m n : Statements) (path : List Step) (value : Value) : Type 0 
   pub fits : Fits path value
   pub room : map.get m path ≡ None → size_of m < MAX_STATEMENTS
   pub put : n ≡ put_at m path value
+
+-- another value for a statement that is there: its order is the old one, and it is of the profile
+pub record IsOther (m : Statements) (path : List Step) (value : Value) : Type 0 where
+  pub steps : 0 < length path
+  pub old : Value
+  pub found : map.get m path ≡ Some old
+  pub order : value.order ≡ old.order
+  pub fits : Fits path value

@@ -2,9 +2,8 @@
 use Rattle.std.specs.Prelude.{ℕ, ◌<◌, ◌-◌, Bool, List, [], length, take, slice_index_or, IsSome, refl}
 use Rattle.std.specs.FinMap as map
 use Rattle.std.specs.Coded.{Coded, code_by, coded×, coded_ℕ, coded_bool, coded_list}
-use Rattle.std.specs.List.{starts_with}
-use Rattle.std.specs.Ordering.{eq_by_cmp}
-use Rattle.cfg_base.specs.Order.{path_cmp, step_cmp}
+use Rattle.cfg_base.specs.Order.{path_cmp}
+pub use Rattle.cfg_base.specs.Order.{is_below}
 use Rattle.cfg_base.specs.declared.path.Step.{Step}
 use Rattle.cfg_base.specs.declared.value.Value.{Value}
 
@@ -47,10 +46,6 @@ no_step = record { head = []; name = [] }
 -- the last step of a path
 abbrev pub last_of : List Step → Step
 last_of path = slice_index_or path (length path - 1) no_step
-
--- a path begins with the steps of another one, or is that one
-abbrev pub is_below : List Step → List Step → Bool
-is_below above path = starts_with (eq_by_cmp step_cmp) path above
 
 -- a path has steps, and its parent is the top or a path of the map
 pub record HasParent (m : Statements) (path : List Step) : Type 0 where

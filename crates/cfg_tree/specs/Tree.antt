@@ -1,11 +1,12 @@
 -- What holds of the statements of a configuration.
-use Rattle.std.specs.Prelude.{◌≡◌, ℕ, ◌≤◌, Bool, List, [], ◌∷◌, ◌++◌, Option, Some, None, IsSome, is_some}
+use Rattle.std.specs.Prelude.{◌≡◌, ℕ, ◌≤◌, List, [], ◌∷◌, ◌++◌, Option, Some, None, IsSome, is_some}
 use Rattle.std.specs.FinMap as map
-use Rattle.std.specs.List.{IsDistinct, list_any}
+use Rattle.std.specs.List.{IsDistinct}
 use Rattle.std.specs.Option.{option_map}
 use Rattle.cfg_base.specs.declared.path.Step.{Step}
 use Rattle.cfg_base.specs.declared.value.Value.{Value}
 use Rattle.cfg_schema.specs.declared.place.Place.{Place}
+pub use Rattle.cfg_base.specs.Words.{lists}
 use Rattle.cfg_schema.specs.Profile.{head_of, same_word}
 use Rattle.cfg_schema.specs.Place.{place_of, ordered_row}
 use Rattle.cfg_tree.specs.declared.limit.TheConstants.{MAX_STATEMENTS}
@@ -23,10 +24,6 @@ ordered_head (Some here) = ordered_head_at here
 -- the step of that head and name
 abbrev pub step_of : List ℕ → List ℕ → Step
 step_of head name = record { head = head; name = name }
-
--- a list of names has this one
-abbrev pub lists : List (List ℕ) → List ℕ → Bool
-lists names name = list_any (same_word name) names
 
 -- the names are exactly those of the children of the row with that head, each once
 pub record IsOrder (m : Statements) (path : List Step) (head : List ℕ) (names : List (List ℕ)) : Type 0 where

@@ -6,7 +6,7 @@ ghost use Rattle.cfg_tree.specs.Statements.{size_of};
 ghost use Rattle.cfg_tree.specs.declared.limit.TheConstants.{MAX_STATEMENTS};
 ghost use Rattle.cfg_tree.specs.Tree.{IsTree};
 ghost use Rattle.cfg_tree.specs.Shown.{shown, without_all};
-ghost use Rattle.cfg_tree.specs.Change.{put_at, removed, HasRoom, IsReady, IsPut, IsPutFault};
+ghost use Rattle.cfg_tree.specs.Change.{put_at, removed, HasRoom, IsReady, IsPut, IsPutFault, IsOther};
 ghost use Rattle.cfg_tree.specs.Renaming.{reordered_by};
 
 use crate::fault::TreeFault;
@@ -133,6 +133,23 @@ pub fn put_in(
     check(alloc, path, &value)?;
     let new = room(entries, path)?;
     store(alloc, entries, path, value, new)?;
+    Ok(())
+}
+
+/// Gives a path that is there another value. All of it is of the profile: nothing of it is read.
+pub fn replace_in(
+    alloc: Global,
+    entries: &mut Entries,
+    path: &Path,
+    value: Value,
+) -> Result<(), NoMemory>
+    requires tree { IsTree (shown entries.old) }
+    requires other { IsOther (shown entries.old) path.now value }
+    ensures ok { OnOk result (shown entries.new ≡ put_at (shown entries.old) path.now value) }
+    ensures unchanged { OnErr result (shown entries.new ≡ shown entries.old) }
+    ensures kept { IsTree (shown entries.new) }
+{
+    store(alloc, entries, path, value, false)?;
     Ok(())
 }
 

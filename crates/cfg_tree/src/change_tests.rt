@@ -14,7 +14,7 @@ ghost use Rattle.cfg_tree.specs.Resolve.{IsTargetBelow};
 
 use super::*;
 use crate::reorder::path_of;
-use cfg_base::{NoMemory, Path, Shape, Step, Value, Word, Words};
+use cfg_base::{NoMemory, Path, Shape, Step, Value, Word, WordList, Words};
 use cfg_schema::{Place, row};
 use std::alloc::Global;
 use std::process::Abort;
@@ -99,13 +99,13 @@ fn is_counted(path: &Path, words: &Words) -> bool
     }
 }
 
-fn order_there(alloc: Global, tree: &Tree, path: &Path) -> Result<Words, NoMemory>
+fn order_there(alloc: Global, tree: &Tree, path: &Path) -> Result<WordList, NoMemory>
     ensures order { IfOk result (λ order. order ≡ order_in (map.get tree.now path.now)) }
     ensures tree { IsTree tree.now }
 {
     match tree.at(path) {
         Some(value) => Ok(value.order.clone()?),
-        None => Ok(Words::new(alloc)),
+        None => Ok(WordList::new(alloc)),
     }
 }
 
@@ -121,7 +121,7 @@ fn ready_value(alloc: Global, tree: &Tree, target: &Target) -> Result<Option<Val
         return Ok(None);
     }
     let order = order_there(alloc, tree, &target.path)?;
-    let words = target.words.clone()?;
+    let words = WordList::of(alloc, target.words.as_slice())?;
     Ok(Some(Value {
         inactive: false,
         protected: false,
@@ -180,7 +180,7 @@ fn children_text(alloc: Global, tree: &Tree, line: &str) -> Result<Vec<u8>, Fail
 #[derive(Debug, Drop)]
 struct Kept {
     path: Path,
-    words: Words,
+    words: WordList,
 }
 
 fn find(list: &[Kept], steps: &[Step]) -> Option<usize> {
@@ -188,7 +188,8 @@ fn find(list: &[Kept], steps: &[Step]) -> Option<usize> {
 }
 
 /// Puts a statement into the plain list, at its end where it is new, and tells whether its parent is there.
-fn put_plain(list: &mut Vec<Kept>, target: Target) -> Result<bool, NoMemory> {
+fn put_plain(alloc: Global, list: &mut Vec<Kept>, target: Target) -> Result<bool, NoMemory> {
+    let words = WordList::of(alloc, target.words.as_slice())?;
     let steps = target.path.steps();
     let (above, _) = steps.split_at(steps.len().saturating_sub(1));
     if !above.is_empty() && find(list, above).is_none() {
@@ -197,12 +198,12 @@ fn put_plain(list: &mut Vec<Kept>, target: Target) -> Result<bool, NoMemory> {
     match find(list, steps) {
         Some(place) => {
             if place < list.len() {
-                list[place].words = target.words;
+                list[place].words = words;
             }
         }
         None => list.push(Kept {
             path: target.path,
-            words: target.words,
+            words,
         })?,
     }
     Ok(true)
@@ -275,7 +276,7 @@ fn change(alloc: Global, tree: &mut Tree, list: &mut Vec<Kept>, n: u32) -> Resul
         return Ok(gone as usize == remove_plain(list, &target.path));
     }
     let put = put_target(alloc, tree, &target)?;
-    Ok((put == Put::Done) == put_plain(list, target)?)
+    Ok((put == Put::Done) == put_plain(alloc, list, target)?)
 }
 
 #[test]
@@ -430,7 +431,10 @@ fn comes_next(alloc: Global, tree: &Tree, line: &str, next: &str) -> Result<bool
     let wanted = target_of(alloc, next)?;
     match tree.next(&target.path) {
         None => Ok(false),
-        Some((path, value)) => Ok(*path == wanted.path && value.words == wanted.words),
+        Some((path, value)) => {
+            let words = WordList::of(alloc, wanted.words.as_slice())?;
+            Ok(*path == wanted.path && value.words == words)
+        },
     }
 }
 

@@ -11,16 +11,16 @@ ghost use Rattle.cfg_tree.specs.Tree.{step_of};
 ghost use Rattle.cfg_tree.specs.Children.{order_in, row_steps, children_of};
 
 use crate::store::{Entries, keys_below};
-use cfg_base::{NoMemory, Path, Step, Word};
+use cfg_base::{NoMemory, Path, Step, Word, WordList};
 use cfg_schema::{Place, RowId, head, row, rows_below};
 use std::alloc::Global;
 
-fn order_at<'a>(entries: &'a Entries, path: &Path) -> &'a [Word]
-    ensures { result.now ≡ order_in (finite.get (shown entries.now) path.now) }
+fn order_at(alloc: Global, entries: &Entries, path: &Path) -> Result<WordList, NoMemory>
+    ensures { IfOk result (λ order. order ≡ order_in (finite.get (shown entries.now) path.now)) }
 {
     match entries.get(path) {
-        Some(value) => value.order.as_slice(),
-        None => &[],
+        Some(value) => Ok(value.order.clone()?),
+        None => Ok(WordList::new(alloc)),
     }
 }
 
@@ -60,11 +60,12 @@ fn push_named(
     alloc: Global,
     steps: &mut Vec<Step>,
     head: &[u8],
-    names: &[Word],
+    names: &WordList,
 ) -> Result<(), NoMemory>
     ensures { OnOk result (steps.new.items ≡ steps.old.items ++ map (step_of head.now) names.now) }
 {
-    for name in names {
+    let mut left = names.iter();
+    while let Some(name) = left.next() {
         steps.push(named_step(alloc, head, name)?)?;
     }
     Ok(())
@@ -85,7 +86,7 @@ fn push_row(
     alloc: Global,
     steps: &mut Vec<Step>,
     id: RowId,
-    names: &[Word],
+    names: &WordList,
     below: &[Step],
 ) -> Result<(), NoMemory>
     ensures { OnOk result (steps.new.items ≡ steps.old.items ++ row_steps id names.now below.now) }
@@ -100,7 +101,7 @@ fn push_row(
 fn by_rows(
     alloc: Global,
     rows: &[RowId],
-    names: &[Word],
+    names: &WordList,
     below: &[Step],
 ) -> Result<Vec<Step>, NoMemory>
     ensures { IfOk result (λ steps. steps.items ≡ flat_map (λ id. row_steps id names.now below.now) rows.now) }
@@ -123,6 +124,7 @@ pub fn children_in(alloc: Global, entries: &Entries, path: &Path) -> Result<Vec<
     let keys = keys_below(alloc, entries, path)?;
     let below = last_steps(alloc, &keys, path.steps().len() + 1)?;
     let rows = rows_below(alloc, here.row, here.in_group)?;
-    let steps = by_rows(alloc, &rows, order_at(entries, path), &below)?;
+    let order = order_at(alloc, entries, path)?;
+    let steps = by_rows(alloc, &rows, &order, &below)?;
     Ok(steps)
 }

@@ -10,9 +10,10 @@ ghost use Rattle.cfg_tree.specs.Change.{has_head, is_ordered, without, put_last}
 ghost use Rattle.cfg_tree.specs.Renaming.{changed, IsOrderOfParent, IsReorder, IsListing, reordered_by};
 
 use crate::store::{Entries, set_order};
-use cfg_base::{NoMemory, Path, Step, Word, Words};
+use cfg_base::{NoMemory, Path, Step, Word, WordList};
 use cfg_schema::{Place, head};
 use std::alloc::Global;
+use std::slice::from_ref;
 
 /// What becomes of a name in its parent's order.
 #[derive(Clone, Copy, Debug, PartialEq, Eq)]
@@ -27,7 +28,7 @@ pub enum Change {
 #[derive(Debug, Drop)]
 pub struct Reorder {
     pub parent: Path,
-    pub order: Words,
+    pub order: WordList,
 }
 
 fn has_ordered_head(above: &[Step], last: &Step) -> bool
@@ -76,7 +77,7 @@ pub fn path_of(alloc: Global, steps: &[Step]) -> Result<Path, NoMemory>
     Ok(path)
 }
 
-fn with_last(order: &Words, name: &Word) -> Result<Words, NoMemory>
+fn with_last(order: &WordList, name: &Word) -> Result<WordList, NoMemory>
     ensures { IfOk result (λ names. names ≡ put_last name.now order.now) }
 {
     let mut names = order.clone()?;
@@ -84,29 +85,22 @@ fn with_last(order: &Words, name: &Word) -> Result<Words, NoMemory>
     Ok(names)
 }
 
-fn without(alloc: Global, order: &Words, name: &Word) -> Result<Words, NoMemory>
+fn without(order: &WordList, name: &Word) -> Result<WordList, NoMemory>
     ensures { IfOk result (λ names. names ≡ without name.now order.now) }
 {
-    let mut names = Words::new(alloc);
-    for other in order.as_slice() {
-        if name.as_bytes() != other.as_bytes() {
-            names.push(other.clone()?)?;
-        }
-    }
-    Ok(names)
+    order.without(from_ref(name))
 }
 
-fn changed(alloc: Global, change: Change, order: &Words, name: &Word) -> Result<Words, NoMemory>
+fn changed(change: Change, order: &WordList, name: &Word) -> Result<WordList, NoMemory>
     ensures { IfOk result (λ names. names ≡ changed change name.now order.now) }
 {
     match change {
         Change::Last => with_last(order, name),
-        Change::Without => without(alloc, order, name),
+        Change::Without => without(order, name),
     }
 }
 
 fn of_parent(
-    alloc: Global,
     entries: &Entries,
     parent: Path,
     name: &Word,
@@ -115,7 +109,7 @@ fn of_parent(
     ensures { IfOk result (λ reorder. IsOrderOfParent (shown entries.now) parent name.now change reorder) }
 {
     let order = match entries.get(&parent) {
-        Some(value) => changed(alloc, change, &value.order, name)?,
+        Some(value) => changed(change, &value.order, name)?,
         None => return Ok(None),
     };
     Ok(Some(Reorder { parent, order }))
@@ -136,7 +130,7 @@ pub fn reorder_of(
     let steps = path.steps();
     let (above, _) = steps.split_at(steps.len() - 1);
     let parent = path_of(alloc, above)?;
-    of_parent(alloc, entries, parent, &steps[steps.len() - 1].name, change)
+    of_parent(entries, parent, &steps[steps.len() - 1].name, change)
 }
 
 /// The same where the path is new, and no change elsewhere.

@@ -9,7 +9,7 @@ ghost use Rattle.cfg_tree.specs.Statements.{is_below};
 ghost use Rattle.cfg_tree.specs.Change.{with_order};
 ghost use Rattle.cfg_tree.specs.Shown.{shown, with_names};
 
-use cfg_base::{NoMemory, Path, Value, Words};
+use cfg_base::{NoMemory, Path, Value, WordList};
 pub use cfg_entries::Entries;
 use std::alloc::{AllocError, Global};
 
@@ -37,7 +37,7 @@ pub fn take_entry(entries: &mut Entries, path: &Path) -> Result<(), NoMemory>
 }
 
 /// The value at a path, with another order.
-fn reordered(entries: &Entries, path: &Path, order: Words) -> Result<Option<Value>, NoMemory>
+fn reordered(entries: &Entries, path: &Path, order: WordList) -> Result<Option<Value>, NoMemory>
     ensures { IfOk result (λ value. value ≡ option_map (with_names order) (tree.get path_cmp entries.now path.now)) }
 {
     match entries.get(path) {
@@ -52,7 +52,7 @@ fn reordered(entries: &Entries, path: &Path, order: Words) -> Result<Option<Valu
 }
 
 /// Gives the value at a path, where there is one, another order.
-pub fn set_order(entries: &mut Entries, path: &Path, order: Words) -> Result<(), NoMemory>
+pub fn set_order(entries: &mut Entries, path: &Path, order: WordList) -> Result<(), NoMemory>
     ensures ok { OnOk result (shown entries.new ≡ with_order (shown entries.old) path.now (λ _. order)) }
     ensures unchanged { OnErr result (entries.new ≡ entries.old) }
 {

@@ -8,10 +8,10 @@ ghost use Rattle.cfg_tree.specs.Statements.{Statements, size_of};
 ghost use Rattle.cfg_tree.specs.Tree.{IsTree};
 ghost use Rattle.cfg_tree.specs.After.{IsNext, IsLast};
 ghost use Rattle.cfg_tree.specs.Children.{step_if, children_of};
-ghost use Rattle.cfg_tree.specs.Change.{removed, IsReady, IsPut, IsPutFault};
+ghost use Rattle.cfg_tree.specs.Change.{put_at, removed, IsReady, IsPut, IsPutFault, IsOther};
 
 use crate::after::next_in;
-use crate::change::{put_in, remove_in};
+use crate::change::{put_in, remove_in, replace_in};
 use crate::children::children_in;
 use crate::fault::TreeFault;
 use crate::steps::Steps;
@@ -95,6 +95,15 @@ impl Tree {
         ensures unchanged { OnErr result (self.new ≡ self.old) }
     {
         put_in(self.alloc, &mut self.statements, path, value)
+    }
+
+    /// Gives a statement that is there another value, none of whose words is read again.
+    pub fn replace(&mut self, path: &Path, value: Value) -> Result<(), NoMemory>
+        requires { IsOther self.old path.now value }
+        ensures ok { OnOk result (self.new ≡ put_at self.old path.now value) }
+        ensures unchanged { OnErr result (self.new ≡ self.old) }
+    {
+        replace_in(self.alloc, &mut self.statements, path, value)
     }
 
     /// Takes a path and all below it away, and tells how many paths went.

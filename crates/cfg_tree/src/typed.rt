@@ -7,7 +7,7 @@ ghost use Rattle.cfg_tree.specs.Typed.{IsOpenKind, IsName, IsNameBy, IsRight, Ar
 ghost use Rattle.cfg_tree.specs.Change.{Fits, IsAlmostFit, IsFitFault};
 
 use crate::fault::TreeFault;
-use cfg_base::{Kind, NoMemory, Path, Shape, Step, Value, Word};
+use cfg_base::{Kind, NoMemory, Path, Shape, Step, Value, Word, WordList};
 use cfg_schema::{Place, Row, row};
 use cfg_values::{ValueFault, is_pattern, read_value};
 use std::alloc::Global;
@@ -52,10 +52,11 @@ fn is_name_by(
     }
 }
 
-fn are_canonical(alloc: Global, kind: Kind, words: &[Word]) -> Result<bool, NoMemory>
+fn are_canonical(alloc: Global, kind: Kind, words: &WordList) -> Result<bool, NoMemory>
     ensures { IfOk result (λ answer. Decides answer (AreCanonical kind words.now)) }
 {
-    for word in words {
+    let mut left = words.iter();
+    while let Some(word) = left.next() {
         if !is_canonical(alloc, kind, word.as_bytes())? {
             return Ok(false);
         }
@@ -84,7 +85,7 @@ fn is_right(
     row: Row,
     in_group: bool,
     name: &Word,
-    words: &[Word],
+    words: &WordList,
 ) -> Result<bool, NoMemory>
     ensures { IfOk result (λ answer. Decides answer (IsRight row in_group name.now words.now)) }
 {
@@ -108,13 +109,7 @@ pub fn check(alloc: Global, path: &Path, value: &Value) -> Result<(), TreeFault>
         Some(found) => found,
     };
     let row = row(found.next.row);
-    if is_right(
-        alloc,
-        row,
-        found.here.in_group,
-        &last.name,
-        value.words.as_slice(),
-    )? {
+    if is_right(alloc, row, found.here.in_group, &last.name, &value.words)? {
         Ok(())
     } else {
         Err(TreeFault::BadValue(path.clone()?))

@@ -6,7 +6,7 @@ ghost use Rattle.std.specs.FinMap as map;
 ghost use Rattle.config_core.specs.Printed.{shown_paths, marks_of, name_line, name_lines, level_text, system_text, printed};
 
 use crate::shown::Shown;
-use cfg_base::{Bytes, NoMemory, Path, Value, Word};
+use cfg_base::{Bytes, NoMemory, Path, Value, WordList};
 use cfg_tree::Tree;
 use std::alloc::Global;
 
@@ -42,12 +42,12 @@ fn put_marks(text: &mut Vec<u8>, value: &Value) -> Result<(), NoMemory>
     put_protected(text, value)
 }
 
-fn first(words: &[Word]) -> &[u8]
+fn first(words: &WordList) -> &[u8]
     ensures { result.now ≡ slice_index_or words.now 0 [] }
 {
-    match words {
-        [word, ..] => word.as_bytes(),
-        [] => b"",
+    match words.iter().next() {
+        Some(word) => word.as_bytes(),
+        None => b"",
     }
 }
 
@@ -61,7 +61,7 @@ fn put_name(text: &mut Vec<u8>, tree: &Tree, path: &Path, head: &[u8]) -> Result
             put_marks(text, value)?;
             put(text, head)?;
             put(text, b" ")?;
-            put(text, first(value.words.as_slice()))?;
+            put(text, first(&value.words))?;
             put(text, b";\n")
         }
     }

@@ -20,7 +20,7 @@ use Rattle.cfg_tree.specs.Change.{Fits}
 use Rattle.cfg_tree.specs.Resolve.{AreGiven}
 use Rattle.edit_ops.specs.Value.{no_value, has_words, is_many, at_row, words_set, joined, value_set, words_without}
 use Rattle.edit_ops.specs.Made.{IsTarget, IsEnough, IsOther, IsNewStatement, IsPart}
-use Rattle.edit_ops.proofs.WordLemmas.{joined-distinct, joined-all, joined-longer, joined-some, distinct-left, fewer-left}
+use Rattle.cfg_base.proofs.WordLemmas.{joined-distinct, joined-all, joined-longer, joined-some, distinct-left, fewer-left}
 
 -- the words that are set are counted, where there are enough
 counted_set : (shape : Shape) (old given : List (List ℕ)) → AreGiven shape given → (has_words shape ≡ true → 0 < length given)

@@ -1,10 +1,10 @@
 pub mod WayLemmas
 pub mod NearLemmas
 pub mod BlockLemmas
-pub mod WordLemmas
 pub mod GuardLemmas
 pub mod SetLemmas
 pub mod FitLemmas
 pub mod DeleteLemmas
 pub mod AnswerLemmas
 pub mod UniqueLemmas
+pub mod AddLemmas

@@ -3,4 +3,3 @@ pub mod Change
 pub mod Block
 pub mod Answer
 pub mod Made
-pub mod Known

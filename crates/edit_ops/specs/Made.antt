@@ -15,7 +15,7 @@ use Rattle.cfg_tree.specs.declared.target.Target.{Target}
 use Rattle.cfg_tree.specs.Statements.{Statements, size_of, is_below, HasParent}
 use Rattle.cfg_tree.specs.Typed.{IsTypedPath, AreCanonical}
 use Rattle.cfg_tree.specs.Resolve.{AreGiven, IsLevelPath}
-use Rattle.cfg_tree.specs.Change.{Fits}
+pub use Rattle.cfg_tree.specs.Change.{Fits, IsOther}
 use Rattle.edit_ops.specs.declared.fault.EditFault.{EditFault}
 use Rattle.edit_ops.specs.declared.fault.EditFault.TheVariants.{Unknown, BadValue, NotThere, Protected, TooMany, NoMemory}
 use Rattle.edit_ops.specs.Value.{has_words_at}
@@ -93,14 +93,6 @@ abbrev pub IsLevelsFault : Statements → ℕ → List Step → EditFault → Ty
 IsLevelsFault m n path TooMany = MAX_STATEMENTS < size_of (with_levels m n path)
 IsLevelsFault m n path NoMemory = Unit {0}
 IsLevelsFault m n path _ = ⊥
-
--- another value for a statement that is there: its order is the old one, and its words are of its row
-pub record IsOther (m : Statements) (path : List Step) (value : Value) : Type 0 where
-  pub steps : 0 < length path
-  pub old : Value
-  pub found : map.get m path ≡ Some old
-  pub order : value.order ≡ old.order
-  pub fits : Fits path value
 
 -- the statement itself is spared, or none is
 abbrev pub IsItself : Bool → List Step → List Step → Type 0

@@ -1,5 +1,5 @@
 -- What a change leaves at its own statement. Junos OS CLI User Guide, on set and delete.
-use Rattle.std.specs.Prelude.{ℕ, Bool, true, false, not, List, [], ◌∷◌, ◌++◌, filter, if◌then◌else◌, Option, Some, None}
+use Rattle.std.specs.Prelude.{ℕ, Bool, true, false, List, [], Option, Some, None}
 use Rattle.cfg_base.specs.declared.kind.Shape.{Shape}
 use Rattle.cfg_base.specs.declared.kind.Shape.TheVariants.{Container, Fixed, Keyed, Bare, Leaf, Flag, Many}
 use Rattle.cfg_base.specs.declared.path.Step.{Step}
@@ -7,7 +7,7 @@ use Rattle.cfg_base.specs.declared.value.Value.{Value}
 use Rattle.cfg_schema.specs.declared.place.Place.{Place}
 use Rattle.cfg_schema.specs.Profile.{row_of}
 use Rattle.cfg_schema.specs.Place.{place_of}
-use Rattle.cfg_tree.specs.Tree.{lists}
+pub use Rattle.cfg_base.specs.Words.{joined, words_without}
 
 -- a value without marks, names and words
 abbrev pub no_value : Value
@@ -47,19 +47,6 @@ is_many_at path = at_row is_many (place_of path)
 
 abbrev pub has_words_at : List Step → Bool
 has_words_at path = at_row has_words (place_of path)
-
--- the words with one more, where it isn't there yet
-abbrev pub with_word : List (List ℕ) → List ℕ → List (List ℕ)
-with_word words word = if lists words word then words else words ++ word ∷ []
-
--- the words of one list, and then those of another that aren't there yet, each once
-abbrev pub joined : List (List ℕ) → List (List ℕ) → List (List ℕ)
-joined words [] = words
-joined words (word ∷ more) = joined (with_word words word) more
-
--- the words of one list that aren't in another
-abbrev pub words_without : List (List ℕ) → List (List ℕ) → List (List ℕ)
-words_without words gone = filter (λ word. not (lists gone word)) words
 
 -- a statement keeps its marks; a Many gets the words that it hasn't yet, and any other the words that are given
 abbrev pub words_set : Bool → List (List ℕ) → List (List ℕ) → List (List ℕ)

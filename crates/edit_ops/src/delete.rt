@@ -10,8 +10,7 @@ ghost use Rattle.edit_ops.specs.Made.{IsTarget, IsMade, IsPart};
 use crate::fault::EditFault;
 use crate::guard::{guard, guard_below};
 use crate::set::replace;
-use crate::words::{lists_all, words_without};
-use cfg_base::{Path, Value, Words};
+use cfg_base::{Path, Value, WordList};
 use cfg_tree::{Target, Tree};
 use std::alloc::Global;
 
@@ -33,13 +32,13 @@ fn take(tree: &Tree, path: &Path) -> Result<Option<Tree>, EditFault>
     Ok(Some(next))
 }
 
-fn leave(tree: &Tree, path: &Path, value: &Value, left: Words) -> Result<Option<Tree>, EditFault>
+fn leave(tree: &Tree, path: &Path, value: &Value, left: WordList) -> Result<Option<Tree>, EditFault>
     requires steps { 0 < length path.now }
     requires tree { IsTree tree.now }
     requires part { IsPart tree.now path.now value.now left }
     ensures { IsMade tree.now path.now (Some (left_at tree.now path.now value.now left)) (λ _. ⊥) result }
 {
-    if left.as_slice().is_empty() {
+    if left.is_empty() {
         return take(tree, path);
     }
     let mut value = value.clone()?;
@@ -60,10 +59,10 @@ pub fn delete(alloc: Global, tree: &Tree, target: &Target) -> Result<Option<Tree
     if gone.is_empty() {
         return take(tree, &target.path);
     }
-    let all = lists_all(alloc, value.words.as_slice(), gone)?;
+    let all = value.words.has_all(alloc, gone)?;
     if !all {
         return Err(EditFault::NotThere(target.path.clone()?));
     }
-    let left = words_without(alloc, value.words.as_slice(), gone)?;
+    let left = value.words.without(gone)?;
     leave(tree, &target.path, value, left)
 }

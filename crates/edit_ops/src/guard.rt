@@ -1,7 +1,6 @@
 //! Which protected statement keeps a change.
 
 ghost use Rattle.std.specs.Prelude.{◌≡◌, ◌<◌, length, Decides, OnOk, IfErr, MatchOption};
-ghost use Rattle.cfg_tree.specs.Statements.{is_below};
 ghost use Rattle.cfg_tree.specs.Tree.{IsTree};
 ghost use Rattle.edit_ops.specs.Block.{IsProtected};
 ghost use Rattle.edit_ops.specs.Made.{guarded, IsOpen, IsGuardFault, IsOpenBelow, IsFirstBelow, IsBelowFault};
@@ -46,19 +45,13 @@ pub fn guard(tree: &Tree, path: &Path, spared: bool) -> Result<(), EditFault>
     Ok(())
 }
 
-fn is_below(above: &Path, path: &Path) -> bool
-    ensures { result ≡ is_below above.now path.now }
-{
-    path.steps().starts_with(above.steps())
-}
-
 /// The first protected statement below a path.
 fn protected_below<'a>(tree: &'a Tree, path: &'a Path) -> Option<&'a Path>
     ensures { MatchOption result (IsOpenBelow tree.now path.now) (λ found. IsFirstBelow tree.now path.now found.now) }
 {
     let mut before = path;
     while let Some((next, value)) = tree.next(before) {
-        if !is_below(path, next) {
+        if !next.is_below(path) {
             return None;
         }
         if value.protected {

@@ -1,18 +1,18 @@
 //! Putting statements.
 
-ghost use Rattle.std.specs.Prelude.{◌≡◌, ◌-◌, ◌<◌, length, Some, None, false, OnOk, IfOk, IfErr, Decides};
+ghost use Rattle.std.specs.Prelude.{◌≡◌, ◌==◌, ◌&&◌, ◌-◌, ◌<◌, length, Some, None, false, OnOk, IfOk, IfErr, Decides};
 ghost use Rattle.std.specs.FinMap as map;
 ghost use Rattle.cfg_tree.specs.Typed.{IsTypedPath};
 ghost use Rattle.cfg_tree.specs.Tree.{IsTree};
 ghost use Rattle.cfg_tree.specs.Change.{put_at, IsReady, Fits};
-ghost use Rattle.edit_ops.specs.Value.{no_value, value_set};
+ghost use Rattle.edit_ops.specs.Value.{is_many_at, no_value, value_set};
 ghost use Rattle.edit_ops.specs.Change.{with_level, with_levels, set_of};
 ghost use Rattle.edit_ops.specs.Made.{IsTarget, IsMade, IsLevelReady, IsRoomFault, IsLevelsFault, IsOther, IsNewStatement, IsItself, IsEnough, LevelsPut};
 
 use crate::fault::EditFault;
 use crate::guard::guard;
 use crate::words::{is_many, words_set};
-use cfg_base::{NoMemory, Path, Value, Words};
+use cfg_base::{NoMemory, Path, Value, WordList, Words};
 use cfg_tree::{Target, Tree};
 use std::alloc::Global;
 
@@ -22,8 +22,8 @@ fn no_value(alloc: Global) -> Value
     Value {
         inactive: false,
         protected: false,
-        order: Words::new(alloc),
-        words: Words::new(alloc),
+        order: WordList::new(alloc),
+        words: WordList::new(alloc),
     }
 }
 
@@ -93,10 +93,8 @@ pub fn replace(
         return Err(fault);
     }
     let mut next = tree.copy()?;
-    match put(&mut next, path, value) {
-        Ok(()) => Ok(Some(next)),
-        Err(fault) => Err(fault),
-    }
+    next.replace(path, value)?;
+    Ok(Some(next))
 }
 
 /// The statements with a new one, and the levels above it.
@@ -129,6 +127,13 @@ fn value_set(alloc: Global, path: &Path, old: &Value, given: &Words) -> Result<V
     })
 }
 
+/// Whether the statement is a Many whose list is as long as before, so that it gets no word.
+fn adds_none(path: &Path, old: &Value, value: &Value) -> bool
+    ensures { result ≡ (is_many_at path.now && (length value.now.words == length old.now.words)) }
+{
+    is_many(path) && value.words.len() == old.words.len()
+}
+
 /// The statements with the target and the levels above it.
 pub fn set(alloc: Global, tree: &Tree, target: &Target) -> Result<Option<Tree>, EditFault>
     requires target { IsTarget target.now }
@@ -138,6 +143,9 @@ pub fn set(alloc: Global, tree: &Tree, target: &Target) -> Result<Option<Tree>, 
     match tree.at(&target.path) {
         Some(old) => {
             let value = value_set(alloc, &target.path, old, &target.words)?;
+            if adds_none(&target.path, old, &value) {
+                return Ok(None);
+            }
             replace(tree, &target.path, value, false)
         }
         None => {

@@ -119,7 +119,8 @@ fn value_text(alloc: Global, value: &Value) -> Result<Vec<u8>, Fail> {
     if value.protected {
         text.extend_from_slice(b" protected")?;
     }
-    for word in value.words.as_slice() {
+    let mut left = value.words.iter();
+    while let Some(word) = left.next() {
         add_word(&mut text, word)?;
     }
     Ok(text)

@@ -13,9 +13,7 @@ use Rattle.edit_ops.proofs.delete.delete.Goals as goal
 pub leave-requires-clause-part : goal.leave-requires-clause-part
 leave-requires-clause-part c =
     subst (λ (ws : List (List ℕ)). IsPart c.args.tree.now c.args.target.now.path c.in-Some.value.now ws)
-    (sym (c.in_ok-left.ensures
-    ∙ ap (λ (ws : List (List ℕ)). words_without ws c.as_slice-gone.result.now) c.as_slice-2.ensures
-    ∙ ap (words_without c.in-Some.value.now.words) c.as_slice-gone.ensures))
+    (sym (c.in_ok-left.ensures ∙ ap (words_without c.in-Some.value.now.words) c.as_slice-gone.ensures))
     (part c.args.tree.now c.args.target.now.path c.in-Some.value.now c.args.target.now.words c.in-Some.ensures.tree (sym c.in-Some.ensures.value))
 
 pub returns : goal.returns
@@ -25,10 +23,7 @@ returns c =
     c.in-Some.ensures.value
     (subst (λ (ws : List (List ℕ)). false ≡ (length ws == 0)) c.as_slice-gone.ensures c.if-is_empty.ensures)
     (sym (sym c.if-not-all.false ∙ c.in_ok-all.ensures
-    ∙ ap (λ (ws : List (List ℕ)). list_all (lists ws) c.as_slice-gone.result.now) c.as_slice.ensures
     ∙ ap (list_all (lists c.in-Some.value.now.words)) c.as_slice-gone.ensures))
     ∙ ap (λ (ws : List (List ℕ)). Some (left_at c.args.tree.now c.args.target.now.path c.in-Some.value.now ws))
-    (sym (c.in_ok-left.ensures
-    ∙ ap (λ (ws : List (List ℕ)). words_without ws c.as_slice-gone.result.now) c.as_slice-2.ensures
-    ∙ ap (words_without c.in-Some.value.now.words) c.as_slice-gone.ensures))))
+    (sym (c.in_ok-left.ensures ∙ ap (words_without c.in-Some.value.now.words) c.as_slice-gone.ensures))))
     c.leave.ensures

@@ -1,8 +1,8 @@
 use Rattle.std.proofs.Common.{refl, sym, ap, subst, ◌∙◌, Some, Ok}
 use Rattle.cfg_tree.specs.Statements.{Statements}
-use Rattle.cfg_tree.specs.Change.{IsReady, put_at}
-use Rattle.edit_ops.specs.Made.{IsMade, IsItself}
-use Rattle.edit_ops.proofs.SetLemmas.{unchanged, is_ready, replaced, replace_refused, not_so}
+use Rattle.cfg_tree.specs.Change.{put_at}
+use Rattle.edit_ops.specs.Made.{IsMade, IsItself, IsOther}
+use Rattle.edit_ops.proofs.SetLemmas.{unchanged, replaced, replace_refused, not_so}
 use Rattle.edit_ops.proofs.set.replace.Goals as goal
 
 pub returns-then-has : goal.returns-then-has
@@ -14,13 +14,11 @@ returns-in-Err c =
     replace_refused c.args.tree.now c.args.path.now c.args.value c.args.spared c.requires.tree c.requires.other (not_so c.if-has.ensures.1)
     c.in-Err.fault c.in-Err.ensures.err
 
-pub put-requires-clause-ready : goal.put-requires-clause-ready
-put-requires-clause-ready c =
-    subst (λ (x : Statements). IsReady x c.args.path.now c.args.value) (sym c.in_ok-next.ensures)
-    (is_ready c.args.tree.now c.args.path.now c.args.value c.args.spared c.requires.tree c.requires.other)
+pub replace-requires : goal.replace-requires
+replace-requires c = subst (λ (x : Statements). IsOther x c.args.path.now c.args.value) (sym c.in_ok-next.ensures) c.requires.other
 
-pub returns-in-Ok : goal.returns-in-Ok
-returns-in-Ok c =
+pub returns : goal.returns
+returns c =
     subst (λ (x : Statements). IsMade c.args.tree.now c.args.path.now (Some (put_at c.args.tree.now c.args.path.now c.args.value)) (IsItself c.args.spared c.args.path.now) (Ok (Some x)))
-    (sym (c.in-Ok.ensures.ok ∙ ap (λ (x : Statements). put_at x c.args.path.now c.args.value) c.in_ok-next.ensures))
+    (sym (c.in_ok-replace.ensures.ok ∙ ap (λ (x : Statements). put_at x c.args.path.now c.args.value) c.in_ok-next.ensures))
     (replaced c.args.tree.now c.args.path.now c.args.value c.args.spared c.requires.tree c.requires.other (not_so c.if-has.ensures.1) c.in_default.ensures.ok)

@@ -5,6 +5,7 @@ use Rattle.cfg_tree.specs.Change.{put_at}
 use Rattle.edit_ops.specs.Value.{value_set}
 use Rattle.edit_ops.specs.Made.{IsMade, IsOther, IsNewStatement}
 use Rattle.edit_ops.proofs.NearLemmas.{set_there}
+use Rattle.edit_ops.proofs.AddLemmas.{adds_none}
 use Rattle.edit_ops.proofs.FitLemmas.{other_set, new_set}
 use Rattle.edit_ops.proofs.set.set.Goals as goal
 
@@ -19,8 +20,13 @@ add-requires-clause-new c =
     (sym (c.in_ok-value-in-None.ensures ∙ ap (λ (v : Value). value_set c.args.target.now.path v c.args.target.now.words) c.no_value.ensures))
     (new_set c.args.tree.now c.args.target.now (sym c.in-None.ensures.value) c.requires.target c.requires.enough)
 
-pub returns-in_ok-value-in-Some : goal.returns-in_ok-value-in-Some
-returns-in_ok-value-in-Some c =
+pub returns-then-adds_none : goal.returns-then-adds_none
+returns-then-adds_none c =
+    adds_none c.args.tree.now c.args.target.now.path c.in-Some.old.now c.in_ok-value-in-Some.value c.args.target.now.words c.requires.target.steps
+    c.in-Some.ensures.tree (sym c.in-Some.ensures.value) c.in_ok-value-in-Some.ensures (sym c.if-adds_none.ensures)
+
+pub returns-else-adds_none : goal.returns-else-adds_none
+returns-else-adds_none c =
     subst (λ (x : Statements). IsMade c.args.tree.now c.args.target.now.path (Some x) (λ _. ⊥) c.replace.result)
     (sym (set_there c.args.tree.now c.args.target.now.path c.in-Some.old.now c.args.target.now.words c.requires.target.steps c.in-Some.ensures.tree (sym c.in-Some.ensures.value)
     ∙ ap (put_at c.args.tree.now c.args.target.now.path) (sym c.in_ok-value-in-Some.ensures)))
