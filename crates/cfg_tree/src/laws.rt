@@ -5,12 +5,18 @@ ghost use Rattle.cfg_base.specs.declared.path.Step.{Step};
 ghost use Rattle.cfg_tree.specs.declared.target.Target.{Target};
 ghost use Rattle.cfg_tree.specs.declared.target.WordsFault.{WordsFault};
 ghost use Rattle.cfg_tree.specs.declared.target.WordsFault.TheVariants.{NoMemory};
+ghost use Rattle.cfg_tree.specs.declared.limit.TheConstants.{MAX_STATEMENTS};
 ghost use Rattle.cfg_tree.specs.Resolve.{ResolvesTo, IsLevelPath};
 ghost use Rattle.cfg_base.specs.declared.value.Value.{Value};
 ghost use Rattle.cfg_tree.specs.declared.fault.TreeFault.{TreeFault};
 ghost use Rattle.cfg_tree.specs.declared.fault.TreeFault.TheVariants as put;
 ghost use Rattle.cfg_tree.specs.Statements.{Statements};
 ghost use Rattle.cfg_tree.specs.Change.{IsPut, IsPutFault};
+
+/// The limit that the clauses of this crate cite, by its number.
+pub fn limits_are_stated()
+    ensures { MAX_STATEMENTS ≡ 16384 }
+{}
 
 /// Words have one answer at a level, but for want of memory: one target or one refusal.
 pub fn words_have_one_answer()

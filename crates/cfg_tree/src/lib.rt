@@ -23,7 +23,7 @@ mod tree;
 mod typed;
 
 pub use fault::TreeFault;
-pub use laws::{puts_have_one_answer, words_have_one_answer};
+pub use laws::{limits_are_stated, puts_have_one_answer, words_have_one_answer};
 pub use limit::MAX_STATEMENTS;
 pub use reading::resolve;
 pub use steps::Steps;
