@@ -1,5 +1,5 @@
 -- The tests of the table, run once, and what they tell of each row.
-use Rattle.std.proofs.Common.{None, ◌≡◌, ℕ, zero, suc, ◌<◌, ◌+◌, nat_eq, Bool, true, false, List, [], ◌∷◌, ◌++◌, length, take, map, filter, refl, arith, ap, ◌∙◌, sym, subst, eqb-true, cond, append-nil}
+use Rattle.std.proofs.Common.{None, not, ◌==◌, ◌≡◌, ℕ, zero, suc, ◌<◌, ◌+◌, nat_eq, Bool, true, false, List, [], ◌∷◌, ◌++◌, length, take, map, filter, refl, arith, ap, ◌∙◌, sym, subst, eqb-true, cond, append-nil}
 use Rattle.std.specs.List.{list_all}
 use Rattle.std.proofs.lemmas.List.{take_more, map-append}
 use Rattle.std.proofs.lemmas.List.Elements.{filter-append}
@@ -30,6 +30,12 @@ profile_apart = refl
 pub profile_ordered : map (λ (line : Line). line.number) (filter (λ (line : Line). line.ordered) profile) ≡ 10 ∷ 77 ∷ []
 unfolding profile
 profile_ordered = refl
+
+-- the rows that have another row's below them
+pub profile_shared : map {B = ℕ × ℕ} (λ (line : Line). (line.number, line.inner)) (filter (λ (line : Line). not (line.number == line.inner)) profile)
+    ≡ (3, 0) ∷ (91, 78) ∷ (92, 85) ∷ []
+unfolding profile
+profile_shared = refl
 
 -- no row at the top is ordered
 pub top_unordered : ordered_row top_place ≡ None

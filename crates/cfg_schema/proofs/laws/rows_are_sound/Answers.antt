@@ -1,4 +1,4 @@
-use Rattle.cfg_schema.proofs.RowFacts.{profile_length, profile_ordered, number_below}
+use Rattle.cfg_schema.proofs.RowFacts.{profile_length, profile_ordered, profile_shared, number_below}
 use Rattle.cfg_schema.proofs.LevelLemmas.{leads, shallow}
 use Rattle.cfg_schema.proofs.laws.rows_are_sound.Goals as goal
 
@@ -8,5 +8,6 @@ returns c = record {
   numbered = number_below;
   follows = leads;
   ordered = profile_ordered;
+  shared = profile_shared;
   shallow = shallow;
 }
