@@ -11,36 +11,35 @@ use crate::entry::Entry;
 use crate::layers::Page;
 use crate::pages::{put, rest_from, take, value_at};
 use crate::rest::{Rest, same_rest};
-use cfg_base::{NoMemory, Path, Value};
+use cfg_base::{NoMemory, Path};
 use std::alloc::{AllocError, Global};
 use std::marker::Model;
 
 /// Values by their paths. A copy shares the pages, and a change makes one page and one of its
 /// blocks anew.
 #[derive(Debug, Drop)]
-pub struct Entries {
+pub struct Entries<V> {
     alloc: Global,
-    pages: Vec<Page>,
+    pages: Vec<Page<V>>,
     len: usize,
 }
 
-impl Model for Entries {
+impl<V> Model for Entries<V> {
     ghost use Rattle.std.specs.Prelude.{List};
     ghost use Rattle.cfg_base.specs.declared.path.Step.{Step};
-    ghost use Rattle.cfg_base.specs.declared.value.Value as value;
     ghost use Rattle.cfg_entries.specs.EntryMap.{EntryMap};
     ghost use Rattle.cfg_entries.specs.Rows.{flat, rows_of, IsMap};
 
-    ghost Value = { EntryMap (List Step) value.Value };
+    ghost Value = { EntryMap (List Step) V };
 
     ghost view = { λ m. record { entries = flat (rows_of m.pages.items) } };
 
     ghost invariant = { λ m. IsMap m.pages.items m.len };
 }
 
-impl Entries {
+impl<V: Drop> Entries<V> {
     /// No entries.
-    pub fn new(alloc: Global) -> Entries
+    pub fn new(alloc: Global) -> Entries<V>
         ensures empty { result.entries ≡ [] }
     {
         Entries {
@@ -59,7 +58,7 @@ impl Entries {
     }
 
     /// The value at a path.
-    pub fn get(&self, path: &Path) -> Option<&Value>
+    pub fn get(&self, path: &Path) -> Option<&V>
         ensures value { option_copied result ≡ get path_cmp self.now path.now }
     {
         value_at(&self.pages, path)
@@ -73,7 +72,7 @@ impl Entries {
     }
 
     /// The entries at a path and behind it, in order.
-    pub fn from(&self, path: &Path) -> Rest<'_>
+    pub fn from(&self, path: &Path) -> Rest<'_, V>
         ensures rest { result ≡ from_key path_cmp path.now self.now.entries }
         ensures ordered { IsOrdered path_cmp self.now }
     {
@@ -81,21 +80,15 @@ impl Entries {
     }
 
     /// All entries, in order.
-    pub fn iter(&self) -> Rest<'_>
-        ensures { result ≡ self.now.entries }
+    pub fn iter(&self) -> Rest<'_, V>
+        ensures all { result ≡ self.now.entries }
+        ensures ordered { IsOrdered path_cmp self.now }
     {
         Rest::of(&[], &[], &self.pages)
     }
 
-    /// Whether two maps have the same entries.
-    pub fn same(&self, other: &Entries) -> bool
-        ensures { result ≡ pointwise same_pair self.now.entries other.now.entries }
-    {
-        same_rest(self.iter(), other.iter())
-    }
-
     /// Puts a value at a path.
-    pub fn insert(&mut self, path: Path, value: Value) -> Result<(), NoMemory>
+    pub fn insert(&mut self, path: Path, value: V) -> Result<(), NoMemory>
         ensures ok { OnOk result (self.new.entries ≡ put path_cmp path value self.old.entries) }
         ensures unchanged { OnErr result (self.new ≡ self.old) }
         ensures ordered { IsOrdered path_cmp self.old }
@@ -124,10 +117,19 @@ impl Entries {
     }
 }
 
-impl Clone for Entries {
+impl<V: PartialEq + Drop> Entries<V> {
+    /// Whether two maps have the same entries.
+    pub fn same(&self, other: &Entries<V>) -> bool
+        ensures { result ≡ pointwise (same_pair V.eq) self.now.entries other.now.entries }
+    {
+        same_rest(self.iter(), other.iter())
+    }
+}
+
+impl<V: Drop> Clone for Entries<V> {
     ghost is_clone = { λ source copy. copy ≡ source };
 
-    fn clone(&self) -> Result<Entries, AllocError> {
+    fn clone(&self) -> Result<Entries<V>, AllocError> {
         Ok(Entries {
             alloc: self.alloc,
             pages: self.pages.clone()?,

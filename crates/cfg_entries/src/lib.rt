@@ -18,6 +18,3 @@ mod splice;
 pub use entries::Entries;
 pub use entry::Entry;
 pub use rest::Rest;
-
-#[cfg(test)]
-mod tests;

@@ -35,7 +35,7 @@ same_value v w =
     (Decides-and _ _ (same_bool v.protected w.protected)
     (Decides-and _ _ (same_words v.order w.order) (same_words v.words w.words))))
 
-same_entry : (p q : List Step × Value) → Decides (same_pair p q) (p ≡ q)
+same_entry : (p q : List Step × Value) → Decides (same_pair (value.ghosts).eq p q) (p ≡ q)
 same_entry p q =
     Decides-like _
     (λ h i. (h.0 i, h.1 i))
@@ -48,7 +48,7 @@ entries_same a b s t e = sym (entries_is a.entries s) ∙ ap (λ (m : Statements
 
 pub same_trees : (a b : EntryMap (List Step) Value) (m n : Statements) (r : Bool) → shown a ≡ m → shown b ≡ n
     → IsOrdered path_cmp a → IsOrdered path_cmp b
-    → r ≡ pointwise same_pair a.entries b.entries
+    → r ≡ pointwise (same_pair (value.ghosts).eq) a.entries b.entries
     → (r ≡ true → m ≡ n) × (m ≡ n → r ≡ true)
 same_trees a b m n r va vb s t e =
     let decides = subst (λ (x : Bool). Decides x (a.entries ≡ b.entries)) (sym e) (pointwise_decides same_entry a.entries b.entries)

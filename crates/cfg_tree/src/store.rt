@@ -10,8 +10,10 @@ ghost use Rattle.cfg_tree.specs.Change.{with_order};
 ghost use Rattle.cfg_tree.specs.Shown.{shown, with_names};
 
 use cfg_base::{NoMemory, Path, Value, WordList};
-pub use cfg_entries::Entries;
 use std::alloc::{AllocError, Global};
+
+/// The statements, by their paths.
+pub type Entries = cfg_entries::Entries<Value>;
 
 /// Whether a path is another one or below it.
 pub fn is_below(above: &Path, path: &Path) -> bool

@@ -3,6 +3,7 @@ use Rattle.std.specs.Ordering.{eq_by_cmp}
 use Rattle.cfg_base.specs.Order.{path_cmp}
 use Rattle.cfg_base.specs.declared.path.Step.{Step}
 use Rattle.cfg_entries.specs.EntryMap.{Pair}
+use Rattle.cfg_base.specs.declared.value.Value.{Value}
 use Rattle.cfg_tree.specs.Shown.{shown}
 use Rattle.cfg_tree.specs.After.{IsNext, IsLast}
 use Rattle.cfg_tree.proofs.AfterLemmas.{other_than, same_as, next_none, next_found, next_behind, next_last}
@@ -25,7 +26,7 @@ returns c = by_result c.next-2.result c.next-2.ensures
     same : eq_by_cmp path_cmp c.args.path.now c.in_ok-first.first.now.0 ≡ true
     same = same_as _ (c.if-ne.ensures ∙ ap (λ (q : List Step). not (eq_by_cmp path_cmp c.args.path.now q)) c.path.ensures)
 
-    by_result : (r : Option (Bor Pair)) → MatchOption r (c.next.new.self ≡ []) (λ entry. c.next.new.self ≡ entry.now ∷ c.next-2.new.self)
+    by_result : (r : Option (Bor (Pair Value))) → MatchOption r (c.next.new.self ≡ []) (λ entry. c.next.new.self ≡ entry.now ∷ c.next-2.new.self)
         → MatchOption r (IsLast (shown c.args.entries.now) c.args.path.now) (λ entry. IsNext (shown c.args.entries.now) c.args.path.now entry.now.0 entry.now.1)
     by_result None e =
         next_last c.args.entries.now c.args.path.now c.from-rest.result c.from-rest.ensures.rest c.in_ok-first.first.now.0 c.in_ok-first.first.now.1
