@@ -5,3 +5,5 @@ pub mod BlockLemmas
 pub mod SpliceLemmas
 pub mod ChangeLemmas
 pub mod PageLemmas
+mod MakerLemmas
+pub mod SharingLemmas

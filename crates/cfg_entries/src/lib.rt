@@ -9,12 +9,17 @@ mod blocks;
 mod entries;
 mod entry;
 mod layers;
+mod maker;
+mod older;
 mod pages;
 mod pieces;
 mod place;
 mod rest;
+mod sharing;
 mod splice;
 
 pub use entries::Entries;
 pub use entry::Entry;
+pub use maker::Maker;
 pub use rest::Rest;
+pub use sharing::Same;

@@ -16,26 +16,9 @@ use Rattle.cfg_base.specs.Order.{word_cmp, step_cmp, path_cmp, paths_total, step
 use Rattle.cfg_base.specs.declared.path.Step.{Step}
 pub use Rattle.cfg_base.proofs.OrderLemmas.{word_same, is_equal, ties_decide}
 use Rattle.cfg_base.specs.declared.value.Value.{Value}
+pub use Rattle.cfg_entries.proofs.OrderLemmas.{step_same, path_same}
 use Rattle.cfg_tree.specs.Statements.{Statements}
 use Rattle.cfg_tree.specs.Shown.{shown}
-
--- both orders tie
-tied : (one two : Ordering) → ordering_then one two ≡ Equal → (one ≡ Equal) × (two ≡ Equal)
-tied Less two e = cc
-tied Equal two e = (refl, e)
-tied Greater two e = cc
-
-step_of_words : (s t : Step) → s.head ≡ t.head → s.name ≡ t.name → s ≡ t
-step_of_words s t h n = λ i. record { head = h i; name = n i }
-
-pub step_same : IsAntisymmetric step_cmp
-step_same s t e =
-    let parts = tied (word_cmp s.head t.head) (word_cmp s.name t.name) e
-    in step_of_words s t (word_same _ _ parts.0) (word_same _ _ parts.1)
-
--- paths that tie are equal
-pub path_same : IsAntisymmetric path_cmp
-path_same = slice_cmp-IsAntisymmetric step_same
 
 pub same_path : (p q : List Step) → Decides (eq_by_cmp path_cmp p q) (p ≡ q)
 same_path = ties_decide paths_total path_same

@@ -10,30 +10,10 @@ use Rattle.cfg_base.specs.declared.path.Step.{Step}
 use Rattle.cfg_base.specs.declared.value.Value.{Value}
 use Rattle.cfg_base.specs.contracts.value.ValuePartialEq.TheImpl as value
 use mathlib.Core.Bool.{beq}
+use Rattle.cfg_entries.proofs.SharingLemmas.{same_value}
 use Rattle.cfg_tree.specs.Statements.{Statements}
 use Rattle.cfg_tree.specs.Shown.{shown}
 use Rattle.cfg_tree.proofs.MapLemmas.{word_same, ties_decide, same_path, entries_is}
-
-same_words : (xs ys : List (List ℕ)) → Decides (words_eq xs ys) (xs ≡ ys)
-same_words = pointwise_decides (ties_decide words_total word_same)
-
-same_bool : (a b : Bool) → Decides (beq a b) (a ≡ b)
-same_bool true true = (λ _. refl, λ _. refl)
-same_bool true false = (λ e. cc, λ e. cc)
-same_bool false true = (λ e. cc, λ e. cc)
-same_bool false false = (λ _. refl, λ _. refl)
-
-value_of : (v w : Value) → v.inactive ≡ w.inactive → v.protected ≡ w.protected → v.order ≡ w.order → v.words ≡ w.words → v ≡ w
-value_of v w a b c d = λ i. record { inactive = a i; protected = b i; order = c i; words = d i }
-
-pub same_value : (v w : Value) → Decides ((value.ghosts).eq v w) (v ≡ w)
-same_value v w =
-    Decides-like _
-    (λ h. value_of v w h.0 h.1.0 h.1.1.0 h.1.1.1)
-    (λ e. (ap (λ (x : Value). x.inactive) e, (ap (λ (x : Value). x.protected) e, (ap (λ (x : Value). x.order) e, ap (λ (x : Value). x.words) e))))
-    (Decides-and _ _ (same_bool v.inactive w.inactive)
-    (Decides-and _ _ (same_bool v.protected w.protected)
-    (Decides-and _ _ (same_words v.order w.order) (same_words v.words w.words))))
 
 same_entry : (p q : List Step × Value) → Decides (same_pair (value.ghosts).eq p q) (p ≡ q)
 same_entry p q =
