@@ -5,5 +5,7 @@ pub mod BlockLemmas
 pub mod SpliceLemmas
 pub mod ChangeLemmas
 pub mod PageLemmas
+pub mod BelowLemmas
+pub mod CutLemmas
 mod MakerLemmas
 pub mod SharingLemmas

@@ -6,6 +6,7 @@
 #![tactic(auto)]
 
 mod blocks;
+mod cut;
 mod entries;
 mod entry;
 mod layers;

@@ -25,3 +25,4 @@ pub mod OnceLemmas
 pub mod PutAnswerLemmas
 pub mod OtherLemmas
 mod CanonicalLemmas
+mod LevelLemmas

@@ -1,18 +1,17 @@
 -- Maps from paths: what a look-up in the entries tells, and that maps which answer alike are one.
 use Rattle.std.proofs.Common.{◌≡◌, cond, List, [], ◌∷◌, length, refl, sym, ap, ◌∙◌, Some, arith}
 use Rattle.std.specs.FinMap as map
-use Rattle.std.specs.FinMap.{IsAntisymmetric, slice_cmp-IsAntisymmetric}
 use Rattle.std.specs.FinMap.Entries.{by_order, put, find}
 use Rattle.std.specs.Map.{lookup, keys_of}
 use Rattle.cfg_entries.specs.EntryMap.{EntryMap, is_at}
 use Rattle.std.specs.List.{AllByRecursion}
 use Rattle.std.specs.List.Sorted.{IsStrictlySortedBy}
 use Rattle.std.specs.declared.cmp.Ordering.{Ordering}
-use Rattle.std.specs.declared.cmp.Ordering.TheVariants.{Less, Equal, Greater}
-use Rattle.std.specs.Ordering.{eq_by_cmp, is_eq, ordering_then}
+use Rattle.std.specs.declared.cmp.Ordering.TheVariants.{Less}
+use Rattle.std.specs.Ordering.{eq_by_cmp, is_eq}
 use Rattle.std.specs.Bool.{Decides}
 use Rattle.std.proofs.lemmas.Map.Keys.{sorted_head, sorted_tail}
-use Rattle.cfg_base.specs.Order.{word_cmp, step_cmp, path_cmp, paths_total, steps_total}
+use Rattle.cfg_base.specs.Order.{step_cmp, path_cmp, paths_total, steps_total}
 use Rattle.cfg_base.specs.declared.path.Step.{Step}
 pub use Rattle.cfg_base.proofs.OrderLemmas.{word_same, is_equal, ties_decide}
 use Rattle.cfg_base.specs.declared.value.Value.{Value}

@@ -1,19 +1,18 @@
 -- Two trees are the same exactly where their entries are.
-use Rattle.std.proofs.Common.{eqb, eqb-true, ◌≡◌, ℕ, Bool, true, false, List, length, refl, sym, ap, subst, ◌∙◌}
+use Rattle.std.proofs.Common.{eqb, eqb-true, ◌≡◌, ℕ, Bool, true, List, length, sym, ap, subst, ◌∙◌}
 use Rattle.std.specs.FinMap as map
 use Rattle.cfg_entries.specs.EntryMap.{EntryMap, IsOrdered, same_pair}
 use Rattle.std.specs.Bool.{Decides}
 use Rattle.std.specs.Cmp.Lexicographic.{pointwise, pointwise_decides}
 use Rattle.std.proofs.lemmas.Bool.Decides.{Decides-and, Decides-like}
-use Rattle.cfg_base.specs.Order.{path_cmp, words_total, words_eq}
+use Rattle.cfg_base.specs.Order.{path_cmp}
 use Rattle.cfg_base.specs.declared.path.Step.{Step}
 use Rattle.cfg_base.specs.declared.value.Value.{Value}
 use Rattle.cfg_base.specs.contracts.value.ValuePartialEq.TheImpl as value
-use mathlib.Core.Bool.{beq}
 use Rattle.cfg_entries.proofs.SharingLemmas.{same_value}
 use Rattle.cfg_tree.specs.Statements.{Statements}
 use Rattle.cfg_tree.specs.Shown.{shown}
-use Rattle.cfg_tree.proofs.MapLemmas.{word_same, ties_decide, same_path, entries_is}
+use Rattle.cfg_tree.proofs.MapLemmas.{same_path, entries_is}
 
 same_entry : (p q : List Step × Value) → Decides (same_pair (value.ghosts).eq p q) (p ≡ q)
 same_entry p q =

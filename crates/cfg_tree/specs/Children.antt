@@ -1,10 +1,11 @@
 -- The children of a path in the order in which they are printed: by their rows, and within a row by
 -- the bytes of their names, or in the user's order.
-use Rattle.std.specs.Prelude.{ℕ, ◌+◌, ◌==◌, Bool, ◌&&◌, List, [], ◌∷◌, length, map, filter, Option, Some, None, if◌then◌else◌}
+use Rattle.std.specs.Prelude.{ℕ, ◌≡◌, ◌<◌, ◌+◌, ◌==◌, Bool, ◌&&◌, List, [], ◌∷◌, ◌++◌, length, take, map, filter, Option, Some, None, if◌then◌else◌}
 use Rattle.std.specs.List.{flat_map}
 use Rattle.std.specs.FinMap as finite
 use Rattle.cfg_base.specs.declared.path.Step.{Step}
 use Rattle.cfg_base.specs.declared.value.Value.{Value}
+use Rattle.cfg_entries.specs.EntryMap.{past}
 use Rattle.cfg_schema.specs.declared.place.Place.{Place}
 use Rattle.cfg_schema.specs.Profile.{row_of, head_of, rows_below, same_word}
 use Rattle.cfg_schema.specs.Place.{place_of}
@@ -42,3 +43,10 @@ children_at m path (Some here) =
 -- the steps of the children of a path in printing order
 abbrev pub children_of : Statements → List Step → List Step
 children_of m path = children_at m path (place_of path)
+
+-- what a walk among the statements does at a path: one of so many steps is taken, and at a longer one the
+-- walk goes on past all that stands below its first steps
+pub record IsVisit (count : ℕ) (path : List Step) (all left rest : List (List Step × Value)) (steps taken : List Step) : Type 0 where
+  pub child : length path ≡ count → (taken ≡ steps ++ last_of path ∷ []) × (rest ≡ left)
+  pub longer : count < length path → (taken ≡ steps) × (rest ≡ past (take count path) all)
+  pub shorter : length path < count → (taken ≡ steps) × (rest ≡ left)

@@ -1,16 +1,15 @@
 //! The children of a path in printing order.
 
-ghost use Rattle.std.specs.Prelude.{◌≡◌, ◌+◌, ◌<◌, ◌==◌, ◌++◌, length, map, filter, IfOk, OnOk};
+ghost use Rattle.std.specs.Prelude.{◌≡◌, ◌++◌, map, filter, IfOk, OnOk};
 ghost use Rattle.std.specs.List.{flat_map};
 ghost use Rattle.std.specs.FinMap as finite;
-ghost use Rattle.cfg_base.specs.declared.path.Step.{Step};
 ghost use Rattle.cfg_schema.specs.Profile.{head_of, same_word};
-ghost use Rattle.cfg_tree.specs.Statements.{last_of};
 ghost use Rattle.cfg_tree.specs.Shown.{shown};
 ghost use Rattle.cfg_tree.specs.Tree.{step_of};
 ghost use Rattle.cfg_tree.specs.Children.{order_in, row_steps, children_of};
 
-use crate::store::{Entries, keys_below};
+use crate::below::steps_below;
+use crate::store::Entries;
 use cfg_base::{NoMemory, Path, Step, Word, WordList};
 use cfg_schema::{Place, RowId, head, row, rows_below};
 use std::alloc::Global;
@@ -22,20 +21,6 @@ fn order_at(alloc: Global, entries: &Entries, path: &Path) -> Result<WordList, N
         Some(value) => Ok(value.order.clone()?),
         None => Ok(WordList::new(alloc)),
     }
-}
-
-fn last_steps(alloc: Global, keys: &[Path], count: usize) -> Result<Vec<Step>, NoMemory>
-    requires { 0 < count }
-    ensures { IfOk result (λ steps. steps.items ≡ map last_of (filter (λ key. length key == count) keys.now)) }
-{
-    let mut steps = Vec::new(alloc);
-    for key in keys {
-        let all = key.steps();
-        if all.len() == count {
-            steps.push(all[count - 1].clone()?)?;
-        }
-    }
-    Ok(steps)
 }
 
 fn word_of(alloc: Global, bytes: &[u8]) -> Result<Word, NoMemory>
@@ -121,8 +106,7 @@ pub fn children_in(alloc: Global, entries: &Entries, path: &Path) -> Result<Vec<
         None => return Ok(Vec::new(alloc)),
         Some(here) => here,
     };
-    let keys = keys_below(alloc, entries, path)?;
-    let below = last_steps(alloc, &keys, path.steps().len() + 1)?;
+    let below = steps_below(alloc, entries, path)?;
     let rows = rows_below(alloc, here.row, here.in_group)?;
     let order = order_at(alloc, entries, path)?;
     let steps = by_rows(alloc, &rows, &order, &below)?;

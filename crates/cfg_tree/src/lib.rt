@@ -8,6 +8,7 @@
 #![tactic(auto)]
 
 mod after;
+mod below;
 mod change;
 mod children;
 mod fault;
@@ -21,6 +22,7 @@ mod store;
 mod target;
 mod tree;
 mod typed;
+mod walk;
 
 pub use fault::TreeFault;
 pub use laws::{limits_are_stated, puts_have_one_answer, words_have_one_answer};
@@ -29,6 +31,7 @@ pub use reading::resolve;
 pub use steps::Steps;
 pub use target::{Target, WordsFault};
 pub use tree::Tree;
+pub use walk::Walk;
 
 #[cfg(test)]
 mod change_tests;

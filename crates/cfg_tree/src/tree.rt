@@ -1,6 +1,6 @@
 ghost use Rattle.std.specs.Prelude.{◌≡◌, ◌+◌, ◌↔◌, OnOk, OnErr, IfOk, IfErr, IsTrue, MatchOption, [], ◌∷◌, ◌++◌, filter, is_some};
-ghost use Rattle.std.specs.Ordering.{eq_by_cmp};
-ghost use Rattle.cfg_base.specs.Order.{step_cmp};
+ghost use Rattle.std.specs.Ordering.{eq_by_cmp, is_le};
+ghost use Rattle.cfg_base.specs.Order.{path_cmp, step_cmp};
 ghost use Rattle.cfg_base.specs.declared.path.Step.{Step};
 ghost use Rattle.std.specs.Option.{option_copied};
 ghost use Rattle.std.specs.FinMap as map;
@@ -16,6 +16,7 @@ use crate::children::children_in;
 use crate::fault::TreeFault;
 use crate::steps::Steps;
 use crate::store::Entries;
+use crate::walk::Walk;
 use cfg_base::{NoMemory, Path, Value};
 use std::alloc::Global;
 use std::marker::Model;
@@ -123,6 +124,20 @@ impl Tree {
     {
         let steps = children_in(self.alloc, &self.statements, path)?;
         Ok(Steps::from(steps))
+    }
+
+    /// All statements, in the order of paths.
+    pub fn walk(&self) -> Walk<'_>
+        ensures { result ≡ map.entries self.now }
+    {
+        Walk::of(self.statements.iter())
+    }
+
+    /// The statements at a path and behind it, in the order of paths.
+    pub fn walk_from(&self, path: &Path) -> Walk<'_>
+        ensures { result ≡ filter (λ e. is_le (path_cmp path.now e.0)) (map.entries self.now) }
+    {
+        Walk::of(self.statements.from(path))
     }
 
     /// The first statement after a path in the order of paths, where one stands there.
