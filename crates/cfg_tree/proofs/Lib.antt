@@ -26,3 +26,7 @@ pub mod PutAnswerLemmas
 pub mod OtherLemmas
 mod CanonicalLemmas
 mod LevelLemmas
+mod GatherLemmas
+mod GatheredLemmas
+mod JoinLemmas
+mod ExcessLemmas

@@ -9,7 +9,7 @@ use Rattle.cfg_base.specs.Order.{path_cmp}
 use Rattle.cfg_base.specs.declared.path.Step.{Step}
 use Rattle.cfg_base.specs.declared.value.Value.{Value}
 use Rattle.cfg_base.specs.contracts.value.ValuePartialEq.TheImpl as value
-use Rattle.cfg_entries.proofs.SharingLemmas.{same_value}
+pub use Rattle.cfg_entries.proofs.SharingLemmas.{same_value}
 use Rattle.cfg_tree.specs.Statements.{Statements}
 use Rattle.cfg_tree.specs.Shown.{shown}
 use Rattle.cfg_tree.proofs.MapLemmas.{same_path, entries_is}

@@ -3,6 +3,7 @@ pub mod Shown
 pub mod Typed
 pub mod Tree
 pub mod Change
+pub mod Gather
 pub mod Children
 pub mod After
 pub mod Resolve

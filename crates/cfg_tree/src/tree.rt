@@ -5,7 +5,8 @@ ghost use Rattle.cfg_base.specs.declared.path.Step.{Step};
 ghost use Rattle.std.specs.Option.{option_copied};
 ghost use Rattle.std.specs.FinMap as map;
 ghost use Rattle.cfg_tree.specs.Statements.{Statements, size_of};
-ghost use Rattle.cfg_tree.specs.Tree.{IsTree};
+ghost use Rattle.cfg_tree.specs.Tree.{IsTree, IsStatementMap, IsTyped};
+ghost use Rattle.cfg_tree.specs.Gather.{gathered_from_none, IsGatherFault};
 ghost use Rattle.cfg_tree.specs.After.{IsNext, IsLast};
 ghost use Rattle.cfg_tree.specs.Children.{step_if, children_of};
 ghost use Rattle.cfg_tree.specs.Change.{put_at, removed, IsReady, IsPut, IsPutFault, IsOther};
@@ -13,7 +14,9 @@ ghost use Rattle.cfg_tree.specs.Change.{put_at, removed, IsReady, IsPut, IsPutFa
 use crate::after::next_in;
 use crate::change::{put_in, remove_in, replace_in};
 use crate::children::children_in;
+use crate::excess::excess;
 use crate::fault::TreeFault;
+use crate::gather::{GatherFault, gathered_in};
 use crate::steps::Steps;
 use crate::store::Entries;
 use crate::walk::Walk;
@@ -51,6 +54,22 @@ impl Tree {
             alloc,
             statements: Entries::new(alloc),
         }
+    }
+
+    /// The tree of statements in the order in which they are met, each joined to what its path has. An
+    /// item's order is what it adds to that of its children: a child of an ordered row is two items, its own,
+    /// and one of its parent with this name.
+    pub fn gathered(alloc: Global, items: Vec<(Path, Value)>) -> Result<Tree, GatherFault>
+        requires statements { IsStatementMap (gathered_from_none items.items) }
+        requires typed { IsTyped (gathered_from_none items.items) }
+        ensures ok { IfOk result (λ tree. tree ≡ gathered_from_none items.items) }
+        ensures err { IfErr result (λ fault. IsGatherFault items.items fault) }
+    {
+        if let Some(at) = excess(alloc, &items)? {
+            return Err(GatherFault::TooMany(at));
+        }
+        let statements = gathered_in(alloc, items)?;
+        Ok(Tree { alloc, statements })
     }
 
     /// The value at a path, where it is there.

@@ -1,0 +1,40 @@
+//! Whether statements are more than a tree has.
+
+ghost use Rattle.std.specs.Prelude.{◌≡◌, ◌≤◌, List, true, not, cond, IfOk, OnOk, MatchOption};
+ghost use Rattle.std.specs.BTreeSet as set;
+ghost use Rattle.std.specs.Ordering.{eq_by_cmp};
+ghost use Rattle.cfg_base.specs.Order.{path_cmp};
+ghost use Rattle.cfg_base.specs.declared.path.Step.{Step};
+ghost use Rattle.cfg_tree.specs.declared.limit.TheConstants.{MAX_STATEMENTS};
+ghost use Rattle.cfg_tree.specs.Statements.{size_of};
+ghost use Rattle.cfg_tree.specs.Gather.{gathered_from_none, IsExcess};
+
+use crate::limit::MAX_STATEMENTS;
+use cfg_base::{NoMemory, Path, Value};
+use std::alloc::Global;
+use std::collections::BTreeSet;
+
+/// Adds a path to the known ones, and tells whether it is new.
+fn learn(known: &mut BTreeSet<Path>, path: &Path) -> Result<bool, NoMemory>
+    ensures new { IfOk result (λ new. new ≡ not (set.contains path_cmp known.old path.now)) }
+    ensures knows { OnOk result ((other : List Step) → set.contains path_cmp known.new other ≡ cond (eq_by_cmp path_cmp path.now other) true (set.contains path_cmp known.old other)) }
+{
+    Ok(known.insert(path.clone()?)?)
+}
+
+/// The place of the first item that is one statement more than a tree has.
+pub fn excess(alloc: Global, items: &[(Path, Value)]) -> Result<Option<usize>, NoMemory>
+    ensures { IfOk result (λ place. MatchOption place (size_of (gathered_from_none items.now) ≤ MAX_STATEMENTS) (λ at. IsExcess items.now at)) }
+{
+    let mut known = BTreeSet::new(alloc);
+    let mut count = 0;
+    for at in 0..items.len() {
+        if learn(&mut known, &items[at].0)? {
+            if count == MAX_STATEMENTS {
+                return Ok(Some(at));
+            }
+            count += 1;
+        }
+    }
+    Ok(None)
+}
