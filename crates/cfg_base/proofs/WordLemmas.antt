@@ -10,7 +10,7 @@ use Rattle.std.specs.Bool.{Decides}
 use Rattle.std.specs.Ordering.{eq_by_cmp}
 use Rattle.cfg_base.specs.Order.{word_cmp, words_total}
 use Rattle.std.specs.BTreeSet.{BTreeSet}
-use Rattle.std.specs.List.{list_all}
+use Rattle.std.specs.List.{list_all, list_any}
 use Rattle.std.proofs.lemmas.Bool.Decides.{nat_tests}
 use Rattle.cfg_base.specs.Blocks.{flat, IsSized}
 use Rattle.cfg_base.specs.declared.shared.TheConstants.{MAX_ITEMS}
@@ -288,21 +288,15 @@ pub without-more : (gone : List (List ℕ)) (bs : List (List (List ℕ))) (i : �
     → words_without (flat (take (suc i) bs)) gone ≡ words_without (flat (take i bs)) gone ++ words_without (get_or bs i d) gone
 without-more gone bs i d h = ap (λ (ws : List (List ℕ)). words_without ws gone) (flat_more bs i d h) ∙ without-append gone (flat (take i bs)) (get_or bs i d)
 
--- where as many are left, all are
-pub all_are_left : (t : List ℕ → Bool) (words : List (List ℕ)) → length (filter t words) ≡ length words → filter t words ≡ words
-all_are_left t [] h = refl
-all_are_left t (x ∷ words) h = by_test (t x) (all_are_left t words) (fewer-left t words) h
+-- where none goes, all are left
+pub keeps_all : (gone words : List (List ℕ)) → list_any (lists gone) words ≡ false → words_without words gone ≡ words
+keeps_all gone [] h = refl
+keeps_all gone (x ∷ words) h = by_test (lists gone x) (keeps_all gone words) h
   where
-    by_test : (c : Bool) → (length (filter t words) ≡ length words → filter t words ≡ words) → length (filter t words) ≤ length words → length (cond c (x ∷ filter t words) (filter t words)) ≡ length (x ∷ words) → cond c (x ∷ filter t words) (filter t words) ≡ x ∷ words
-    by_test true go fewer h = ap (λ (ws : List (List ℕ)). x ∷ ws) (go (omega (arith, h)))
-    by_test false go fewer h = absurd (omega (arith, h, fewer))
-
--- a block of which all words are left
-pub keeps_all : (gone block seen words : List (List ℕ)) (n : ℕ) → seen ≡ block → words ≡ words_without seen gone → n ≡ length words → n ≡ length block
-    → block ≡ words_without block gone
-keeps_all gone block seen words n s e f h =
-    sym (all_are_left (λ (word : List ℕ). not (lists gone word)) block
-    (ap (λ (ws : List (List ℕ)). length (words_without ws gone)) (sym s) ∙ ap (λ (ws : List (List ℕ)). length ws) (sym e) ∙ sym f ∙ h))
+    by_test : (b : Bool) → (list_any (lists gone) words ≡ false → words_without words gone ≡ words) → (b || list_any (lists gone) words) ≡ false
+        → cond (not b) (x ∷ words_without words gone) (words_without words gone) ≡ x ∷ words
+    by_test true go h = cc
+    by_test false go h = ap (λ (ws : List (List ℕ)). x ∷ ws) (go h)
 
 -- what is left of a block has its size, unless it is nothing
 pub left_sized : (gone block seen words new : List (List ℕ)) → seen ≡ block → words ≡ words_without seen gone → new ≡ words → false ≡ (length words == 0) → IsSized block

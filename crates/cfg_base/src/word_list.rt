@@ -1,6 +1,7 @@
 //! Lists of words whose copies share all but what is changed.
 
 ghost use Rattle.std.specs.Prelude.{◌≡◌, ◌==◌, ◌∷◌, [], ◌++◌, length, OnOk, OnErr, IfOk, MatchOption};
+ghost use Rattle.std.specs.List.{list_any};
 ghost use Rattle.cfg_base.specs.Blocks.{flat, IsSized, AreSized};
 ghost use Rattle.cfg_base.specs.Order.{words_eq, words_per, words_alike};
 ghost use Rattle.cfg_base.specs.Words.{lists, words_without};
@@ -128,6 +129,13 @@ impl WordList {
     }
 }
 
+/// Whether any of these words goes.
+fn loses(words: &[Word], gone: &Lookup<'_>) -> bool
+    ensures { result ≡ list_any (lists gone.now) words.now }
+{
+    words.iter().any(|word| gone.has(word))
+}
+
 /// The words of a block that don't go.
 fn kept(alloc: Global, words: &[Word], gone: &Lookup<'_>) -> Result<Vec<Word>, NoMemory>
     ensures { IfOk result (λ left. left.items ≡ words_without words.now gone.now) }
@@ -151,10 +159,10 @@ fn keep(
     requires { IsSized block.now }
     ensures { OnOk result (left.new ≡ left.old ++ words_without block.now gone.now) }
 {
-    let words = kept(alloc, block.items(), gone)?;
-    if words.len() == block.items().len() {
+    if !loses(block.items(), gone) {
         return left.append(block.clone()?);
     }
+    let words = kept(alloc, block.items(), gone)?;
     if words.is_empty() {
         return Ok(());
     }
