@@ -1,21 +1,19 @@
-//! The configuration service: its top call, and the program round it.
+//! The program of the configuration service: its words, its standard input and output, the clock and the files of the
+//! system, and its exit status.
 //!
-//! Guarantees: `run` serves its session as the machine of one event at a time would, and hands everything back
-//! (specs/Run.antt).
-//! Leaves to others: what the machine does (`config_core`), what a line asks (`shell_words`), and what the ends of a
-//! session are (`io_edge`). That real files, terminals and clocks behave as their adapters say is trusted.
+//! Leaves to others: the service itself (`service`). That real files, terminals and clocks behave as their adapters say is
+//! trusted.
 #![tactic(auto)]
 
 ghost use Rattle.std.specs.Prelude.{◌≡◌, ◌↔◌, IfOk, codes};
 ghost use Rattle.cfg_base.specs.declared.word.WordFault.TheVariants as word;
 ghost use Rattle.confd.specs.declared.WordsFault.TheVariants.{Usage, NoMemory};
-ghost use Rattle.confd.specs.Run.{IsServe};
+ghost use Rattle.service.specs.Run.{IsServe};
 
 use cfg_base::{NoMemory, UserName, Word, WordFault, Words};
 use disk_model::FileDisk;
 use io_edge::{SleepBeat, StdClock, StdSink, StdSource};
-use run::{Ticker, run};
-use session::End;
+use service::{End, Ticker, run};
 use std::alloc::Global;
 use std::fs::{File, Files};
 use std::io::{ErrorKind, Read, Write};
@@ -24,13 +22,6 @@ use std::rt::{Clock, Env};
 use std::sync::Wait;
 use std::thread::Threads;
 use std::{env, str};
-
-mod book;
-mod run;
-mod session;
-#[cfg(test)]
-mod tests;
-mod writing;
 
 /// Why the words of the command line are none for `run`.
 enum WordsFault {

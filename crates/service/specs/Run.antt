@@ -1,0 +1,45 @@
+-- The run of the service: what it hands back, and when each status comes.
+use Rattle.std.specs.Prelude.{◌≡◌, ◌≤◌, ℕ, List, [], ◌∷◌, length, Option, None, Some, codes, slice_index_or}
+use Rattle.std.specs.List.{AllByRecursion}
+use Rattle.config_core.specs.Kept.{factory}
+use Rattle.config_core.specs.State.{opening_of}
+use Rattle.io_edge.specs.Ends.{Rose}
+use Rattle.session_history.specs.declared.history.History.{History}
+use Rattle.session_history.specs.declared.turn.How.{How}
+use Rattle.session_history.specs.declared.turn.How.TheVariants.{SourceFault, SinkFault}
+use Rattle.session_history.specs.declared.turn.Turn.{Turn}
+use Rattle.session_history.specs.Events.{IsLegal}
+use Rattle.session_history.specs.Session.{IsSession, status_of}
+use Rattle.service.specs.declared.session.End.{End}
+
+-- the words ask for the service of a place: `serve`, and the place
+abbrev pub IsServe : List (List ℕ) → Type 0
+IsServe words = (length words ≡ 2) × (slice_index_or words 0 [] ≡ codes "serve")
+
+-- nothing happened: no session was begun, and nothing was read or written
+pub record IsIdle {E : Type 0} (ends ends' : List E) (turns : List (List Turn)) (history : History) : Type 0 where
+  pub same : ends' ≡ ends
+  pub no_turns : turns ≡ []
+  pub no_opening : history.opening ≡ None
+  pub no_events : history.events.items ≡ []
+
+-- one session was served over the factory commit: the history is legal, each event is this session's, the session is what its
+-- bytes say, the status is that of its end, and a fault of its source or sink is answered only where that object's count rose
+pub record IsServed {S K C : Type 0} (left : S → Option (List ℕ)) (source_faults : S → ℕ) (held : K → Option (List ℕ)) (sink_faults : K → ℕ) (coming : C → Option (ℕ → ℕ)) (limit : ℕ) (old new : End S K C) (turns : List Turn) (history : History) (status : ℕ) : Type 0 where
+  pub how : How
+  pub is_status : status ≡ status_of how
+  pub opening : history.opening ≡ Some factory
+  pub users : history.users ≡ old.user ∷ []
+  pub legal : IsLegal (opening_of factory (old.user ∷ [])) history.events.items
+  pub own : AllByRecursion (λ event. event.caller ≡ 1) history.events.items
+  pub session : IsSession (opening_of factory (old.user ∷ [])) 1 limit how (left old.source) (left new.source) (sink_faults old.sink) (sink_faults new.sink)
+      (record { coming = coming old.clock; held = held old.sink; turns = []; events = [] })
+      (record { coming = coming new.clock; held = held new.sink; turns = turns; events = history.events.items })
+  pub user : new.user ≡ old.user
+  pub source_cause : how ≡ SourceFault → Rose (source_faults old.source) (source_faults new.source)
+  pub sink_cause : how ≡ SinkFault → Rose (sink_faults old.sink) (sink_faults new.sink)
+
+-- an input that is told and no longer than the limit
+abbrev pub Fits : ℕ → Option (List ℕ) → Type 0
+Fits limit None = ⊥
+Fits limit (Some bytes) = length bytes ≤ limit
