@@ -1,9 +1,9 @@
-ghost use Rattle.std.specs.Prelude.{◌≡◌, ◌+◌, ◌<◌, ◌≤◌, codes, IfOk};
+ghost use Rattle.std.specs.Prelude.{◌≡◌, ◌+◌, ◌<◌, ◌≤◌, IfOk};
 ghost use Rattle.config_core.specs.declared.ledger.TheConstants.{MAX_ENTRIES};
 ghost use Rattle.config_core.specs.Kept.{factory, append_entry};
 
 use crate::commit::{Commit, Via};
-use cfg_base::{Moment, NoMemory, UserName, Word};
+use cfg_base::{Moment, NoMemory, UserName};
 use cfg_tree::Tree;
 use std::alloc::Global;
 use std::marker::Model;
@@ -11,12 +11,10 @@ use std::marker::Model;
 /// The most entries that a list has.
 pub const MAX_ENTRIES: u64 = 1 << 62;
 
-fn root(alloc: Global) -> Result<UserName, NoMemory>
-    ensures { IfOk result (λ user. user ≡ codes "root") }
-{
-    let word = Word::of(alloc, b"root").map_err(|_| NoMemory)?;
-    Ok(UserName::of(word).unwrap())
-}
+/// The limit that the clauses of this crate cite, by its number.
+pub fn limits_are_stated()
+    ensures entries { MAX_ENTRIES ≡ 4611686018427387904 }
+{}
 
 /// What is kept of the list of entries: how many there are, and the last commit.
 #[derive(Debug, Drop)]
@@ -46,7 +44,7 @@ impl Ledger {
     pub fn factory(alloc: Global) -> Result<Ledger, NoMemory>
         ensures { IfOk result (λ ledger. ledger ≡ factory) }
     {
-        let user = root(alloc)?;
+        let user = UserName::root(alloc)?;
         Ok(Ledger {
             count: 1,
             last: Commit {

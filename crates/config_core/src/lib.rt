@@ -3,7 +3,7 @@
 //! Guarantees: `prepare` then `accept` is exactly one step of the machine (specs/Machine.antt);
 //! `prepare` changes nothing and takes all memory, `accept` can't fail and takes none.
 //! Leaves to others: which statement words name (`cfg_tree`), what a change makes of the statements (`edit_ops`), where
-//! events come from and what is kept of them (`session_history`, `confd`), and how a reply is written.
+//! events come from and what is kept of them (`session_history`, `service`), and how a reply is written.
 #![tactic(auto)]
 
 mod caller;
@@ -27,7 +27,7 @@ pub use core_state::Core;
 pub use effect::Effect;
 pub use event::{Event, Outcome};
 pub use laws::steps_have_one_outcome;
-pub use ledger::{Ledger, MAX_ENTRIES};
+pub use ledger::{Ledger, MAX_ENTRIES, limits_are_stated};
 pub use position::Position;
 pub use prepared::Prepared;
 pub use reply::{Refusal, Reply};

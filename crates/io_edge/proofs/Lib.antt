@@ -1,5 +1,6 @@
 pub mod EndLemmas
 pub mod WroteLemmas
+pub mod RoseLemmas
 mod PlaceLemmas
 pub mod LineLemmas
 mod ReaderLemmas

@@ -1,7 +1,6 @@
 -- The calls of an end in memory: which of them fail, by their number from 1. This project's own.
-use Rattle.std.specs.Prelude.{◌+◌, ◌==◌, ℕ, List, min, Bool, if◌then◌else◌}
+use Rattle.std.specs.Prelude.{◌+◌, ◌-◌, ◌^◌, ◌==◌, ℕ, List, min, Bool, if◌then◌else◌}
 use Rattle.std.specs.List.{list_any}
-use Rattle.io_edge.specs.Ends.{last_count}
 
 -- the numbers of the calls that are to fail, how many calls were made, and how many failed
 pub record Calls : Type 0 where
@@ -15,7 +14,7 @@ no_calls failing = record { failing = failing; made = 0; faults = 0 }
 
 -- a count that rises by one, and stands still at its last value
 abbrev pub next_count : ℕ → ℕ
-next_count count = min (count + 1) last_count
+next_count count = min (count + 1) (2 ^ 64 - 1)
 
 -- the next call is one of those that are to fail
 abbrev pub is_next_failing : Calls → Bool

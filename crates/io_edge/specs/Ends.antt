@@ -1,6 +1,6 @@
 -- What the ends of a session hold, have left and answer. The words are this project's own.
 -- Whether an end tells that is its own matter: a list in memory tells it, a file doesn't.
-use Rattle.std.specs.Prelude.{◌≡◌, ◌≤◌, ◌<◌, length, ◌+◌, ◌-◌, ◌^◌, ℕ, List, [], ◌++◌, min}
+use Rattle.std.specs.Prelude.{◌≡◌, ◌<◌, length, ◌+◌, ℕ, List, [], ◌++◌}
 use Rattle.std.specs.Prelude.{Option, None, Some, option_map}
 
 -- these bytes, and then what is told
@@ -20,14 +20,6 @@ IsUsedUp (Some left) = left ≡ []
 abbrev pub HasMore : Option (List ℕ) → Type 0
 HasMore None = Unit {0}
 HasMore (Some left) = 0 < length left
-
--- the last value of a count, at which it stands still
-abbrev pub last_count : ℕ
-last_count = 2 ^ 64 - 1
-
--- a count of faults rose, or stood at its last value
-abbrev pub Rose : ℕ → ℕ → Type 0
-Rose before now = min (before + 1) last_count ≤ now
 
 -- the answer was the first of those to come, and those that come after it are the ones to come now
 abbrev pub TakesAnswer : {A : Type 0} → Option (ℕ → A) → Option (ℕ → A) → A → Type 0

@@ -1,7 +1,8 @@
 -- How a line reader goes over its bytes, step by step.
 use Rattle.std.specs.Prelude.{◌≡◌, ◌≢◌, ◌<◌, ◌≤◌, ◌+◌, ℕ, List, [], ◌∷◌, length, take, ◌==◌}
 use Rattle.std.specs.Prelude.{if◌then◌else◌}
-use Rattle.io_edge.specs.Ends.{onto, IsUsedUp, HasMore, Rose}
+use Rattle.io_edge.specs.Ends.{onto, IsUsedUp, HasMore}
+use Rattle.cfg_base.specs.Counts.{Rose}
 use Rattle.io_edge.specs.Feed.{Feed}
 use Rattle.io_edge.specs.Line.{HasNoLf, line_of, last_line_of}
 use Rattle.io_edge.specs.declared.lines.Line.{Line}

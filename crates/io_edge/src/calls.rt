@@ -1,4 +1,5 @@
-ghost use Rattle.std.specs.Prelude.{◌≡◌, ◌≤◌};
+ghost use Rattle.std.specs.Prelude.{◌≡◌, ◌≤◌, IsTrue};
+ghost use Rattle.cfg_base.specs.Counts.{Rose};
 ghost use Rattle.io_edge.specs.Calls.{is_next_failing, no_calls, with_call, with_fault};
 ghost use Rattle.io_edge.specs.Calls.{next_count};
 
@@ -44,6 +45,7 @@ impl Calls {
         ensures answer { result ≡ is_next_failing self.old }
         ensures after { self.new ≡ with_call self.old }
         ensures later { self.old.faults ≤ self.new.faults }
+        ensures rose { IsTrue result → Rose self.old.faults self.new.faults }
     {
         self.made = next_count(self.made);
         let fails = self.failing.contains(&self.made);
@@ -57,6 +59,7 @@ impl Calls {
     pub fn fault(&mut self)
         ensures after { self.new ≡ with_fault self.old }
         ensures later { self.old.faults ≤ self.new.faults }
+        ensures rose { Rose self.old.faults self.new.faults }
     {
         self.faults = next_count(self.faults);
     }

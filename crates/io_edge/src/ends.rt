@@ -1,5 +1,6 @@
 ghost use Rattle.std.specs.Prelude.{◌≡◌, ◌<◌, ◌≤◌, ℕ, List, Bool, Option, length};
-ghost use Rattle.io_edge.specs.Ends.{onto, behind, IsUsedUp, Rose, TakesAnswer};
+ghost use Rattle.io_edge.specs.Ends.{onto, behind, IsUsedUp, TakesAnswer};
+ghost use Rattle.cfg_base.specs.Counts.{Rose};
 ghost use Rattle.io_edge.specs.Taken.{taken, TakesAtMost};
 ghost use Rattle.io_edge.specs.Written.{written, GivesAtMost};
 

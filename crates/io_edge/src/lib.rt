@@ -21,7 +21,7 @@ pub use adapters::{SleepBeat, StdClock, StdSink, StdSource};
 pub use beat::ListBeat;
 pub use clock::ListClock;
 pub use ends::{Beat, Clock, Got, Put, Sink, Source};
-pub use lines::{Line, Lines, MAX_LINE};
+pub use lines::{Line, Lines, MAX_LINE, limits_are_stated};
 pub use list_source::ListSource;
 pub use vec_sink::VecSink;
 pub use writing::{PutFailed, put_all};

@@ -1,7 +1,8 @@
 ghost use Rattle.std.specs.Prelude.{◌≡◌, ◌<◌, ◌≤◌, ◌↔◌, ℕ, List, ◌-◌, ◌+◌, [], ◌∷◌, min, max};
 ghost use Rattle.std.specs.Prelude.{length, take, drop, IfOk, OnOk, OnErr, Ok, ◌++◌, vec_len};
 ghost use Rattle.std.specs.Prelude.{vec_capacity};
-ghost use Rattle.io_edge.specs.Ends.{onto, IsUsedUp, Rose};
+ghost use Rattle.io_edge.specs.Ends.{onto, IsUsedUp};
+ghost use Rattle.cfg_base.specs.Counts.{Rose};
 ghost use Rattle.io_edge.specs.Taken.{taken, TakesAtMost};
 ghost use Rattle.io_edge.specs.Reader.{IsFilled, IsTakenAs, Takes, GathersTo, end_of, answer_of};
 ghost use Rattle.io_edge.specs.declared.lines.TheConstants.{MAX_LINE, KEPT};
@@ -14,6 +15,11 @@ use std::marker::Model;
 
 /// The most bytes that a line has without its LF.
 pub const MAX_LINE: usize = 4096;
+
+/// The limit that the clauses of this crate cite, by its number.
+pub fn limits_are_stated()
+    ensures lines { MAX_LINE ≡ 4096 }
+{}
 
 /// How many bytes of a line are kept: as many as it may have, and one that tells that it is too long.
 const KEPT: usize = MAX_LINE + 1;

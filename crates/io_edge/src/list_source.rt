@@ -1,7 +1,8 @@
 ghost use Rattle.std.specs.Prelude.{Some, ◌≡◌, ◌<◌, ◌≤◌, ◌↔◌, [], length, take, drop, min};
 ghost use Rattle.std.specs.Prelude.{slice_index_or, true};
 ghost use Rattle.std.specs.List.{concat};
-ghost use Rattle.io_edge.specs.Ends.{onto, IsUsedUp, Rose};
+ghost use Rattle.io_edge.specs.Ends.{onto, IsUsedUp};
+ghost use Rattle.cfg_base.specs.Counts.{Rose};
 ghost use Rattle.io_edge.specs.Taken.{taken, TakesAtMost};
 ghost use Rattle.io_edge.specs.Calls.{is_next_failing, no_calls, with_call};
 ghost use Rattle.io_edge.specs.Places.{left_from, IsPlaceOf, HasByteAt};

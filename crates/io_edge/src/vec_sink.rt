@@ -1,5 +1,6 @@
 ghost use Rattle.std.specs.Prelude.{Some, ◌≡◌, ◌<◌, ◌≤◌, ◌↔◌, ◌+◌, [], length, IfOk};
-ghost use Rattle.io_edge.specs.Ends.{behind, Rose};
+ghost use Rattle.io_edge.specs.Ends.{behind};
+ghost use Rattle.cfg_base.specs.Counts.{Rose};
 ghost use Rattle.io_edge.specs.Written.{written, GivesAtMost, TakesWhatFits};
 ghost use Rattle.io_edge.specs.Calls.{next_count, no_calls};
 ghost use Rattle.io_edge.specs.Forms.{IsRefused};

@@ -1,15 +1,18 @@
 -- How a session ends.
-use Rattle.std.proofs.Common.{◌≡◌, ℕ, ◌≤◌, ◌⊎◌, List, [], ◌∷◌, ◌++◌, length, Bool, true, false, refl, sym, subst, arith, Option, None, Some, Result, Ok, Err, is_ok, OnErr, inl, inr}
+use Rattle.std.proofs.Common.{◌≡◌, ℕ, ◌≤◌, ◌⊎◌, List, [], ◌∷◌, ◌++◌, length, Bool, true, false, refl, sym, ap, subst, ◌∙◌, arith, Option, None, Some, Result, Ok, Err, is_ok, OnErr, inl, inr}
 use Rattle.std.specs.List.{flat_map}
+use Rattle.std.proofs.lemmas.List.{append-nil}
 use Rattle.cfg_base.specs.declared.command.Command.TheVariants.{Logout}
 use Rattle.config_core.specs.declared.reply.Reply.{Reply}
 use Rattle.config_core.specs.State.{State}
-use Rattle.io_edge.specs.Ends.{behind, onto, Rose}
+use Rattle.io_edge.specs.Ends.{behind, onto}
+use Rattle.cfg_base.specs.Counts.{Rose}
 use Rattle.io_edge.specs.Feed.{Feed}
 use Rattle.io_edge.specs.Line.{TellsBoth}
 use Rattle.io_edge.specs.Wrote.{Wrote, WrotePart}
 use Rattle.io_edge.specs.declared.lines.Line.{Line}
 use Rattle.io_edge.proofs.EndLemmas.{behind-nothing}
+use Rattle.io_edge.proofs.RoseLemmas.{rose_later, rose_since}
 use Rattle.io_edge.proofs.WroteLemmas.{wrote_part_of}
 use Rattle.session_history.specs.declared.history.Happened.{Happened}
 use Rattle.session_history.specs.declared.turn.How.{How}
@@ -18,7 +21,7 @@ use Rattle.session_history.specs.declared.turn.Stance.{Stance}
 use Rattle.session_history.specs.declared.turn.Stance.TheVariants.{Operational, Configuring, Out}
 use Rattle.session_history.specs.declared.turn.Turn.{Turn}
 use Rattle.session_history.specs.Told.{Told, Ask, item_of, text_of}
-use Rattle.session_history.specs.Session.{Sides, Served, Delivers, IsInput, IsSession, LogsOut}
+use Rattle.session_history.specs.Session.{Sides, Served, Delivers, CutsAnswer, CutsLogout, IsInput, IsSession, LogsOut}
 use Rattle.session_history.proofs.ServedLemmas.{Served-then, flat_map_over_append}
 use Rattle.service.specs.Steps.{Asks, Ends, Finishes, LastTurn, is_whole, text_of_answer}
 use Rattle.service.proofs.StepLemmas.{Served-one, delivers_of}
@@ -32,6 +35,7 @@ finishes_out opening caller how faults sides = record {
   logs_out = refl;
   served = Served-none opening caller sides;
   silent = λ is. refl;
+  cut = λ is. cc;
   in_part = λ is. cc;
 }
 
@@ -51,6 +55,7 @@ finishes_quietly opening caller stance how faults given coming coming' held turn
   served = Served-one opening caller false asks.told coming coming' held held turns turns' events events' asks.takes
       (record { part = []; rest = text_of asks.told; whole = refl; behind_old = sym (behind-nothing held) });
   silent = λ is. refl;
+  cut = λ is. (asks.told, refl);
   in_part = λ is. inl sink;
 }
 
@@ -78,6 +83,7 @@ finishes_aloud opening caller stance how faults faults' old new going sound last
   logs_out = logs_out_by stance last.told going last.item;
   served = last.served;
   silent = λ is. absurd (sound is);
+  cut = λ is. (last.told, refl);
   in_part = λ is. inr (last.in_part is);
 }
 
@@ -113,11 +119,19 @@ sink_if_part SinkFault is = refl
 sink_if_part InputFull is = cc
 sink_if_part NoMemory is = cc
 
-rose_later : (a b c : ℕ) → Rose a b → b ≤ c → Rose a c
-rose_later a b c rose later = omega (arith, rose)
+-- of the answer to the last logout a part was written
+cuts_logout : (opening : State) (caller : ℕ) (asked final : List Told) (whole : Bool) (old mid new : Sides) → Served opening caller true asked old mid → Served opening caller whole final mid new → whole ≡ false → ((one : Told) × (final ≡ one ∷ [])) → CutsLogout asked final old.held new.held
+cuts_logout opening caller asked final whole old mid new front back part one =
+    let text : WrotePart (flat_map text_of final) mid.held new.held = (subst (λ w. Delivers w (flat_map text_of final) mid.held new.held) part back.text) in
+    record {
+      cut = one.0;
+      is_final = one.1;
+      part = subst (λ held. WrotePart (text_of one.0) held new.held) front.text
+          (subst (λ t. WrotePart t mid.held new.held) (ap (flat_map text_of) one.1 ∙ append-nil (text_of one.0)) text);
+    }
 
-rose_since : (a b c : ℕ) → a ≤ b → Rose b c → Rose a c
-rose_since a b c later rose = omega (arith, rose)
+not_whole : true ≡ false → ⊥
+not_whole is = cc
 
 -- what was read ahead and what the source has left then are what is left of the input
 closed_input : (lines : List Line) (stance : Stance) (how : How) (limit ahead : ℕ) (before left after : Option (List ℕ)) (held : List ℕ) → TellsBoth (λ b now. (h a : List ℕ) → now ≡ h ++ a → length h ≡ ahead → IsInput lines stance how limit b a) before left → length held ≡ ahead → left ≡ onto held after → TellsBoth (λ b a. IsInput lines stance how limit b a) before after
@@ -145,13 +159,21 @@ IsSession-of opening caller limit how stance source source' feed held first mid_
       reads = ends.reads;
       logs_out = finishes.logs_out;
       served = Served-then opening caller finishes.whole ends.asked finishes.final old mid new (subst (λ w. Served opening caller w ends.asked old mid) (sym is) ends.served) finishes.served;
-      in_part = λ part. either (finishes.in_part part);
+      written = record {
+        cause = λ part. either (finishes.in_part part);
+        answer = λ sink. absurd (sounds sink is);
+        logout = λ part. inr (cuts_logout opening caller ends.asked finishes.final finishes.whole old mid new
+            (subst (λ w. Served opening caller w ends.asked old mid) (sym is) ends.served) finishes.served part (finishes.cut part));
+      };
       input = closed_input ends.lines stance how limit feed.ahead source feed.left source' held ends.input size is_left;
     }
       where
+        sounds : how ≡ SinkFault → true ≡ is_whole how → ⊥
+        sounds is_sink is = not_whole (is ∙ ap is_whole is_sink)
+
         either : (how ≡ SinkFault) ⊎ Rose mid_faults last → Rose first last
         either (inl is_sink) = rose_later first mid_faults last (sink is_sink) late
-        either (inr rose) = rose_since first mid_faults last early rose
+        either (inr rose) = rose_since first mid_faults last early late rose
     by_part false is = record {
       lines = ends.lines;
       asked = ends.asked;
@@ -161,6 +183,10 @@ IsSession-of opening caller limit how stance source source' feed held first mid_
       reads = ends.reads;
       logs_out = finishes.logs_out;
       served = Served-silent opening caller finishes.whole ends.asked finishes.final old mid new (subst (λ w. Served opening caller w ends.asked old mid) (sym is) ends.served) finishes.served (finishes.silent (sink_if_part how is));
-      in_part = λ part. rose_later first mid_faults last (sink (sink_if_part how is)) late;
+      written = record {
+        cause = λ part. rose_later first mid_faults last (sink (sink_if_part how is)) late;
+        answer = λ is_sink. subst (λ held. CutsAnswer ends.asked old.held held) (sym (finishes.silent is_sink)) (ends.cut is_sink);
+        logout = λ part. inl (sink_if_part how is);
+      };
       input = closed_input ends.lines stance how limit feed.ahead source feed.left source' held ends.input size is_left;
     }

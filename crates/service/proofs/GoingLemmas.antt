@@ -15,7 +15,8 @@ use Rattle.session_history.specs.declared.turn.Stance.TheVariants.{Operational, 
 use Rattle.session_history.specs.Events.{places_of}
 use Rattle.session_history.specs.Told.{Told, Item, item_of, stance_after, text_of}
 use Rattle.session_history.specs.Items.{GoesOn, ReadsAs, item_at}
-use Rattle.session_history.specs.Session.{Sides, Served, TakesAnswers, IsCut, IsInput, StopsBy}
+use Rattle.session_history.specs.Session.{Sides, Served, TakesAnswers, Delivers, CutsAnswer, IsCut, IsInput, StopsBy}
+use Rattle.io_edge.specs.Wrote.{WrotePart}
 use Rattle.session_history.proofs.ServedLemmas.{Served-then}
 use Rattle.session_history.proofs.LineLemmas.{TellsBoth-then, ReadsAs-append, IsCut-push, IsCut-empty, IsInput-of}
 use Rattle.service.specs.declared.session.Next.{Next}
@@ -58,6 +59,7 @@ ReadsLine-item opening caller stance line item next old new going asks serves = 
   whole = serves.whole;
   reads = reads_item stance next.stance line item serves.told going asks serves.is_item serves.is_stance;
   is_how = serves.is_how;
+  cut = λ is. (serves.told, refl);
   served = serves.served;
 }
 
@@ -73,6 +75,7 @@ ReadsLine-nothing opening caller stance line next sides going asks same how = re
   whole = true;
   reads = reads_nothing stance next.stance line going asks same;
   is_how = how ∙ going_on stance going ∙ ap (λ s. how_next s true) (sym same);
+  cut = λ is. cc;
   served = Served-none opening caller sides;
 }
 
@@ -228,6 +231,21 @@ whole_or_part opening caller SinkFault told old new served = in_part opening cal
 whole_or_part opening caller InputFull told old new served = served
 whole_or_part opening caller NoMemory told old new served = served
 
+in_sink : (how : How) → how ≡ SinkFault → is_whole how ≡ false
+in_sink how is = ap is_whole is
+
+-- the sink failed at the answer to the last line
+cuts_answer : (opening : State) (caller : ℕ) (so_far told : List Told) (whole : Bool) (old mid new : Sides) → Served opening caller true so_far old mid → Served opening caller whole told mid new → whole ≡ false → ((one : Told) × (told ≡ one ∷ [])) → CutsAnswer (so_far ++ told) old.held new.held
+cuts_answer opening caller so_far told whole old mid new front back part one =
+    let text : WrotePart (flat_map text_of told) mid.held new.held = (subst (λ w. Delivers w (flat_map text_of told) mid.held new.held) part back.text) in
+    record {
+      before = so_far;
+      cut = one.0;
+      is_asked = ap (λ t. so_far ++ t) one.1;
+      part = subst (λ held. WrotePart (text_of one.0) held new.held) front.text
+          (subst (λ t. WrotePart t mid.held new.held) (ap (flat_map text_of) one.1 ∙ append-nil (text_of one.0)) text);
+    }
+
 -- a session so far, and the step that ends it
 pub SoFar-ends : (opening : State) (caller limit : ℕ) (stance : Stance) (next : Next) (how : How) (left : Option (List ℕ)) (feed feed' : Feed) (old mid new : Sides) → SoFar opening caller limit stance left feed old mid → MovesOn opening caller stance next feed feed' mid new → next.how ≡ Some how → Ends opening caller limit how next.stance left feed' old new
 SoFar-ends opening caller limit stance next how left feed feed' old mid new so_far (inl takes) ends =
@@ -238,6 +256,9 @@ SoFar-ends opening caller limit stance next how left feed feed' old mid new so_f
       asked = so_far.told ++ line.told;
       reads = ReadsAs-append so_far.lines (takes.line ∷ []) Operational stance next.stance so_far.told line.told so_far.reads line.reads;
       served = Served-then opening caller (is_whole how) so_far.told line.told old mid new so_far.served (subst (λ w. Served opening caller w line.told mid new) (ends_whole next.stance line.whole how next.how ends line.is_how) line.served);
+      cut = λ sink.
+          let part : line.whole ≡ false = ends_whole next.stance line.whole how next.how ends line.is_how ∙ in_sink how sink in
+          cuts_answer opening caller so_far.told line.told line.whole old mid new so_far.served line.served part (line.cut part);
       input = TellsBoth-then _ (λ x y. x ≡ y) _ (λ x y z cut same. λ held after is_now is_ahead. input_by_line (so_far.lines ++ takes.line ∷ []) next.stance how limit feed'.room feed'.ahead x z (subst (λ n. IsCut (so_far.lines ++ takes.line ∷ []) x limit n feed'.room) same cut) takes.within by held after is_now is_ahead) left feed'.left feed'.left
           (cut_more so_far.lines takes.line limit feed.room feed'.room left feed.left feed'.left so_far.cut takes.given) (told_same feed'.left);
     }
@@ -254,6 +275,7 @@ SoFar-ends opening caller limit stance next how left feed feed' old mid new so_f
       asked = so_far.told;
       reads = so_far.reads;
       served = whole_or_part opening caller stops.how so_far.told old mid so_far.served;
+      cut = λ sink. absurd (stops.no_sink sink);
       input = TellsBoth-then _ _ _ (λ x y z cut stop. λ held after is_now is_ahead. input_at_stop so_far.lines stance stops.how limit feed.room feed'.ahead x y z cut stop held after is_now is_ahead) left feed.left feed'.left so_far.cut stops.stops;
     })))
 

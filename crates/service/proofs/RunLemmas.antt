@@ -3,7 +3,7 @@ use Rattle.std.proofs.Common.{◌≡◌, ◌⊎◌, ℕ, List, [], ◌∷◌, le
 use Rattle.std.specs.List.{AllByRecursion}
 use Rattle.std.proofs.lemmas.List.{length-append}
 use Rattle.config_core.specs.Kept.{factory}
-use Rattle.io_edge.specs.Ends.{Rose}
+use Rattle.cfg_base.specs.Counts.{Rose}
 use Rattle.session_history.specs.declared.history.Happened.{Happened}
 use Rattle.session_history.specs.declared.history.History.{History}
 use Rattle.session_history.specs.declared.turn.How.{How}
@@ -48,9 +48,9 @@ module _ {S K C : Type 0} (left : S → Option (List ℕ)) (source_faults : S �
       (record { coming = coming new.clock; held = held new.sink; turns = turns'; events = book'.events }) →
       new.user ≡ end.user → book'.kept ≡ book.kept → book'.users ≡ book.users →
       (how ≡ SourceFault → Rose (source_faults end.source) (source_faults new.source)) → (how ≡ SinkFault → Rose (sink_faults end.sink) (sink_faults new.sink)) →
-      history.opening ≡ Some book'.kept → history.users ≡ book'.users → history.events.items ≡ book'.events → IsLegal (opened book') book'.events →
+      history.opening ≡ Some book'.kept → history.users ≡ book'.users → history.events.items ≡ book'.events → IsLegal (opened book') book'.events → history.made ≡ record { a = 0; b = 0 } →
       IsServed left source_faults held sink_faults coming limit old new turns' history status
-  IsServed-of old end new book book' turns turns' history status how is_old fresh no_turns is_status session user kept users source_cause sink_cause opening history_users events legal =
+  IsServed-of old end new book book' turns turns' history status how is_old fresh no_turns is_status session user kept users source_cause sink_cause opening history_users events legal made =
       let fresh_log : Log = record { kept = factory; users = old.user ∷ []; events = [] } in
       let after : Sides = record { coming = coming new.clock; held = held new.sink; turns = turns'; events = history.events.items } in
       let same : opened book' ≡ opened fresh_log = same_opening book' fresh_log (kept ∙ ap (λ l. l.kept) fresh) (users ∙ ap (λ l. l.users) fresh) in
@@ -70,6 +70,7 @@ module _ {S K C : Type 0} (left : S → Option (List ℕ)) (source_faults : S �
         is_status = is_status;
         opening = opening ∙ ap Some (kept ∙ ap (λ l. l.kept) fresh);
         users = history_users ∙ users ∙ ap (λ l. l.users) fresh;
+        no_calls = made;
         legal = subst (λ s. IsLegal s history.events.items) same (subst (λ ev. IsLegal (opened book') ev) (sym events) legal);
         own = subst (λ ev. AllByRecursion (λ event. event.caller ≡ 1) ev) (sym whole.served.grown) whole.served.own;
         session = whole;

@@ -7,7 +7,7 @@ use Rattle.io_edge.specs.declared.lines.Line.TheVariants.{Text, TooLong, End, Fa
 use Rattle.io_edge.specs.Feed.{Feed}
 use Rattle.io_edge.specs.Line.{TellsBoth, GivesLine, IsEndedLine, IsLastLine}
 use Rattle.session_history.specs.declared.turn.How.{How}
-use Rattle.session_history.specs.declared.turn.How.TheVariants.{Clean, SourceFault, InputFull as InputFullOf, NoMemory}
+use Rattle.session_history.specs.declared.turn.How.TheVariants.{Clean, SourceFault, SinkFault, InputFull as InputFullOf, NoMemory}
 use Rattle.session_history.specs.declared.turn.Stance.{Stance}
 use Rattle.session_history.specs.Session.{Sides}
 use Rattle.service.specs.declared.session.Next.{Next}
@@ -54,6 +54,7 @@ moves_by_text opening caller stance text next feed feed' old new (inr unread) gi
     inr (record {
       how = NoMemory;
       is_how = unread.is_how;
+      no_sink = λ is. cc;
       is_stance = unread.is_stance;
       same = unread.same;
       stops = TellsBoth-map _ (IsStop NoMemory feed.room feed'.ahead) (λ x y one. lost_line (Text text) feed.room feed'.room feed'.ahead x y within one) feed.left feed'.left gives;
@@ -65,29 +66,29 @@ moves_by_long opening caller stance next feed feed' old new reads gives full =
     inl (record { line = TooLong; given = gives; within = within_of TooLong feed'.room feed'.ahead (λ e. cc) full; reads = reads })
 
 -- a stop of a session that did nothing more
-moves_by_stop : (opening : State) (caller : ℕ) (stance : Stance) (how : How) (next : Next) (feed feed' : Feed) (sides : Sides) → next.how ≡ Some how → next.stance ≡ stance → TellsBoth (IsStop how feed.room feed'.ahead) feed.left feed'.left → MovesOn opening caller stance next feed feed' sides sides
-moves_by_stop opening caller stance how next feed feed' sides is_how is_stance stops =
-    inr (record { how = how; is_how = is_how; is_stance = is_stance; same = refl; stops = stops })
+moves_by_stop : (opening : State) (caller : ℕ) (stance : Stance) (how : How) (next : Next) (feed feed' : Feed) (sides : Sides) → next.how ≡ Some how → (how ≡ SinkFault → ⊥) → next.stance ≡ stance → TellsBoth (IsStop how feed.room feed'.ahead) feed.left feed'.left → MovesOn opening caller stance next feed feed' sides sides
+moves_by_stop opening caller stance how next feed feed' sides is_how no_sink is_stance stops =
+    inr (record { how = how; is_how = is_how; no_sink = no_sink; is_stance = is_stance; same = refl; stops = stops })
 
 pub moves_by_end : (opening : State) (caller : ℕ) (stance : Stance) (next : Next) (feed feed' : Feed) (sides : Sides) → next.how ≡ Some Clean → next.stance ≡ stance → GivesLine End feed.left feed.room feed'.left feed'.room → ((End ≡ InputFull) ↔ (feed'.room < feed'.ahead)) → feed'.room ≡ feed.room → MovesOn opening caller stance next feed feed' sides sides
 moves_by_end opening caller stance next feed feed' sides is_how is_stance gives full room =
     let within : feed'.ahead ≤ feed'.room = within_of End feed'.room feed'.ahead (λ e. cc) full in
-    moves_by_stop opening caller stance Clean next feed feed' sides is_how is_stance
+    moves_by_stop opening caller stance Clean next feed feed' sides is_how (λ is. cc) is_stance
     (TellsBoth-map _ (IsStop Clean feed.room feed'.ahead) (λ x y given. record { part = []; bytes = given.0 ∙ sym given.1; full = (λ is. cc, λ over. absurd (omega arith)); stop = given.0 }) feed.left feed'.left gives)
 
 pub moves_by_failed : (opening : State) (caller : ℕ) (stance : Stance) (next : Next) (feed feed' : Feed) (sides : Sides) → next.how ≡ Some SourceFault → next.stance ≡ stance → GivesLine Failed feed.left feed.room feed'.left feed'.room → feed'.ahead ≡ 0 → MovesOn opening caller stance next feed feed' sides sides
 moves_by_failed opening caller stance next feed feed' sides is_how is_stance gives none =
-    moves_by_stop opening caller stance SourceFault next feed feed' sides is_how is_stance
+    moves_by_stop opening caller stance SourceFault next feed feed' sides is_how (λ is. cc) is_stance
     (TellsBoth-map _ (IsStop SourceFault feed.room feed'.ahead) (λ x y given. record { part = given.part; bytes = given.bytes; full = (λ is. cc, λ over. absurd (omega (arith, given.room))); stop = (given.no_lf, none) }) feed.left feed'.left gives)
 
 pub moves_by_full : (opening : State) (caller : ℕ) (stance : Stance) (next : Next) (feed feed' : Feed) (sides : Sides) → next.how ≡ Some InputFullOf → next.stance ≡ stance → GivesLine InputFull feed.left feed.room feed'.left feed'.room → ((InputFull ≡ InputFull) ↔ (feed'.room < feed'.ahead)) → MovesOn opening caller stance next feed feed' sides sides
 moves_by_full opening caller stance next feed feed' sides is_how is_stance gives full =
     let over : feed'.room < feed'.ahead = full.0 refl in
-    moves_by_stop opening caller stance InputFullOf next feed feed' sides is_how is_stance
+    moves_by_stop opening caller stance InputFullOf next feed feed' sides is_how (λ is. cc) is_stance
     (TellsBoth-map _ (IsStop InputFullOf feed.room feed'.ahead) (λ x y given. record { part = given.part; bytes = given.bytes; full = (λ is. omega (arith, given.whole_room), λ more. refl); stop = (given.no_lf, given.whole_room) }) feed.left feed'.left gives)
 
 pub moves_by_want : (opening : State) (caller : ℕ) (stance : Stance) (next : Next) (feed feed' : Feed) (sides : Sides) → next.how ≡ Some NoMemory → next.stance ≡ stance → feed' ≡ feed → feed.ahead ≤ feed.room → MovesOn opening caller stance next feed feed' sides sides
 moves_by_want opening caller stance next feed feed' sides is_how is_stance same within =
     subst (λ f. MovesOn opening caller stance next feed f sides sides) (sym same)
-    (moves_by_stop opening caller stance NoMemory next feed feed sides is_how is_stance
+    (moves_by_stop opening caller stance NoMemory next feed feed sides is_how (λ is. cc) is_stance
     (TellsBoth-same (IsStop NoMemory feed.room feed.ahead) (λ x. record { part = []; bytes = refl; full = (λ is. cc, λ over. absurd (omega arith)); stop = tt }) feed.left))

@@ -3,7 +3,7 @@ use Rattle.std.specs.Prelude.{◌≡◌, ◌≤◌, ℕ, List, [], ◌∷◌, le
 use Rattle.std.specs.List.{AllByRecursion}
 use Rattle.config_core.specs.Kept.{factory}
 use Rattle.config_core.specs.State.{opening_of}
-use Rattle.io_edge.specs.Ends.{Rose}
+use Rattle.cfg_base.specs.Counts.{Rose}
 use Rattle.session_history.specs.declared.history.History.{History}
 use Rattle.session_history.specs.declared.turn.How.{How}
 use Rattle.session_history.specs.declared.turn.How.TheVariants.{SourceFault, SinkFault}
@@ -16,12 +16,14 @@ use Rattle.service.specs.declared.session.End.{End}
 abbrev pub IsServe : List (List ℕ) → Type 0
 IsServe words = (length words ≡ 2) × (slice_index_or words 0 [] ≡ codes "serve")
 
--- nothing happened: no session was begun, and nothing was read or written
+-- nothing happened: no session was begun, nothing was read or written, and no disk was called
 pub record IsIdle {E : Type 0} (ends ends' : List E) (turns : List (List Turn)) (history : History) : Type 0 where
   pub same : ends' ≡ ends
   pub no_turns : turns ≡ []
   pub no_opening : history.opening ≡ None
   pub no_events : history.events.items ≡ []
+  pub no_users : history.users ≡ []
+  pub no_calls : history.made ≡ record { a = 0; b = 0 }
 
 -- one session was served over the factory commit: the history is legal, each event is this session's, the session is what its
 -- bytes say, the status is that of its end, and a fault of its source or sink is answered only where that object's count rose
@@ -30,6 +32,7 @@ pub record IsServed {S K C : Type 0} (left : S → Option (List ℕ)) (source_fa
   pub is_status : status ≡ status_of how
   pub opening : history.opening ≡ Some factory
   pub users : history.users ≡ old.user ∷ []
+  pub no_calls : history.made ≡ record { a = 0; b = 0 }
   pub legal : IsLegal (opening_of factory (old.user ∷ [])) history.events.items
   pub own : AllByRecursion (λ event. event.caller ≡ 1) history.events.items
   pub session : IsSession (opening_of factory (old.user ∷ [])) 1 limit how (left old.source) (left new.source) (sink_faults old.sink) (sink_faults new.sink)

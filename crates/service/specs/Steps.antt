@@ -6,7 +6,8 @@ use Rattle.cfg_base.specs.declared.command.Command.TheVariants.{Logout}
 use Rattle.config_core.specs.declared.reply.Reply.{Reply}
 use Rattle.config_core.specs.State.{State}
 use Rattle.io_edge.specs.declared.lines.Line.{Line}
-use Rattle.io_edge.specs.Ends.{TakesAnswer, Rose}
+use Rattle.io_edge.specs.Ends.{TakesAnswer}
+use Rattle.cfg_base.specs.Counts.{Rose}
 use Rattle.io_edge.specs.Feed.{Feed}
 use Rattle.io_edge.specs.Line.{HasNoLf, TellsBoth, IsEndedLine, IsLastLine}
 use Rattle.session_history.specs.declared.history.Happened.{Happened}
@@ -19,7 +20,7 @@ use Rattle.session_history.specs.Events.{places_of}
 use Rattle.session_history.specs.Texts.{text_of_reply, no_memory_text}
 use Rattle.session_history.specs.Told.{Told, Item, Ask, item_of, turn_of, answer_of, text_of, places_told, stance_after, after_reply, IsTrueOf}
 use Rattle.session_history.specs.Items.{ReadsAs}
-use Rattle.session_history.specs.Session.{Sides, Served, IsCut, IsInput, LogsOut}
+use Rattle.session_history.specs.Session.{Sides, Served, CutsAnswer, IsCut, IsInput, LogsOut}
 use Rattle.service.specs.declared.session.Next.{Next}
 
 -- what a session has as the answer to a command: the reply, or none for want of memory
@@ -71,6 +72,8 @@ pub record ReadsLine (opening : State) (caller : ℕ) (stance : Stance) (line : 
   pub whole : Bool
   pub reads : ReadsAs (line ∷ []) stance told next.stance
   pub is_how : next.how ≡ how_next next.stance whole
+  -- only the answer to an item is written in part
+  pub cut : whole ≡ false → (one : Told) × (told ≡ one ∷ [])
   pub served : Served opening caller whole told old new
 
 -- memory was wanting to read a line, and nothing was done
@@ -105,6 +108,7 @@ pub record IsStop (how : How) (room ahead : ℕ) (before now : List ℕ) : Type 
 pub record Stops (stance : Stance) (next : Next) (feed feed' : Feed) (old new : Sides) : Type 0 where
   pub how : How
   pub is_how : next.how ≡ Some how
+  pub no_sink : how ≡ SinkFault → ⊥
   pub is_stance : next.stance ≡ stance
   pub same : new ≡ old
   pub stops : TellsBoth (IsStop how feed.room feed'.ahead) feed.left feed'.left
@@ -138,6 +142,7 @@ pub record Ends (opening : State) (caller limit : ℕ) (how : How) (stance : Sta
   pub asked : List Told
   pub reads : ReadsAs lines Operational asked stance
   pub served : Served opening caller (is_whole how) asked old new
+  pub cut : how ≡ SinkFault → CutsAnswer asked old.held new.held
   pub input : TellsBoth (λ before now. (held after : List ℕ) → now ≡ held ++ after → length held ≡ feed.ahead → IsInput lines stance how limit before after) left feed.left
 
 -- the last logout of a session that ended so: nothing more is written to a sink that failed
@@ -147,6 +152,7 @@ pub record Finishes (opening : State) (caller : ℕ) (stance : Stance) (how : Ho
   pub logs_out : LogsOut stance final
   pub served : Served opening caller whole final old new
   pub silent : how ≡ SinkFault → new.held ≡ old.held
+  pub cut : whole ≡ false → (one : Told) × (final ≡ one ∷ [])
   pub in_part : whole ≡ false → (how ≡ SinkFault) ⊎ Rose faults faults'
 
 -- the last logout was asked, and its answer written or not

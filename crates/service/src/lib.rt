@@ -13,5 +13,7 @@ mod session;
 mod tests;
 mod writing;
 
-pub use serving::{Closed, INPUT_LIMIT, JOURNAL_LIMIT, StartWhy0, Ticker, run};
+pub use serving::{
+    Closed, INPUT_LIMIT, JOURNAL_LIMIT, StartWhy0, Ticker, is_serve, limits_are_stated, run,
+};
 pub use session::End;

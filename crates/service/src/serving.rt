@@ -2,17 +2,17 @@
 
 ghost use Rattle.std.specs.Prelude.{◌≡◌, ◌≤◌, ◌∷◌, ◌⊎◌, ◌↔◌, ◌<◌, [], List, length, IsTrue, IfOk, None, Some, vec_len, vec_capacity};
 ghost use Rattle.config_core.specs.Kept.{factory};
-ghost use Rattle.io_edge.specs.Ends.{Rose};
+ghost use Rattle.cfg_base.specs.Counts.{Rose};
 ghost use Rattle.session_history.specs.declared.turn.Turn.{Turn};
 ghost use Rattle.session_history.specs.Session.{status_of};
 ghost use Rattle.service.specs.Run.{IsServe, IsIdle, IsServed, Fits};
 
 use crate::book::Book;
 use crate::session::{End, Ended, run_session};
-use cfg_base::{Limits, NoMemory, UserName, Users, Words};
+use cfg_base::{Calls, Limits, NoMemory, UserName, Users, Words};
 use disk_model::Disk;
 use io_edge::{Beat, Clock, Sink, Source};
-use session_history::{Calls, History, How, Turn, TurnList};
+use session_history::{History, How, Turn, TurnList};
 use std::alloc::Global;
 use std::sync::Wait;
 use std::thread::Threads;
@@ -22,6 +22,12 @@ pub const INPUT_LIMIT: u64 = 16_777_216;
 
 /// The most bytes of a journal file's used part.
 pub const JOURNAL_LIMIT: u64 = 67_108_864;
+
+/// The limits of a run, by their numbers.
+pub fn limits_are_stated()
+    ensures input { INPUT_LIMIT ≡ 16777216 }
+    ensures journal { JOURNAL_LIMIT ≡ 67108864 }
+{}
 
 const LIMITS: Limits = Limits {
     input: INPUT_LIMIT,
@@ -63,7 +69,8 @@ struct Room {
     book: Book,
 }
 
-fn is_serve(words: &Words) -> bool
+/// Whether the words ask for the service: `serve`, and a place.
+pub fn is_serve(words: &Words) -> bool
     ensures { IsTrue result ↔ IsServe words.now }
 {
     let words = words.as_slice();
@@ -73,6 +80,8 @@ fn is_serve(words: &Words) -> bool
 fn no_history(alloc: Global) -> History
     ensures opening { result.opening ≡ None }
     ensures events { result.events.items ≡ [] }
+    ensures users { result.users ≡ [] }
+    ensures made { result.made ≡ record { a = 0; b = 0 } }
 {
     History {
         opening: None,

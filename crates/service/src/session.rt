@@ -1,7 +1,7 @@
 //! One session: it reads its lines, asks the machine, and writes each answer before the next line is read.
 
 ghost use Rattle.std.specs.Prelude.{◌≡◌, ◌<◌, ◌≤◌, ◌+◌, ◌∷◌, ◌⊎◌, length, vec_len, vec_capacity, None, Some, OnErr, is_ok, Bool};
-ghost use Rattle.io_edge.specs.Ends.{Rose};
+ghost use Rattle.cfg_base.specs.Counts.{Rose};
 ghost use Rattle.io_edge.specs.Wrote.{Wrote};
 ghost use Rattle.session_history.specs.declared.turn.How.TheVariants.{SinkFault, SourceFault};
 ghost use Rattle.session_history.specs.declared.turn.Stance.TheVariants.{Out};

@@ -137,6 +137,7 @@ IsInput-of lines stance how limit before mid part held after room cut is_mid ful
         at_end = λ some. no_bytes rest (omega (arith, ap length (cut.at_end some), ap length split, length-append rest after));
         is_room = cut.is_room;
       };
+      used_up = λ some. no_bytes after (omega (arith, ap length (cut.at_end some), ap length split, length-append rest after));
       full = (λ is. let over : room < length part + length held = full.0 is in omega (arith, cut.is_room, long), λ over. full.1 (omega (arith, cut.is_room, long)));
       stops = stops;
     }

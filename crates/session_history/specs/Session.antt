@@ -4,7 +4,8 @@ use Rattle.std.specs.List.{flat_map, AllByRecursion}
 use Rattle.cfg_base.specs.declared.command.Command.TheVariants.{Logout}
 use Rattle.config_core.specs.State.{State}
 use Rattle.io_edge.specs.declared.lines.Line.{Line}
-use Rattle.io_edge.specs.Ends.{behind, Rose}
+use Rattle.io_edge.specs.Ends.{behind}
+use Rattle.cfg_base.specs.Counts.{Rose}
 use Rattle.io_edge.specs.Line.{HasNoLf, TellsBoth, line_of, last_line_of}
 use Rattle.io_edge.specs.Wrote.{WrotePart}
 use Rattle.session_history.specs.declared.history.Happened.{Happened}
@@ -91,6 +92,8 @@ pub record IsInput (lines : List Line) (stance : Stance) (how : How) (limit : �
   pub room : ℕ
   pub is_read : before ≡ read ++ after
   pub cut : IsCut lines read limit rest room
+  -- a last line without its LF stands only where the source has nothing left
+  pub used_up : 0 < length cut.last → after ≡ []
   pub full : (how ≡ InputFull) ↔ (limit < length read)
   pub stops : StopsBy how stance rest after room
 
@@ -100,9 +103,29 @@ LogsOut Out final = final ≡ []
 LogsOut Operational final = (told : Told) × (final ≡ told ∷ []) × (item_of told ≡ Ask Logout)
 LogsOut Configuring final = (told : Told) × (final ≡ told ∷ []) × (item_of told ≡ Ask Logout)
 
+-- of the answer to the last line that was served a part was written, and all before it was written whole
+pub record CutsAnswer (asked : List Told) (old now : Option (List ℕ)) : Type 0 where
+  pub before : List Told
+  pub cut : Told
+  pub is_asked : asked ≡ before ++ cut ∷ []
+  pub part : WrotePart (text_of cut) (behind old (flat_map text_of before)) now
+
+-- of the answer to the last logout a part was written, and all before it was written whole
+pub record CutsLogout (asked final : List Told) (old now : Option (List ℕ)) : Type 0 where
+  pub cut : Told
+  pub is_final : final ≡ cut ∷ []
+  pub part : WrotePart (text_of cut) (behind old (flat_map text_of asked)) now
+
+-- what a session wrote is the whole text of its turns, or only where its sink's count of faults rose a part of it
+pub record IsWritten (how : How) (whole : Bool) (asked final : List Told) (faults faults' : ℕ) (old now : Option (List ℕ)) : Type 0 where
+  pub cause : whole ≡ false → Rose faults faults'
+  -- a session that its sink's fault ends fails at the answer to its last line, and writes nothing more
+  pub answer : how ≡ SinkFault → CutsAnswer asked old now
+  -- of any other session only the answer to the last logout may be cut
+  pub logout : whole ≡ false → (how ≡ SinkFault) ⊎ CutsLogout asked final old now
+
 -- one session of a caller, with the counts of its sink's faults: its items are the lines of what was read, and a last logout;
 -- its turns, its events and its clock's answers are what the items came to; its sink got the text of the whole, or a part of it
--- from its beginning only where the count rose
 pub record IsSession (opening : State) (caller limit : ℕ) (how : How) (source source' : Option (List ℕ)) (faults faults' : ℕ) (old new : Sides) : Type 0 where
   pub lines : List Line
   pub asked : List Told
@@ -112,7 +135,7 @@ pub record IsSession (opening : State) (caller limit : ℕ) (how : How) (source 
   pub reads : ReadsAs lines Operational asked stance
   pub logs_out : LogsOut stance final
   pub served : Served opening caller whole (asked ++ final) old new
-  pub in_part : whole ≡ false → Rose faults faults'
+  pub written : IsWritten how whole asked final faults faults' old.held new.held
   pub input : TellsBoth (λ before after. IsInput lines stance how limit before after) source source'
 
 -- the status of a session that ended so

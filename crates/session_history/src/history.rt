@@ -1,12 +1,5 @@
-use cfg_base::{Moment, Users};
+use cfg_base::{Calls, Moment, Users};
 use config_core::{Event, Ledger, Outcome};
-
-/// How often each of the two disks was called to write or to sync.
-#[derive(Clone, Copy, Debug, PartialEq, Eq)]
-pub struct Calls {
-    pub a: u64,
-    pub b: u64,
-}
 
 /// One event as the machine took it.
 #[derive(Clone, Debug, Drop, PartialEq, Eq)]

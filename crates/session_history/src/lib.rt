@@ -3,13 +3,13 @@
 //! Guarantees: that a history has one outcome (src/laws.rt). Else it holds the types and the definitions that the theorem
 //! of a run is stated in.
 //! In order of reading: specs/Events.antt, specs/Texts.antt, specs/Told.antt, specs/Items.antt, specs/Session.antt.
-//! Leaves to others: that they hold of a run (`confd`).
+//! Leaves to others: that they hold of a run (`service`).
 #![tactic(auto)]
 
 mod history;
 mod laws;
 mod turn;
 
-pub use history::{Calls, Happened, History};
+pub use history::{Happened, History};
 pub use laws::histories_have_one_outcome;
 pub use turn::{How, ShellFault, Stance, Turn, TurnList};

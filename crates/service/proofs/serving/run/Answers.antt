@@ -1,5 +1,5 @@
 use Rattle.std.proofs.Common.{◌≡◌, true, sym, subst, ◌∙◌, inr, rules}
-use Rattle.io_edge.specs.Ends.{Rose}
+use Rattle.cfg_base.specs.Counts.{Rose}
 use Rattle.service.specs.Run.{IsServe}
 use Rattle.service.proofs.RunLemmas.{status_is_not_1, one_of, complete_of, same_one}
 use Rattle.service.proofs.serving.run.Goals as goal
