@@ -129,7 +129,7 @@ module _ (old : List ℕ) (room : ℕ) where
       omega arith
 
   -- two lines
-  two_lines : (a b : Line) (left left' : List ℕ) (room' room'' : ℕ) →
+  pub two_lines : (a b : Line) (left left' : List ℕ) (room' room'' : ℕ) →
       IsEndedLine a old room left room' ⊎ IsLastLine a old room left room' →
       IsEndedLine b old room left' room'' ⊎ IsLastLine b old room left' room'' →
       IsSame a b left left' room' room''
@@ -138,12 +138,12 @@ module _ (old : List ℕ) (room : ℕ) where
   two_lines a b left left' room' room'' (inr x) (inl y) = absurd (ended_last b a left' left room'' room' y x)
   two_lines a b left left' room' room'' (inr x) (inr y) = last_last a b left left' room' room'' x y
 
-  line_none : (a : Line) (left : List ℕ) (room' : ℕ) →
+  pub line_none : (a : Line) (left : List ℕ) (room' : ℕ) →
       IsEndedLine a old room left room' ⊎ IsLastLine a old room left room' → old ≡ [] → ⊥
   line_none a left room' (inl x) none = ended_none a left room' x none
   line_none a left room' (inr x) none = last_none a left room' x none
 
-  line_full : (a : Line) (left left' : List ℕ) (room' room'' : ℕ) →
+  pub line_full : (a : Line) (left left' : List ℕ) (room' room'' : ℕ) →
       IsEndedLine a old room left room' ⊎ IsLastLine a old room left room' → IsFull old room left' room'' → ⊥
   line_full a left left' room' room'' (inl x) y = ended_full a left left' room' room'' x y
   line_full a left left' room' room'' (inr x) y = last_full a left left' room' room'' x y

@@ -2,3 +2,4 @@ pub mod EventLemmas
 pub mod ServedLemmas
 pub mod LineLemmas
 pub mod OutcomeLemmas
+pub mod AgreeLemmas

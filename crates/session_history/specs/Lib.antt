@@ -3,3 +3,4 @@ pub mod Texts
 pub mod Told
 pub mod Items
 pub mod Session
+pub mod Undisturbed

@@ -11,5 +11,5 @@ mod laws;
 mod turn;
 
 pub use history::{Happened, History};
-pub use laws::histories_have_one_outcome;
+pub use laws::{histories_have_one_outcome, sessions_have_one_text};
 pub use turn::{How, ShellFault, Stance, Turn, TurnList};
