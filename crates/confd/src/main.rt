@@ -1,29 +1,31 @@
-//! The program of the configuration service: its words, its standard input and output, the clock and the files of the
-//! system, and its exit status.
+//! The program of the configuration service: its words, its standard input and output, the system's clock, and its exit
+//! status.
 //!
-//! Leaves to others: the service itself (`service`). That real files, terminals and clocks behave as their adapters say is
-//! trusted.
+//! Guarantees: the words handed to the service are those of the command line but for the program's own name, and they are
+//! judged before anything is made for a session.
+//! Leaves to others: the service itself (`service`). That terminals and clocks behave as their adapters say is trusted.
 #![tactic(auto)]
 
-ghost use Rattle.std.specs.Prelude.{◌≡◌, ◌↔◌, IfOk, codes};
-ghost use Rattle.cfg_base.specs.declared.word.WordFault.TheVariants as word;
+ghost use Rattle.std.specs.Prelude.{◌≡◌, ◌↔◌, ◌<◌, length, drop, map, Err, IfOk, OnErr, string_bytes};
+ghost use Rattle.std.specs.List.{Any};
+ghost use Rattle.std.specs.Vec.Iter.{into_iter_items};
 ghost use Rattle.confd.specs.declared.WordsFault.TheVariants.{Usage, NoMemory};
 ghost use Rattle.service.specs.Run.{IsServe};
 
 use cfg_base::{NoMemory, UserName, Word, WordFault, Words};
-use disk_model::FileDisk;
+use disk_model::MemDisk;
 use io_edge::{SleepBeat, StdClock, StdSink, StdSource};
-use service::{End, Ticker, run};
+use service::{End, Ticker, is_serve, run};
 use std::alloc::Global;
-use std::fs::{File, Files};
+use std::env;
+use std::env::Args;
 use std::io::{ErrorKind, Read, Write};
 use std::process::ExitCode;
 use std::rt::{Clock, Env};
 use std::sync::Wait;
 use std::thread::Threads;
-use std::{env, str};
 
-/// Why the words of the command line are none for `run`.
+/// Why the words of the command line are none for the service.
 enum WordsFault {
     Usage,
     NoMemory,
@@ -37,66 +39,62 @@ impl From<NoMemory> for WordsFault {
     }
 }
 
-impl From<WordFault> for WordsFault {
-    ghost from_gives = { λ why fault. (why ≡ word.LongWord → fault ≡ Usage) × (why ≡ word.NoMemory → fault ≡ NoMemory) };
-
-    fn from(fault: WordFault) -> WordsFault {
-        match fault {
-            WordFault::LongWord => WordsFault::Usage,
-            WordFault::NoMemory => WordsFault::NoMemory,
-        }
-    }
-}
-
-/// The words of the command line, but for the program's own name.
-fn words_of<R: Env + AllocGlobal>(rt: &R) -> Result<Words, WordsFault> {
-    let alloc = rt.alloc();
-    let args = match env::args(rt) {
-        Ok(args) => args,
-        Err(error) if error.kind() == ErrorKind::OutOfMemory => return Err(WordsFault::NoMemory),
-        Err(_) => return Err(WordsFault::Usage),
-    };
+/// The arguments as words.
+fn words_from(alloc: Global, args: Args) -> Result<Words, WordsFault>
+    ensures words { IfOk result (λ words. words ≡ map string_bytes (into_iter_items args)) }
+    ensures usage { result ≡ Err Usage → Any (λ word. 255 < length word) (map string_bytes (into_iter_items args)) }
+{
     let mut words = Words::new(alloc);
-    for arg in args.skip(1) {
-        words.push(Word::of(alloc, arg.as_str().as_bytes())?)?;
+    for arg in args {
+        match Word::of(alloc, arg.as_str().as_bytes()) {
+            Ok(word) => words.push(word)?,
+            Err(WordFault::LongWord) => return Err(WordsFault::Usage),
+            Err(WordFault::NoMemory) => return Err(WordsFault::NoMemory),
+        }
     }
     Ok(words)
 }
 
-/// A file of the place that the words name.
-fn disk_of<R: Files<File = File>>(
-    rt: &R,
-    alloc: Global,
-    words: &Words,
-    name: &str,
-) -> Result<FileDisk, NoMemory> {
-    let place = match words.as_slice() {
-        [_, place, ..] => str::from_utf8(place.as_bytes()).unwrap_or(""),
-        _ => "",
-    };
-    let path = format!(in alloc; "{place}/{name}")?;
-    Ok(FileDisk::open(rt, path.as_str()))
-}
-
-fn root(alloc: Global) -> Result<UserName, NoMemory>
-    ensures { IfOk result (λ user. user ≡ codes "root") }
+/// The words of a command line's arguments, but for the first, which is the program's own name.
+fn words_of(alloc: Global, args: Args) -> Result<Words, WordsFault>
+    ensures words { IfOk result (λ words. words ≡ map string_bytes (drop 1 (into_iter_items args))) }
+    ensures usage { result ≡ Err Usage → Any (λ word. 255 < length word) (map string_bytes (drop 1 (into_iter_items args))) }
 {
-    let word = Word::of(alloc, b"root").map_err(|_| NoMemory)?;
-    UserName::of(word).ok_or(NoMemory)
+    let mut args = args;
+    let _program = args.next();
+    words_from(alloc, args)
 }
 
-/// Runs the service over a reader, a writer and the system's clock and files, and gives its status.
+/// The words of the command line.
+fn command_words<R: Env + AllocGlobal>(rt: &R) -> Result<Words, WordsFault> {
+    match env::args(rt) {
+        Ok(args) => words_of(rt.alloc(), args),
+        Err(error) if error.kind() == ErrorKind::OutOfMemory => Err(WordsFault::NoMemory),
+        Err(_) => Err(WordsFault::Usage),
+    }
+}
+
+/// A disk that holds nothing and refuses every call: the service keeps no journal yet.
+fn no_disk(alloc: Global) -> Result<MemDisk, NoMemory> {
+    MemDisk::new(alloc, 0, 0, Vec::new(alloc), Vec::new(alloc))
+}
+
+/// Runs the service over a reader, a writer and the system's clock, where the words ask for it, and gives its status.
 fn serve<R, I, O>(rt: &R, words: &Words, input: I, output: O) -> Result<u8, NoMemory>
 where
-    R: Threads + Wait + Sync + Send + Files<File = File> + Clock + AllocGlobal + Clone + Drop,
+    R: Threads + Wait + Sync + Send + Clock + AllocGlobal + Clone + Drop,
     I: Read + Drop + Send,
     O: Write + Drop + Send,
     ensures usage { IfOk result (λ status. (status ≡ 1) ↔ (IsServe words.now → ⊥)) }
+    ensures judged { OnErr result (IsServe words.now) }
 {
+    if !is_serve(words) {
+        return Ok(1);
+    }
     let alloc = rt.alloc();
     let mut ends = Vec::new(alloc);
     ends.push(End {
-        user: root(alloc)?,
+        user: UserName::root(alloc)?,
         source: StdSource::new(input),
         sink: StdSink::new(output),
         clock: StdClock::new(rt.clone()?),
@@ -105,22 +103,22 @@ where
         beat: SleepBeat::new(rt.clone()?),
         clock: StdClock::new(rt.clone()?),
     };
-    let disk_a = disk_of(rt, alloc, words, "journal.a")?;
-    let disk_b = disk_of(rt, alloc, words, "journal.b")?;
+    let disk_a = no_disk(alloc)?;
+    let disk_b = no_disk(alloc)?;
     Ok(run(rt, alloc, words, ends, ticker, disk_a, disk_b).status)
 }
 
 /// Says on standard error why the service did not run.
 fn tell(rt: &impl Eprint, status: u8) {
     let _told = match status {
-        1 => rt.eprintln("confd: usage: confd serve|init|check|gen PLACE [USER:FILE ..]"),
+        1 => rt.eprintln("confd: usage: confd serve PLACE"),
         9 => rt.eprintln("confd: out of memory"),
         _ => Ok(()),
     };
 }
 
 fn main(rt: HostRuntime) -> ExitCode {
-    let status = match words_of(&rt) {
+    let status = match command_words(&rt) {
         Ok(words) => serve(&rt, &words, rt.stdin(), rt.stdout()).unwrap_or(9),
         Err(WordsFault::Usage) => 1,
         Err(WordsFault::NoMemory) => 9,
