@@ -21,11 +21,11 @@ use Rattle.session_history.specs.declared.turn.Stance.{Stance}
 use Rattle.session_history.specs.declared.turn.Stance.TheVariants.{Operational, Configuring, Out}
 use Rattle.session_history.specs.declared.turn.Turn.{Turn}
 use Rattle.session_history.specs.Told.{Told, Ask, item_of, text_of}
-use Rattle.session_history.specs.Session.{Sides, Served, Delivers, CutsAnswer, CutsLogout, IsInput, IsSession, LogsOut}
+use Rattle.session_history.specs.Session.{Sides, Served, Delivers, CutsAnswer, IsInput, IsSession, LogsOut}
 use Rattle.session_history.proofs.ServedLemmas.{Served-then, flat_map_over_append}
 use Rattle.service.specs.Steps.{Asks, Ends, Finishes, LastTurn, is_whole, text_of_answer}
 use Rattle.service.proofs.StepLemmas.{Served-one, delivers_of}
-use Rattle.service.proofs.GoingLemmas.{Served-none}
+use Rattle.service.proofs.GoingLemmas.{Served-none, cut_text}
 
 -- a session that is logged out has no last turn
 pub finishes_out : (opening : State) (caller : ℕ) (how : How) (faults : ℕ) (sides : Sides) → Finishes opening caller Out how faults faults sides sides
@@ -119,17 +119,6 @@ sink_if_part SinkFault is = refl
 sink_if_part InputFull is = cc
 sink_if_part NoMemory is = cc
 
--- of the answer to the last logout a part was written
-cuts_logout : (opening : State) (caller : ℕ) (asked final : List Told) (whole : Bool) (old mid new : Sides) → Served opening caller true asked old mid → Served opening caller whole final mid new → whole ≡ false → ((one : Told) × (final ≡ one ∷ [])) → CutsLogout asked final old.held new.held
-cuts_logout opening caller asked final whole old mid new front back part one =
-    let text : WrotePart (flat_map text_of final) mid.held new.held = (subst (λ w. Delivers w (flat_map text_of final) mid.held new.held) part back.text) in
-    record {
-      cut = one.0;
-      is_final = one.1;
-      part = subst (λ held. WrotePart (text_of one.0) held new.held) front.text
-          (subst (λ t. WrotePart t mid.held new.held) (ap (flat_map text_of) one.1 ∙ append-nil (text_of one.0)) text);
-    }
-
 not_whole : true ≡ false → ⊥
 not_whole is = cc
 
@@ -162,8 +151,14 @@ IsSession-of opening caller limit how stance source source' feed held first mid_
       written = record {
         cause = λ part. either (finishes.in_part part);
         answer = λ sink. absurd (sounds sink is);
-        logout = λ part. inr (cuts_logout opening caller ends.asked finishes.final finishes.whole old mid new
-            (subst (λ w. Served opening caller w ends.asked old mid) (sym is) ends.served) finishes.served part (finishes.cut part));
+        logout = λ part.
+            let one = finishes.cut part in
+            inr (record {
+              cut = one.0;
+              is_final = one.1;
+              part = cut_text opening caller ends.asked finishes.final finishes.whole old mid new one.0
+                  (subst (λ w. Served opening caller w ends.asked old mid) (sym is) ends.served) finishes.served part one.1;
+            });
       };
       input = closed_input ends.lines stance how limit feed.ahead source feed.left source' held ends.input size is_left;
     }

@@ -5,6 +5,7 @@ use Rattle.std.proofs.lemmas.List.{append-nil}
 use Rattle.std.proofs.Math.Seq.{take-append_seam}
 use Rattle.config_core.specs.State.{State}
 use Rattle.io_edge.specs.declared.lines.Line.{Line}
+use Rattle.io_edge.specs.Ends.{behind}
 use Rattle.io_edge.specs.Feed.{Feed}
 use Rattle.io_edge.specs.Line.{HasNoLf, TellsBoth, IsEndedLine, IsLastLine}
 use Rattle.io_edge.proofs.EndLemmas.{behind-nothing}
@@ -15,7 +16,7 @@ use Rattle.session_history.specs.declared.turn.Stance.TheVariants.{Operational, 
 use Rattle.session_history.specs.Events.{places_of}
 use Rattle.session_history.specs.Told.{Told, Item, item_of, stance_after, text_of}
 use Rattle.session_history.specs.Items.{GoesOn, ReadsAs, item_at}
-use Rattle.session_history.specs.Session.{Sides, Served, TakesAnswers, Delivers, CutsAnswer, IsCut, IsInput, StopsBy}
+use Rattle.session_history.specs.Session.{Sides, Served, TakesAnswers, Delivers, IsCut, IsInput, StopsBy}
 use Rattle.io_edge.specs.Wrote.{WrotePart}
 use Rattle.session_history.proofs.ServedLemmas.{Served-then}
 use Rattle.session_history.proofs.LineLemmas.{TellsBoth-then, ReadsAs-append, IsCut-push, IsCut-empty, IsInput-of}
@@ -234,17 +235,12 @@ whole_or_part opening caller NoMemory told old new served = served
 in_sink : (how : How) → how ≡ SinkFault → is_whole how ≡ false
 in_sink how is = ap is_whole is
 
--- the sink failed at the answer to the last line
-cuts_answer : (opening : State) (caller : ℕ) (so_far told : List Told) (whole : Bool) (old mid new : Sides) → Served opening caller true so_far old mid → Served opening caller whole told mid new → whole ≡ false → ((one : Told) × (told ≡ one ∷ [])) → CutsAnswer (so_far ++ told) old.held new.held
-cuts_answer opening caller so_far told whole old mid new front back part one =
+-- of one more item's text a part was written, and all before it whole
+pub cut_text : (opening : State) (caller : ℕ) (before told : List Told) (whole : Bool) (old mid new : Sides) (one : Told) → Served opening caller true before old mid → Served opening caller whole told mid new → whole ≡ false → told ≡ one ∷ [] → WrotePart (text_of one) (behind old.held (flat_map text_of before)) new.held
+cut_text opening caller before told whole old mid new one front back part is =
     let text : WrotePart (flat_map text_of told) mid.held new.held = (subst (λ w. Delivers w (flat_map text_of told) mid.held new.held) part back.text) in
-    record {
-      before = so_far;
-      cut = one.0;
-      is_asked = ap (λ t. so_far ++ t) one.1;
-      part = subst (λ held. WrotePart (text_of one.0) held new.held) front.text
-          (subst (λ t. WrotePart t mid.held new.held) (ap (flat_map text_of) one.1 ∙ append-nil (text_of one.0)) text);
-    }
+    subst (λ held. WrotePart (text_of one) held new.held) front.text
+    (subst (λ t. WrotePart t mid.held new.held) (ap (flat_map text_of) is ∙ append-nil (text_of one)) text)
 
 -- a session so far, and the step that ends it
 pub SoFar-ends : (opening : State) (caller limit : ℕ) (stance : Stance) (next : Next) (how : How) (left : Option (List ℕ)) (feed feed' : Feed) (old mid new : Sides) → SoFar opening caller limit stance left feed old mid → MovesOn opening caller stance next feed feed' mid new → next.how ≡ Some how → Ends opening caller limit how next.stance left feed' old new
@@ -258,7 +254,13 @@ SoFar-ends opening caller limit stance next how left feed feed' old mid new so_f
       served = Served-then opening caller (is_whole how) so_far.told line.told old mid new so_far.served (subst (λ w. Served opening caller w line.told mid new) (ends_whole next.stance line.whole how next.how ends line.is_how) line.served);
       cut = λ sink.
           let part : line.whole ≡ false = ends_whole next.stance line.whole how next.how ends line.is_how ∙ in_sink how sink in
-          cuts_answer opening caller so_far.told line.told line.whole old mid new so_far.served line.served part (line.cut part);
+          let one = line.cut part in
+          record {
+            before = so_far.told;
+            cut = one.0;
+            is_asked = ap (λ t. so_far.told ++ t) one.1;
+            part = cut_text opening caller so_far.told line.told line.whole old mid new one.0 so_far.served line.served part one.1;
+          };
       input = TellsBoth-then _ (λ x y. x ≡ y) _ (λ x y z cut same. λ held after is_now is_ahead. input_by_line (so_far.lines ++ takes.line ∷ []) next.stance how limit feed'.room feed'.ahead x z (subst (λ n. IsCut (so_far.lines ++ takes.line ∷ []) x limit n feed'.room) same cut) takes.within by held after is_now is_ahead) left feed'.left feed'.left
           (cut_more so_far.lines takes.line limit feed.room feed'.room left feed.left feed'.left so_far.cut takes.given) (told_same feed'.left);
     }

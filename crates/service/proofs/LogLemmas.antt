@@ -16,7 +16,8 @@ use Rattle.config_core.specs.Levels.{Position, is_level_at}
 use Rattle.config_core.specs.Machine.{Fits, Turned, is_configuring, later, with_caller, committed, exited, edited, Moves, IsLost, Changes, IsUnchanged, IsUnprintable, Commits, Serves, Steps}
 use Rattle.session_history.specs.declared.history.Happened.{Happened}
 use Rattle.session_history.specs.Events.{Leads, IsAt, asked_event}
-use Rattle.session_history.proofs.EventLemmas.{Leads-push}
+use Rattle.session_history.proofs.EventLemmas.{Leads-push, at_seam}
+use Rattle.session_history.proofs.OutcomeLemmas.{by_mode}
 use Rattle.service.specs.Log.{Log, IsLog, Adds, opened}
 
 -- there are as many callers after a step as before it
@@ -25,10 +26,6 @@ Keeps s turned = length turned.state.callers ≡ length s.callers
 
 kept_by : (s : State) (turned to : Turned) → turned ≡ to → Keeps s to → Keeps s turned
 kept_by s turned to is same = ap (λ t. length t.state.callers) is ∙ same
-
-by_mode : (b : Bool) (A B P : Type 0) → (A → P) → (B → P) → MatchBool b A B → P
-by_mode true A B P first second so = first so
-by_mode false A B P first second so = second so
 
 either : (s : State) (b : Bool) (x y : Turned) → Keeps s x → Keeps s y → Keeps s (cond b x y)
 either s true x y first second = first
@@ -104,10 +101,6 @@ fits_of core log old caller moment command is same caller_is late = record {
   no_earlier = late;
 }
 
-slice_get-last : {A : Type 0} → (xs : List A) (x : A) → slice_get (xs ++ x ∷ []) (length xs) ≡ Some x
-slice_get-last [] x = refl
-slice_get-last (y ∷ xs) x = slice_get-last xs x
-
 -- the log with one more event
 abbrev pub with_event : Log → Happened → Log
 with_event log event = record log { events = log.events ++ event ∷ [] }
@@ -125,7 +118,7 @@ Adds-more core log caller answer moment command turned place reply is late steps
     let events : List Happened = log.events ++ event ∷ [] in
     let there : IsAt (opened log) events place core event reply = record {
       within = omega (arith, at_end, length-append log.events (event ∷ []));
-      is = ap (λ p. slice_get events p) at_end ∙ slice_get-last log.events event;
+      is = ap (λ p. slice_get events p) at_end ∙ at_seam log.events [] event;
       leads = subst (λ front. Leads (opened log) front core) (sym (ap (λ p. take p events) at_end ∙ take-append_seam log.events (event ∷ []))) is;
       turned = turned;
       steps = steps;

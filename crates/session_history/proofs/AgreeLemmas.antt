@@ -1,9 +1,8 @@
 -- Two sessions over the same bytes and the same clock that nothing disturbs are told the same.
-use Rattle.std.proofs.Common.{◌≡◌, ℕ, ◌+◌, ◌<◌, ◌≤◌, ◌⊎◌, List, [], ◌∷◌, ◌++◌, length, map, take, drop, min, max, cond, eqb, eq-eqb, Bool, true, false, refl, sym, ap, subst, ◌∙◌, append_assoc, arith, Option, None, Some, inl, inr, slice_get}
+use Rattle.std.proofs.Common.{◌≡◌, ℕ, ◌+◌, ◌<◌, ◌⊎◌, List, [], ◌∷◌, ◌++◌, length, map, take, drop, max, cond, eqb, eq-eqb, Bool, true, false, refl, sym, ap, subst, ◌∙◌, append_assoc, arith, Option, None, Some, inl, inr}
 use Rattle.std.specs.List.{flat_map, AllByRecursion}
 use Rattle.std.proofs.Math.Seq.{take-append_seam}
 use Rattle.std.proofs.lemmas.List.{append-nil, length-append, length-take, length-drop, take-append-drop}
-use Rattle.cfg_base.specs.Counts.{Rose}
 use Rattle.cfg_base.specs.declared.command.Command.{Command}
 use Rattle.config_core.specs.declared.reply.Reply.{Reply}
 use Rattle.config_core.specs.State.{State}
@@ -16,14 +15,15 @@ use Rattle.session_history.specs.declared.turn.How.{How}
 use Rattle.session_history.specs.declared.turn.How.TheVariants.{Clean, InputFull}
 use Rattle.session_history.specs.declared.turn.Stance.{Stance}
 use Rattle.session_history.specs.declared.turn.Stance.TheVariants.{Operational, Configuring, Out}
-use Rattle.session_history.specs.declared.turn.Turn.{Turn}
 use Rattle.session_history.specs.declared.turn.Turn.TheVariants.{NoMemory}
 use Rattle.session_history.specs.Events.{Leads, IsAt, IsAsked, asked_event, places_from, places_of}
-use Rattle.session_history.specs.Told.{Told, Item, Ask, Answered, Refuses, Unanswered, item_of, turn_of, answer_of, text_of, places_told, stance_after, IsTrueOf}
+use Rattle.session_history.specs.Told.{Told, Item, Answered, Refuses, Unanswered, item_of, turn_of, answer_of, text_of, places_told, stance_after, IsTrueOf}
 use Rattle.session_history.specs.Items.{GoesOn, ReadsAs, item_at}
 use Rattle.session_history.specs.Session.{Sides, Delivers, AnswersAre, TakesAnswers, ended, last_lines, IsCut, IsInput, StopsBy, LogsOut}
 use Rattle.session_history.specs.Undisturbed.{Undisturbed, RepliesAgree}
+use Rattle.session_history.proofs.EventLemmas.{at_seam}
 use Rattle.session_history.proofs.LineLemmas.{IsCut-empty}
+use Rattle.session_history.proofs.OutcomeLemmas.{same_some}
 
 -- the first of the lines, and the others
 pub record Splits (line : Line) (lines : List Line) (bytes : List ℕ) (room : ℕ) (rest : List ℕ) (left : ℕ) : Type 0 where
@@ -286,13 +286,6 @@ none_own caller [] n same own = refl
 none_own caller (event ∷ rest) n same own =
     let both : [] ≡ n ∷ places_from (n + 1) caller rest = same ∙ places_own caller n event rest own.0 in
     cc
-
-at_seam : (front rest : List Happened) (event : Happened) → slice_get (front ++ event ∷ rest) (length front) ≡ Some event
-at_seam [] rest event = refl
-at_seam (first ∷ front) rest event = at_seam front rest event
-
-same_some : {A : Type 0} (a b : A) → Some a ≡ Some b → a ≡ b
-same_some a b e = cc
 
 -- what is at a place doesn't hang on what comes behind it
 IsAt-front : (opening : State) (front rest : List Happened) (event e : Happened) (before : State) (reply : Reply) → IsAt opening (front ++ event ∷ rest) (length front) before e reply → IsAt opening (front ++ event ∷ []) (length front) before e reply

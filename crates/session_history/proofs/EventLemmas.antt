@@ -1,5 +1,5 @@
 -- A history that grows at its end.
-use Rattle.std.proofs.Common.{◌≡◌, ℕ, ◌+◌, ◌<◌, List, [], ◌∷◌, ◌++◌, length, true, false, cond, eqb, refl, sym, ap, subst, ◌∙◌, zero, suc, add-zero, eq-eqb, arith, slice_get}
+use Rattle.std.proofs.Common.{◌≡◌, ℕ, ◌+◌, ◌<◌, List, [], ◌∷◌, ◌++◌, length, true, false, cond, eqb, refl, sym, ap, subst, ◌∙◌, zero, suc, add-zero, eq-eqb, arith, slice_get, Some}
 use Rattle.std.specs.List.{AllByRecursion}
 use Rattle.std.proofs.lemmas.List.{take-append-le, length-append}
 use Rattle.config_core.specs.declared.reply.Reply.{Reply}
@@ -21,6 +21,11 @@ slice_get-append : {A : Type 0} → (xs ys : List A) (place : ℕ) → place < l
 slice_get-append [] ys place within = absurd (omega arith)
 slice_get-append (x ∷ xs) ys zero within = refl
 slice_get-append (x ∷ xs) ys (suc place) within = slice_get-append xs ys place (omega arith)
+
+-- what stands between two parts is at the first one's length
+pub at_seam : {A : Type 0} → (front rest : List A) (x : A) → slice_get (front ++ x ∷ rest) (length front) ≡ Some x
+at_seam [] rest x = refl
+at_seam (first ∷ front) rest x = at_seam front rest x
 
 -- what is at a place stays so
 pub IsAt-append : (s : State) (events more : List Happened) (place : ℕ) (before : State) (event : Happened) (reply : Reply) → IsAt s events place before event reply → IsAt s (events ++ more) place before event reply

@@ -52,7 +52,7 @@ Stands turned = Stand turned.state.callers
 stands_by : (turned to : Turned) → turned ≡ to → Stands to → Stands turned
 stands_by turned to is stand = subst Stands (sym is) stand
 
-by_mode : (b : Bool) (A B P : Type 0) → (A → P) → (B → P) → MatchBool b A B → P
+pub by_mode : (b : Bool) (A B P : Type 0) → (A → P) → (B → P) → MatchBool b A B → P
 by_mode true A B P first second so = first so
 by_mode false A B P first second so = second so
 
@@ -137,7 +137,7 @@ leads_stand s [] last stand leads = subst (λ x. Stand x.callers) (sym leads) st
 leads_stand s (event ∷ events) last stand leads =
     leads_stand leads.1.state events last (steps_stand s event.caller event.moment event.event leads.1 stand leads.2) leads.3
 
-same_some : {A : Type 0} (a b : A) → Some a ≡ Some b → a ≡ b
+pub same_some : {A : Type 0} (a b : A) → Some a ≡ Some b → a ≡ b
 same_some a b e = cc
 
 module _ (step_once : (s : State) (caller moment : ℕ) (event : Event) (one other : Turned) → IsLevelPath (level_of s caller)

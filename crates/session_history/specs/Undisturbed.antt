@@ -8,7 +8,6 @@ use Rattle.config_core.specs.State.{State}
 use Rattle.session_history.specs.declared.history.Happened.{Happened}
 use Rattle.session_history.specs.declared.turn.How.{How}
 use Rattle.session_history.specs.declared.turn.How.TheVariants.{Clean, InputFull}
-use Rattle.session_history.specs.declared.turn.Turn.{Turn}
 use Rattle.session_history.specs.declared.turn.Turn.TheVariants.{NoMemory}
 use Rattle.session_history.specs.Events.{places_of, IsAsked}
 use Rattle.session_history.specs.Session.{Sides, IsSession}

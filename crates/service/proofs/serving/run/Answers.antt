@@ -1,5 +1,6 @@
 use Rattle.std.proofs.Common.{◌≡◌, true, sym, subst, ◌∙◌, inr, rules}
 use Rattle.cfg_base.specs.Counts.{Rose}
+use Rattle.service.specs.declared.serving.TheConstants.{INPUT_LIMIT}
 use Rattle.service.specs.Run.{IsServe}
 use Rattle.service.proofs.RunLemmas.{status_is_not_1, one_of, complete_of, same_one}
 use Rattle.service.proofs.serving.run.Goals as goal
@@ -24,6 +25,6 @@ pub returns-in-Ok-clause-complete : goal.returns-in-Ok-clause-complete
 returns-in-Ok-clause-complete g c = λ old new one back serve no_source no_sink fits.
     let out = c.serve_one.ensures.served old one in
     let same : out.0 ≡ new = same_one c.serve_one.result.ends.items out.0 new out.2 back in
-    complete_of g.S.Source.left g.S.Source.faults g.K.Sink.held g.K.Sink.faults g.C.Clock.coming 16777216 old out.0 out.1 c.serve_one.result.history c.serve_one.result.status out.4
+    complete_of g.S.Source.left g.S.Source.faults g.K.Sink.held g.K.Sink.faults g.C.Clock.coming INPUT_LIMIT old out.0 out.1 c.serve_one.result.history c.serve_one.result.status out.4
     (subst (λ e. Rose (g.S.Source.faults old.source) (g.S.Source.faults e.source) → ⊥) (sym same) no_source)
     (subst (λ e. Rose (g.K.Sink.faults old.sink) (g.K.Sink.faults e.sink) → ⊥) (sym same) no_sink) fits
