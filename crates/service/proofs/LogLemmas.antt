@@ -1,5 +1,5 @@
 -- A log that grows by one event.
-use Rattle.std.proofs.Common.{◌≡◌, ℕ, ◌-◌, ◌<◌, ◌≤◌, ◌⊎◌, List, [], ◌∷◌, ◌++◌, length, map, take, max, Bool, true, false, MatchBool, cond, refl, sym, ap, subst, ◌∙◌, arith, suc, nat_lt, Option, None, Some, inl, inr, slice_get}
+use Rattle.std.proofs.Common.{◌≡◌, ℕ, ◌-◌, ◌<◌, ◌≤◌, ◌⊎◌, List, [], ◌∷◌, ◌++◌, length, map, take, max, Bool, true, false, cond, refl, sym, ap, subst, ◌∙◌, arith, suc, nat_lt, Option, None, Some, inl, inr, slice_get}
 use Rattle.std.proofs.lemmas.List.{length-append}
 use Rattle.std.proofs.Math.Seq.{take-append_seam}
 use Rattle.std.proofs.Math.ListN.{length-set}
