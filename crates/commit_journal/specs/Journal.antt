@@ -1,6 +1,7 @@
 -- What a contract sees of a journal on two disks.
 use Rattle.std.specs.Prelude.{◌≡◌, ◌≤◌, ◌<◌, ◌+◌, ◌-◌, ◌^◌, ◌⊎◌, min, Bool, IsTrue, ℕ, List, [], ◌∷◌, ◌++◌, length}
-use Rattle.disk_model.specs.Disk.{History, state_of, contents_of, IsImage, Rose}
+use Rattle.cfg_base.specs.Counts.{Rose}
+use Rattle.disk_model.specs.Disk.{History, state_of, contents_of, IsImage}
 use Rattle.record_code.specs.Record.{Record, body}
 use Rattle.commit_journal.specs.declared.flight.Flight.{Flight}
 use Rattle.commit_journal.specs.declared.flight.Flight.TheVariants.{Nothing, Record as InFlight}
@@ -62,6 +63,13 @@ a_of history v = first_of v.b_counts (history v.counting) (history v.other)
 
 abbrev pub b_of : {D : Type 0} → (D → History) → JournalView D → History
 b_of history v = second_of v.b_counts (history v.counting) (history v.other)
+
+-- the disk of A, and that of B
+abbrev pub disk_a : {D : Type 0} → JournalView D → D
+disk_a v = first_of v.b_counts v.counting v.other
+
+abbrev pub disk_b : {D : Type 0} → JournalView D → D
+disk_b v = second_of v.b_counts v.counting v.other
 
 -- each pair of images since the old journal has P
 abbrev pub LeavesBoth : {D : Type 0} → (D → History) → JournalView D → JournalView D → (List ℕ → List ℕ → Type 0) → Type 0

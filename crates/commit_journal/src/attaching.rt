@@ -1,9 +1,5 @@
-ghost use Rattle.std.specs.Prelude.{◌≡◌, ◌⊎◌, IsTrue, IfOk, IfErr};
-ghost use Rattle.disk_model.specs.Disk.{contents_of, Rose};
-ghost use Rattle.commit_journal.specs.Journal.{Has, IsIdle, a_of, b_of};
-ghost use Rattle.record_code.specs.Reading.{first_gate};
-ghost use Rattle.commit_journal.specs.Pair.{Only, PairSpells};
-ghost use Rattle.commit_journal.specs.Attach.{records_of, PlacedFrom, ExplainsPair, IsFree, IsOwed};
+ghost use Rattle.std.specs.Prelude.{IfOk, IfErr};
+ghost use Rattle.commit_journal.specs.Opening.{IsOpened, IsAttached, IsNotAttached};
 
 use crate::flight::Flight;
 use crate::journal::Journal;
@@ -29,36 +25,10 @@ impl<D: Disk> Journal<D> {
         b: D,
         limit: u64,
     ) -> Result<(Journal<D>, Payloads), AttachFault<D>>
-        ensures has { IsTrue (D.tells a) → IsTrue (D.tells b) → IfOk result (λ opened.
-            Has D.history opened.0 (records_of opened.1)) }
-        ensures contents { IsTrue (D.tells a) → IsTrue (D.tells b) → IfOk result (λ opened.
-            (contents_of (a_of D.history opened.0) ≡ contents_of (D.history a))
-            × (contents_of (b_of D.history opened.0) ≡ contents_of (D.history b))) }
-        // The records are those that the files spell.
-        ensures spelled { IsTrue (D.tells a) → IsTrue (D.tells b) → IfOk result (λ opened.
-            PairSpells (contents_of (D.history a)) (contents_of (D.history b)) (records_of opened.1)) }
-        // Each with the place of its gate.
-        ensures places { IfOk result (λ opened. PlacedFrom first_gate opened.1 opened.0.gate) }
-        // Each pair of images spells the list, and no other.
-        ensures only { IsTrue (D.tells a) → IsTrue (D.tells b) → IfOk result (λ opened.
-            Only (a_of D.history opened.0) (b_of D.history opened.0) (records_of opened.1)) }
-        ensures idle { IfOk result (λ opened. IsIdle opened.0) }
-        ensures limit { IfOk result (λ opened. opened.0.limit ≡ limit) }
-        ensures calls { IfOk result (λ opened.
-            (opened.0.counting_calls ≡ 0) × (opened.0.other_calls ≡ 0)) }
-        // It is Ok only where no cause to refuse the files holds.
-        ensures free { IsTrue (D.tells a) → IsTrue (D.tells b) → IfOk result (λ _.
-            IsFree (contents_of (D.history a)) (contents_of (D.history b))) }
-        // Where a cause holds, a refusal by the bytes is the one of that cause.
-        ensures owed { IsTrue (D.tells a) → IsTrue (D.tells b) → IfErr result (λ fault.
-            IsOwed (contents_of (D.history a)) (contents_of (D.history b)) fault.why) }
-        ensures err { IsTrue (D.tells a) → IsTrue (D.tells b) → IfErr result (λ fault.
-            ExplainsPair (contents_of (D.history a)) (contents_of (D.history b)) fault.why) }
-        ensures unchanged { IsTrue (D.tells a) → IsTrue (D.tells b) → IfErr result (λ fault.
-            (contents_of (D.history fault.a) ≡ contents_of (D.history a))
-            × (contents_of (D.history fault.b) ≡ contents_of (D.history b))) }
-        ensures cause { IfErr result (λ fault. fault.why ≡ AttachWhy.DiskFault →
-            Rose (D.faults a) (D.faults fault.a) ⊎ Rose (D.faults b) (D.faults fault.b)) }
+        ensures ok { IfOk result (λ opened. IsOpened D.tells D.faults a b limit opened.0) }
+        ensures read { IfOk result (λ opened. IsAttached D.tells D.history a b opened.1 opened.0) }
+        ensures err { IfErr result (λ fault.
+            IsNotAttached D.tells D.history D.faults a b fault.why fault.a fault.b) }
     {
         let mut a = a;
         let mut b = b;

@@ -1,9 +1,10 @@
-ghost use Rattle.std.specs.Prelude.{◌≡◌, ◌≤◌, ◌<◌, ◌+◌, ◌^◌, ◌++◌, ◌∷◌, [], ◌⊎◌, ◌↔◌, false, OnOk, List, ℕ, length, IsTrue, IfOk, IfErr, IfSome, IsNone, IsErrOf};
-ghost use Rattle.disk_model.specs.Disk.{contents_of, put, HasCause, Rose};
+ghost use Rattle.std.specs.Prelude.{◌≡◌, ◌≤◌, ◌<◌, ◌+◌, ◌^◌, ◌++◌, ◌∷◌, [], ◌⊎◌, ◌↔◌, false, true, OnOk, List, ℕ, length, IsTrue, IfOk, IfErr, IfSome, IsNone, IsErrOf};
+ghost use Rattle.disk_model.specs.Disk.{contents_of, put, HasCause, Write, Sync, GoesOn, MadePart};
 ghost use Rattle.record_code.specs.Record.{Record, IsSound, body};
-ghost use Rattle.commit_journal.specs.Pair.{IsQuiet, IsSettled, IsChosen, Only, head_a, head_b};
-ghost use Rattle.commit_journal.specs.Journal.{PairCause, Has, IsIdle, a_of, b_of};
+ghost use Rattle.commit_journal.specs.Pair.{IsQuiet, IsSettled, IsChosen, head_a, head_b};
+ghost use Rattle.commit_journal.specs.Journal.{PairCause};
 ghost use Rattle.commit_journal.specs.Attach.{IsThere, IsHeaderOf};
+ghost use Rattle.commit_journal.specs.Opening.{IsOpened, IsCreated, IsNotCreated, making_b};
 
 use crate::appending::OPEN;
 use crate::flight::Flight;
@@ -21,6 +22,10 @@ pub(crate) fn write_and_sync<D: Disk>(disk: &mut D, at: u64, piece: &[u8]) -> Di
     ensures contents { result ≡ DiskDone.Done → IsTrue (D.tells disk.old) →
         contents_of (D.history disk.new) ≡ put at piece.now (contents_of (D.history disk.old)) }
     ensures quiet { result ≡ DiskDone.Done → IsTrue (D.tells disk.old) → IsQuiet (D.history disk.new) }
+    ensures made { result ≡ DiskDone.Done → IsTrue (D.tells disk.old) →
+        GoesOn (D.history disk.old) (Write at piece.now true ∷ Sync true ∷ []) (D.history disk.new) }
+    ensures part { IsTrue (D.tells disk.old) →
+        MadePart (D.history disk.old) (Write at piece.now true ∷ Sync true ∷ []) (D.history disk.new) }
     ensures bound { result ≡ DiskDone.Done → at + length piece.now ≤ 2 ^ 62 }
     ensures cause { HasCause (D.faults disk.old) (D.faults disk.new) (result ≡ DiskDone.Failed) }
 {
@@ -81,6 +86,14 @@ fn write_files<D: Disk>(a: &mut D, b: &mut D, image: &[u8]) -> DiskDone
         contents_of (D.history b.new) ≡ put 0 head_b (contents_of (D.history b.old)) }
     ensures quiet { result ≡ DiskDone.Done → IsTrue (D.tells a.old) → IsQuiet (D.history a.new) }
     ensures other_quiet { result ≡ DiskDone.Done → IsTrue (D.tells b.old) → IsQuiet (D.history b.new) }
+    ensures made { result ≡ DiskDone.Done → IsTrue (D.tells a.old) → GoesOn (D.history a.old)
+        (Write 0 image.now true ∷ Sync true ∷ (Write 16 (1 ∷ []) true ∷ Sync true ∷ [])) (D.history a.new) }
+    ensures other_made { result ≡ DiskDone.Done → IsTrue (D.tells b.old) →
+        GoesOn (D.history b.old) making_b (D.history b.new) }
+    ensures part { IsTrue (D.tells a.old) → MadePart (D.history a.old)
+        (Write 0 image.now true ∷ Sync true ∷ (Write 16 (1 ∷ []) true ∷ Sync true ∷ [])) (D.history a.new) }
+    ensures other_part { IsTrue (D.tells b.old) →
+        MadePart (D.history b.old) making_b (D.history b.new) }
     ensures bound { result ≡ DiskDone.Done → length image.now ≤ 2 ^ 62 }
     ensures cause { PairCause (D.faults a.old) (D.faults a.new)
         (D.faults b.old) (D.faults b.new) (result ≡ DiskDone.Failed) }
@@ -105,6 +118,16 @@ pub(crate) fn make_files<D: Disk>(
     ensures tells { D.tells a.new ≡ D.tells a.old }
     ensures other_tells { D.tells b.new ≡ D.tells b.old }
     ensures bound { OnOk result (17 + length entry.now < 2 ^ 62) }
+    ensures made { IsTrue (D.tells a.old) → OnOk result (GoesOn (D.history a.old)
+        (Write 0 (head_a ++ entry.now) true ∷ Sync true ∷ (Write 16 (1 ∷ []) true ∷ Sync true ∷ []))
+        (D.history a.new)) }
+    ensures other_made { IsTrue (D.tells b.old) → OnOk result
+        (GoesOn (D.history b.old) making_b (D.history b.new)) }
+    ensures part { IsTrue (D.tells a.old) → MadePart (D.history a.old)
+        (Write 0 (head_a ++ entry.now) true ∷ Sync true ∷ (Write 16 (1 ∷ []) true ∷ Sync true ∷ []))
+        (D.history a.new) }
+    ensures other_part { IsTrue (D.tells b.old) →
+        MadePart (D.history b.old) making_b (D.history b.new) }
     ensures settled { IsTrue (D.tells a.old) → OnOk result ((r : Record) → IsSound r
         → entry.now ≡ body 0 r
         → IsSettled (D.history a.new) (r ∷ []) (17 + length entry.now)) }
@@ -117,7 +140,10 @@ pub(crate) fn make_files<D: Disk>(
     ensures exists { IsTrue (D.tells a.old) → IsTrue (D.tells b.old)
         → IsErrOf result CreateWhy.Exists
         → IsThere (contents_of (D.history a.old)) (contents_of (D.history b.old)) }
-    ensures unchanged { IsErrOf result CreateWhy.Exists
+    ensures unchanged { IsErrOf result CreateWhy.Exists ⊎ IsErrOf result CreateWhy.NoMemory
+        → (D.history a.new ≡ D.history a.old) × (D.history b.new ≡ D.history b.old) }
+    ensures spared { IsTrue (D.tells a.old) → IsTrue (D.tells b.old)
+        → IsThere (contents_of (D.history a.old)) (contents_of (D.history b.old))
         → (D.history a.new ≡ D.history a.old) × (D.history b.new ≡ D.history b.old) }
     ensures cause { PairCause (D.faults a.old) (D.faults a.new)
         (D.faults b.old) (D.faults b.new) (IsErrOf result CreateWhy.DiskFault) }
@@ -147,25 +173,10 @@ impl<D: Disk> Journal<D> {
         limit: u64,
     ) -> Result<Journal<D>, CreateFault<D>>
         requires { length first.now ≡ 1 }
-        ensures has { IsTrue (D.tells a) → IsTrue (D.tells b) → IfOk result (λ journal.
-            (r : Record) → first.now ≡ r ∷ [] → Has D.history journal (r ∷ [])) }
-        // Each pair of images spells the list of that record, and no other.
-        ensures only { IsTrue (D.tells a) → IsTrue (D.tells b) → IfOk result (λ journal.
-            (r : Record) → first.now ≡ r ∷ []
-            → Only (a_of D.history journal) (b_of D.history journal) (r ∷ [])) }
-        ensures calls { IfOk result (λ journal.
-            (journal.counting_calls ≡ 0) × (journal.other_calls ≡ 0)) }
-        ensures idle { IfOk result (λ journal. IsIdle journal) }
-        ensures limit { IfOk result (λ journal. journal.limit ≡ limit) }
-        ensures free { IsTrue (D.tells a) → IsTrue (D.tells b) → OnOk result
-            (IsThere (contents_of (D.history a)) (contents_of (D.history b)) → ⊥) }
-        ensures exists { IsTrue (D.tells a) → IsTrue (D.tells b) → IfErr result (λ fault.
-            fault.why ≡ CreateWhy.Exists
-            → IsThere (contents_of (D.history a)) (contents_of (D.history b))) }
-        ensures unchanged { IfErr result (λ fault. fault.why ≡ CreateWhy.Exists
-            → (D.history fault.a ≡ D.history a) × (D.history fault.b ≡ D.history b)) }
-        ensures cause { IfErr result (λ fault. fault.why ≡ CreateWhy.DiskFault →
-            Rose (D.faults a) (D.faults fault.a) ⊎ Rose (D.faults b) (D.faults fault.b)) }
+        ensures ok { IfOk result (λ journal. IsOpened D.tells D.faults a b limit journal) }
+        ensures made { IfOk result (λ journal. IsCreated D.tells D.history a b first.now journal) }
+        ensures err { IfErr result (λ fault.
+            IsNotCreated D.tells D.history D.faults a b first.now fault.why fault.a fault.b) }
     {
         let mut a = a;
         let mut b = b;

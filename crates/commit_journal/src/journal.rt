@@ -1,15 +1,15 @@
 ghost use Rattle.std.specs.Prelude.{◌≡◌, ◌≤◌, ◌<◌, ◌+◌, ◌++◌, ◌∷◌, [], List, length, IsTrue, OnOk, OnErr, IsErr, IfOk, ◌↔◌};
 ghost use Rattle.disk_model.specs.Disk.{contents_of};
 ghost use Rattle.record_code.specs.Reading.{byte};
-ghost use Rattle.record_code.specs.Record.{Record};
+ghost use Rattle.record_code.specs.Record.{Record, bodies};
 ghost use Rattle.commit_journal.specs.Pair.{SpellsEither, Only, WasLeft, first_of, second_of};
 ghost use Rattle.commit_journal.specs.Journal.{Tell, IsIdle, IsInFlight, Has, Awaits, LeavesBoth, PairCause, a_of, b_of, HasSettled, settled_list, counted, CountsCalls};
 
 use crate::appending::append_to;
-use crate::calls::Calls;
 use crate::fault::DiskFault;
 use crate::flight::Flight;
 use crate::settling::{Settled, settle_files};
+use cfg_base::Calls;
 use disk_model::{Disk, DiskDone};
 use record_code::Encoded;
 use std::marker::Model;
@@ -71,6 +71,8 @@ impl<D: Disk> Journal<D> {
         ensures ok_idle { OnOk result (IsIdle self.new) }
         ensures err_flight { OnErr result (IsInFlight self.new.flight) }
         ensures other { self.new.other ≡ self.old.other }
+        ensures gate { OnOk result (self.new.gate ≡ self.old.gate + length (bodies body.now)) }
+        ensures err_gate { OnErr result (self.new.gate ≡ self.old.gate) }
         ensures calls { IsTrue (D.tells self.old.counting) → CountsCalls (D.history self.old.counting)
             (D.history self.new.counting) self.old.counting_calls self.new.counting_calls }
         ensures four_calls { OnOk result

@@ -9,7 +9,6 @@
 
 mod appending;
 mod attaching;
-mod calls;
 mod causes;
 mod creating;
 mod fault;
@@ -22,8 +21,8 @@ mod settling;
 mod why;
 
 pub use attaching::AttachFault;
-pub use calls::Calls;
 pub use causes::causes_exclude_each_other;
+pub use cfg_base::Calls;
 pub use fault::DiskFault;
 pub use flight::Flight;
 pub use journal::Journal;

@@ -1,5 +1,5 @@
 ghost use Rattle.std.specs.Prelude.{◌≡◌, ◌<◌, ◌^◌, ◌⊎◌, ◌↔◌, List, ℕ, ◌==◌, false, true, IsTrue, IsOk, IfOk, IfErr, IsErrOf};
-ghost use Rattle.disk_model.specs.Disk.{contents_of};
+ghost use Rattle.disk_model.specs.Disk.{contents_of, Sync, Called, MaySync};
 ghost use Rattle.record_code.specs.Reading.{Spells};
 ghost use Rattle.commit_journal.specs.Pair.{IsPair, PairSpells, Only, b_counts, IsQuiet, FileSettles};
 ghost use Rattle.commit_journal.specs.Attach.{records_of, PlacedFrom, ExplainsPair, ExplainsFile, IsHeaderOf};
@@ -18,6 +18,12 @@ pub(crate) fn sync_both<D: Disk>(a: &mut D, b: &mut D) -> DiskDone
     ensures other_tells { D.tells b.new ≡ D.tells b.old }
     ensures settles { IsTrue (D.tells a.old) → FileSettles (D.history a.old) (D.history a.new) }
     ensures other_settles { IsTrue (D.tells b.old) → FileSettles (D.history b.old) (D.history b.new) }
+    ensures synced { result ≡ DiskDone.Done → IsTrue (D.tells a.old) →
+        Called (D.history a.old) (Sync true) (D.history a.new) }
+    ensures other_synced { result ≡ DiskDone.Done → IsTrue (D.tells b.old) →
+        Called (D.history b.old) (Sync true) (D.history b.new) }
+    ensures may { IsTrue (D.tells a.old) → MaySync (D.history a.old) (D.history a.new) }
+    ensures other_may { IsTrue (D.tells b.old) → MaySync (D.history b.old) (D.history b.new) }
     ensures quiet { result ≡ DiskDone.Done → IsTrue (D.tells a.old) → IsQuiet (D.history a.new) }
     ensures other_quiet { result ≡ DiskDone.Done → IsTrue (D.tells b.old) → IsQuiet (D.history b.new) }
     ensures cause { PairCause (D.faults a.old) (D.faults a.new)
@@ -111,6 +117,12 @@ pub(crate) fn open_files<D: Disk>(alloc: Global, a: &mut D, b: &mut D) -> Result
     ensures other_tells { D.tells b.new ≡ D.tells b.old }
     ensures settles { IsTrue (D.tells a.old) → FileSettles (D.history a.old) (D.history a.new) }
     ensures other_settles { IsTrue (D.tells b.old) → FileSettles (D.history b.old) (D.history b.new) }
+    ensures synced { IsTrue (D.tells a.old) → IsOk result →
+        Called (D.history a.old) (Sync true) (D.history a.new) }
+    ensures other_synced { IsTrue (D.tells b.old) → IsOk result →
+        Called (D.history b.old) (Sync true) (D.history b.new) }
+    ensures may { IsTrue (D.tells a.old) → MaySync (D.history a.old) (D.history a.new) }
+    ensures other_may { IsTrue (D.tells b.old) → MaySync (D.history b.old) (D.history b.new) }
     ensures bound { IfOk result (λ opened. opened.listed.gate < 2 ^ 62) }
     ensures places { IfOk result (λ opened.
         PlacedFrom 17 opened.listed.payloads opened.listed.gate) }

@@ -1,5 +1,5 @@
 ghost use Rattle.std.specs.Prelude.{◌≡◌, ◌<◌, ◌==◌, ℕ, length, IsTrue, IsSome, IfSome, IsNone, slice_index};
-ghost use Rattle.disk_model.specs.Disk.{contents_of, HasCause};
+ghost use Rattle.disk_model.specs.Disk.{contents_of, HasCause, Synced};
 ghost use Rattle.record_code.specs.Reading.{slice, byte};
 ghost use Rattle.commit_journal.specs.Pair.{IsQuiet, FileSettles, MadeCalls};
 ghost use Rattle.commit_journal.specs.Journal.{PairCause};
@@ -17,6 +17,8 @@ pub enum Settled {
 /// Syncs one file, after which a crash leaves what a read gives.
 pub(crate) fn sync_file<D: Disk>(disk: &mut D) -> DiskDone
     ensures tells { D.tells disk.new ≡ D.tells disk.old }
+    ensures synced { IsTrue (D.tells disk.old) →
+        Synced (D.history disk.old) (result ≡ DiskDone.Done) (D.history disk.new) }
     ensures settles { IsTrue (D.tells disk.old) →
         FileSettles (D.history disk.old) (D.history disk.new) }
     ensures quiet { result ≡ DiskDone.Done → IsTrue (D.tells disk.old) → IsQuiet (D.history disk.new) }

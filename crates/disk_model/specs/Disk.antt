@@ -1,5 +1,6 @@
 -- A disk under its calls of `write_at` and `sync`, and what a crash may leave of it. The model is this project's own.
 use Rattle.std.specs.Prelude.{◌≡◌, ◌<◌, ◌≤◌, ◌-◌, ◌+◌, ◌^◌, ◌⊎◌, ◌&&◌, ◌||◌, Bool, true, false, nat_lt, nat_le, min, ℕ, List, [], ◌∷◌, ◌++◌, length, take, drop, slice_get, Some}
+use Rattle.cfg_base.specs.Counts.{Rose}
 use Rattle.disk_model.specs.declared.disk.DiskLen.{DiskLen}
 use Rattle.disk_model.specs.declared.disk.DiskLen.TheVariants.{Len, Failed as LenFailed}
 use Rattle.disk_model.specs.declared.disk.DiskRead.{DiskRead}
@@ -115,6 +116,11 @@ pub record Called (h : History) (call : Call) (h' : History) : Type 0 where
   pub first : h'.first ≡ h.first
   pub calls : h'.calls ≡ h.calls ++ call ∷ []
 
+-- a history that goes on by these calls
+pub record GoesOn (h : History) (more : List Call) (h' : History) : Type 0 where
+  pub first : h'.first ≡ h.first
+  pub calls : h'.calls ≡ h.calls ++ more
+
 -- a count of calls that stands at its last value stays
 pub record Uncounted (h h' : History) : Type 0 where
   pub last : 2 ^ 64 - 1 ≤ length h.calls
@@ -134,15 +140,26 @@ Wrote h at bytes done h' =
 abbrev pub Synced : History → Type 0 → History → Type 0
 Synced h done h' = Called h (Sync true) h' ⊎ ((done → ⊥) × (Called h (Sync false) h' ⊎ DidNothing h h'))
 
+-- one sync at most, done or failed, and no write
+abbrev pub MaySync : History → History → Type 0
+MaySync h h' = (h' ≡ h) ⊎ Synced h ⊥ h'
+
+-- a call that was tried and failed
+abbrev pub Tried : History → Call → History → Type 0
+Tried h (Write at bytes took) h' = Wrote h at bytes ⊥ h'
+Tried h (Sync cleared) h' = Synced h ⊥ h'
+Tried h Refused h' = DidNothing h h'
+
+-- the first of these calls, of which only the last one made may have failed
+abbrev pub MadePart : History → List Call → History → Type 0
+MadePart h [] h' = h' ≡ h
+MadePart h (call ∷ calls) h' = (h' ≡ h) ⊎ (Tried h call h' ⊎ ((m : History) × Called h call m × MadePart m calls h'))
+
 -- the first n bytes are those that stand at a place, as many as there are, and the rest are as before
 pub record Gives (file : List ℕ) (at n : ℕ) (before into : List ℕ) : Type 0 where
   pub count : n ≡ min (length before) (length file - at)
   pub bytes : take n into ≡ take n (drop at file)
   pub rest : drop n into ≡ drop n before
-
--- a count of faults rose; one that stands at its last value can't rise further
-abbrev pub Rose : ℕ → ℕ → Type 0
-Rose before now = (before < now) ⊎ (2 ^ 64 - 1 ≤ before)
 
 -- a count of faults doesn't fall, and a failure comes only where it rose
 pub record HasCause (before now : ℕ) (failed : Type 0) : Type 0 where

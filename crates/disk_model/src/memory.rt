@@ -1,4 +1,4 @@
-ghost use Rattle.std.specs.Prelude.{◌≡◌, ◌≤◌, ◌+◌, ◌-◌, ◌^◌, ◌↔◌, ◌++◌, ◌∷◌, [], ℕ, length, min, is_none, true, false, IfOk, IsTrue};
+ghost use Rattle.std.specs.Prelude.{◌≡◌, ◌≤◌, ◌<◌, ◌+◌, ◌-◌, ◌^◌, ◌↔◌, ◌++◌, ◌∷◌, [], ℕ, length, min, is_none, true, false, IfOk, IsTrue};
 ghost use Rattle.std.specs.Prelude.{◌==◌};
 ghost use Rattle.std.specs.List.{list_any};
 ghost use Rattle.disk_model.specs.Disk.{History, Call, Write, Sync, Refused, contents_of};
@@ -298,6 +298,8 @@ impl Disk for MemDisk {
         requires { IsTrue true → at ≤ length (contents_of self.old.history) }
         ensures tells { true ≡ true }
         ensures bound { result ≡ DiskDone.Done → at + length piece.now ≤ 2 ^ 62 }
+        ensures past { IsTrue true → 2 ^ 62 < at + length piece.now →
+            DidNothing self.old.history self.new.history }
         ensures written { IsTrue true →
             Wrote self.old.history at piece.now (result ≡ DiskDone.Done) self.new.history }
         ensures cause { HasCause self.old.faults self.new.faults (result ≡ DiskDone.Failed) }

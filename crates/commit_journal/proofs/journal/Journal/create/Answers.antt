@@ -1,6 +1,8 @@
-use Rattle.std.proofs.Common.{◌∷◌, [], false, length, IsTrue, subst, ap, ◌∙◌, arith}
+use Rattle.std.proofs.Common.{◌∷◌, [], ◌++◌, List, ℕ, true, false, length, IsTrue, refl, subst, ap, ◌∙◌, arith, rules}
+use Rattle.disk_model.specs.Disk.{Write, Sync, GoesOn, MadePart}
 use Rattle.record_code.specs.Record.{bodies}
 use Rattle.record_code.proofs.ReadingLemmas.{length-body}
+use Rattle.commit_journal.specs.Pair.{head_a}
 use Rattle.commit_journal.proofs.PairLemmas.{the_one, sound_one, quiet_only, chosen_spells}
 use Rattle.commit_journal.proofs.journal.Journal.create.Goals as goal
 
@@ -18,10 +20,40 @@ invariant_of-result g c =
     let sound = sound_one _ one.0 c.as_bytes-entry.ensures.sound one.1 in
     (c.in-Ok.ensures.bound, λ t. (one.0 ∷ [], c.in-Ok.ensures.settled (subst IsTrue c.make_files.ensures.tells t) one.0 sound is))
 
-pub returns-in-Ok-clause-only : goal.returns-in-Ok-clause-only
-returns-in-Ok-clause-only g c = λ t u r one.
-    let is = c.as_bytes-entry.ensures.bytes ∙ ap bodies one in
-    let sound = sound_one _ r c.as_bytes-entry.ensures.sound one in
-    let settled = c.in-Ok.ensures.settled t r sound is in
-    let chosen = c.in-Ok.ensures.chosen t u r sound is in
-    quiet_only _ _ (r ∷ []) settled.quiet (c.in-Ok.ensures.other_quiet u) (chosen_spells false _ _ (r ∷ []) _ chosen settled.spells)
+pub returns-in-Ok-clause-made : goal.returns-in-Ok-clause-made
+returns-in-Ok-clause-made g c =
+    let h = g.D.Disk.history in record {
+      none_there = λ t u. c.in-Ok.ensures.free t u;
+      has = λ t u r one.
+          let is = c.as_bytes-entry.ensures.bytes ∙ ap bodies one in
+          let sound = sound_one _ r c.as_bytes-entry.ensures.sound one in
+          record {
+            idle = refl;
+            rests = record {
+              settled = c.in-Ok.ensures.settled t r sound is;
+              other_quiet = c.in-Ok.ensures.other_quiet u;
+              chosen = c.in-Ok.ensures.chosen t u r sound is;
+            };
+          };
+      only = λ t u r one.
+          let is = c.as_bytes-entry.ensures.bytes ∙ ap bodies one in
+          let sound = sound_one _ r c.as_bytes-entry.ensures.sound one in
+          let settled = c.in-Ok.ensures.settled t r sound is in
+          let chosen = c.in-Ok.ensures.chosen t u r sound is in
+          quiet_only _ _ (r ∷ []) settled.quiet (c.in-Ok.ensures.other_quiet u) (chosen_spells false _ _ (r ∷ []) _ chosen settled.spells);
+      made_a = λ t. subst (λ (l : List ℕ). GoesOn (h c.args.a) (Write 0 (head_a ++ l) true ∷ (Sync true ∷ (Write 16 (1 ∷ []) true ∷ (Sync true ∷ [])))) (h c.make_files.new.a)) c.as_bytes-entry.ensures.bytes (c.in-Ok.ensures.made t);
+      made_b = λ u. c.in-Ok.ensures.other_made u;
+    }
+
+pub returns-in-Err-clause-err : goal.returns-in-Err-clause-err
+returns-in-Err-clause-err g c =
+    let h = g.D.Disk.history in record {
+      exists = search rules;
+      spared = search rules;
+      unchanged = search rules;
+      part_a = λ t. subst (λ (l : List ℕ). MadePart (h c.args.a) (Write 0 (head_a ++ l) true ∷ (Sync true ∷ (Write 16 (1 ∷ []) true ∷ (Sync true ∷ [])))) (h c.make_files.new.a)) c.as_bytes-entry.ensures.bytes (c.make_files.ensures.part t);
+      part_b = λ u. c.make_files.ensures.other_part u;
+      tells_a = search rules;
+      tells_b = search rules;
+      cause = search rules;
+    }
