@@ -1,7 +1,7 @@
 -- How many calls a disk made, from its history.
 use Rattle.std.proofs.Common.{◌≡◌, ◌≤◌, ◌⊎◌, inl, inr, ⊎_elim, ℕ, ◌+◌, ◌-◌, ◌^◌, List, [], ◌∷◌, ◌++◌, length, true, false, refl, sym, subst, ◌∙◌, ap, arith, length-append, append_assoc}
 use Rattle.std.proofs.lemmas.List.{append-nil}
-use Rattle.disk_model.specs.Disk.{Call, Write, Sync, Refused, History, Called, DidNothing, Wrote, Synced, GoesOn, MadePart}
+use Rattle.disk_model.specs.Disk.{Call, Write, Missed, Sync, Refused, History, Called, DidNothing, Wrote, Synced, GoesOn, MadePart}
 use Rattle.commit_journal.specs.Pair.{MadeCalls}
 use Rattle.commit_journal.specs.Journal.{counted, CountsCalls}
 
@@ -13,8 +13,8 @@ nothing_made m h (inl is) = called_made m h Refused is
 nothing_made m h (inr stays) = record { more = inr (omega (arith, stays.last, ap (λ (l : History). length l.calls) stays.same)) }
 
 pub wrote_made : (m h : History) (at : ℕ) (bytes : List ℕ) (done : Type 0) → Wrote m at bytes done h → MadeCalls m h 1
-wrote_made m h at bytes done (inl is) = called_made m h (Write at bytes true) is
-wrote_made m h at bytes done (inr failed) = ⊎_elim (called_made m h (Write at bytes false)) (nothing_made m h) failed.1
+wrote_made m h at bytes done (inl is) = called_made m h (Write at bytes) is
+wrote_made m h at bytes done (inr failed) = ⊎_elim (called_made m h (Missed at (length bytes))) (nothing_made m h) failed.1
 
 pub synced_made : (m h : History) (done : Type 0) → Synced m done h → MadeCalls m h 1
 synced_made m h done (inl is) = called_made m h (Sync true) is
@@ -35,7 +35,7 @@ counts_calls h h' count calls count' made is below = ⊎_elim by (λ end. absurd
     by more = is ∙ ap (counted count) (omega (arith, more))
 
 -- calls that were done
-pub wrote_called : (h h' : History) (at : ℕ) (bytes : List ℕ) (done : Type 0) → Wrote h at bytes done h' → done → Called h (Write at bytes true) h'
+pub wrote_called : (h h' : History) (at : ℕ) (bytes : List ℕ) (done : Type 0) → Wrote h at bytes done h' → done → Called h (Write at bytes) h'
 wrote_called h h' at bytes done wrote is = ⊎_elim (λ called. called) (λ failed. absurd (failed.0 is)) wrote
 
 pub synced_called : (h h' : History) (done : Type 0) → Synced h done h' → done → Called h (Sync true) h'
@@ -93,8 +93,8 @@ part_back h m h' (x ∷ xs) ys goes part = inr (inr (next, called, part_back nex
     later = record { first = goes.first; calls = goes.calls ∙ sym (append_assoc h.calls (x ∷ []) xs) }
 
 -- a write and a sync, as far as they came
-pub part_write : (h h' : History) (at : ℕ) (bytes : List ℕ) (done : Type 0) → Wrote h at bytes done h' → MadePart h (Write at bytes true ∷ (Sync true ∷ [])) h'
+pub part_write : (h h' : History) (at : ℕ) (bytes : List ℕ) (done : Type 0) → Wrote h at bytes done h' → MadePart h (Write at bytes ∷ (Sync true ∷ [])) h'
 part_write h h' at bytes done wrote = inr (inl (wrote_tried h h' at bytes done wrote))
 
-pub part_sync : (h m h' : History) (at : ℕ) (bytes : List ℕ) (done done' : Type 0) → Wrote h at bytes done m → done → Synced m done' h' → MadePart h (Write at bytes true ∷ (Sync true ∷ [])) h'
+pub part_sync : (h m h' : History) (at : ℕ) (bytes : List ℕ) (done done' : Type 0) → Wrote h at bytes done m → done → Synced m done' h' → MadePart h (Write at bytes ∷ (Sync true ∷ [])) h'
 part_sync h m h' at bytes done done' wrote is synced = inr (inr (m, wrote_called h m at bytes done wrote is, inr (inl (synced_tried m h' done' synced))))

@@ -29,11 +29,15 @@ pub record IsOpened {D : Type 0} (tells : D → Bool) (faults : D → ℕ) (a b 
 
 -- the calls that make B: its header
 abbrev pub making_b : List Call
-making_b = Write 0 head_b true ∷ Sync true ∷ []
+making_b = Write 0 head_b ∷ (Sync true ∷ [])
 
--- the calls that make A: its header with a closed file gate and its first record, and once they are kept the file gate
+-- the calls that write a file with its file gate closed, and open that gate once the file is kept
+abbrev pub making : List ℕ → List Call
+making file = Write 0 file ∷ (Sync true ∷ (Write 16 (1 ∷ []) ∷ (Sync true ∷ [])))
+
+-- the calls that make A: its header and its first record
 abbrev pub making_a : List Record → List Call
-making_a first = Write 0 (head_a ++ bodies first) true ∷ Sync true ∷ (Write 16 (1 ∷ []) true ∷ Sync true ∷ [])
+making_a first = making (head_a ++ bodies first)
 
 -- the journal that was made of one record; each fact is of disks that tell
 pub record IsCreated {D : Type 0} (tells : D → Bool) (history : D → History) (a b : D) (first : List Record) (v : JournalView D) : Type 0 where

@@ -4,7 +4,7 @@ ghost use Rattle.record_code.specs.Record.{Record, IsSound, body};
 ghost use Rattle.commit_journal.specs.Pair.{IsQuiet, IsSettled, IsChosen, head_a, head_b};
 ghost use Rattle.commit_journal.specs.Journal.{PairCause};
 ghost use Rattle.commit_journal.specs.Attach.{IsThere, IsHeaderOf};
-ghost use Rattle.commit_journal.specs.Opening.{IsOpened, IsCreated, IsNotCreated, making_b};
+ghost use Rattle.commit_journal.specs.Opening.{IsOpened, IsCreated, IsNotCreated, making, making_b};
 
 use crate::appending::OPEN;
 use crate::flight::Flight;
@@ -23,9 +23,9 @@ pub(crate) fn write_and_sync<D: Disk>(disk: &mut D, at: u64, piece: &[u8]) -> Di
         contents_of (D.history disk.new) ≡ put at piece.now (contents_of (D.history disk.old)) }
     ensures quiet { result ≡ DiskDone.Done → IsTrue (D.tells disk.old) → IsQuiet (D.history disk.new) }
     ensures made { result ≡ DiskDone.Done → IsTrue (D.tells disk.old) →
-        GoesOn (D.history disk.old) (Write at piece.now true ∷ Sync true ∷ []) (D.history disk.new) }
+        GoesOn (D.history disk.old) (Write at piece.now ∷ (Sync true ∷ [])) (D.history disk.new) }
     ensures part { IsTrue (D.tells disk.old) →
-        MadePart (D.history disk.old) (Write at piece.now true ∷ Sync true ∷ []) (D.history disk.new) }
+        MadePart (D.history disk.old) (Write at piece.now ∷ (Sync true ∷ [])) (D.history disk.new) }
     ensures bound { result ≡ DiskDone.Done → at + length piece.now ≤ 2 ^ 62 }
     ensures cause { HasCause (D.faults disk.old) (D.faults disk.new) (result ≡ DiskDone.Failed) }
 {
@@ -86,12 +86,12 @@ fn write_files<D: Disk>(a: &mut D, b: &mut D, image: &[u8]) -> DiskDone
         contents_of (D.history b.new) ≡ put 0 head_b (contents_of (D.history b.old)) }
     ensures quiet { result ≡ DiskDone.Done → IsTrue (D.tells a.old) → IsQuiet (D.history a.new) }
     ensures other_quiet { result ≡ DiskDone.Done → IsTrue (D.tells b.old) → IsQuiet (D.history b.new) }
-    ensures made { result ≡ DiskDone.Done → IsTrue (D.tells a.old) → GoesOn (D.history a.old)
-        (Write 0 image.now true ∷ Sync true ∷ (Write 16 (1 ∷ []) true ∷ Sync true ∷ [])) (D.history a.new) }
+    ensures made { result ≡ DiskDone.Done → IsTrue (D.tells a.old) →
+        GoesOn (D.history a.old) (making image.now) (D.history a.new) }
     ensures other_made { result ≡ DiskDone.Done → IsTrue (D.tells b.old) →
         GoesOn (D.history b.old) making_b (D.history b.new) }
-    ensures part { IsTrue (D.tells a.old) → MadePart (D.history a.old)
-        (Write 0 image.now true ∷ Sync true ∷ (Write 16 (1 ∷ []) true ∷ Sync true ∷ [])) (D.history a.new) }
+    ensures part { IsTrue (D.tells a.old) →
+        MadePart (D.history a.old) (making image.now) (D.history a.new) }
     ensures other_part { IsTrue (D.tells b.old) →
         MadePart (D.history b.old) making_b (D.history b.new) }
     ensures bound { result ≡ DiskDone.Done → length image.now ≤ 2 ^ 62 }
@@ -118,14 +118,12 @@ pub(crate) fn make_files<D: Disk>(
     ensures tells { D.tells a.new ≡ D.tells a.old }
     ensures other_tells { D.tells b.new ≡ D.tells b.old }
     ensures bound { OnOk result (17 + length entry.now < 2 ^ 62) }
-    ensures made { IsTrue (D.tells a.old) → OnOk result (GoesOn (D.history a.old)
-        (Write 0 (head_a ++ entry.now) true ∷ Sync true ∷ (Write 16 (1 ∷ []) true ∷ Sync true ∷ []))
-        (D.history a.new)) }
+    ensures made { IsTrue (D.tells a.old) → OnOk result
+        (GoesOn (D.history a.old) (making (head_a ++ entry.now)) (D.history a.new)) }
     ensures other_made { IsTrue (D.tells b.old) → OnOk result
         (GoesOn (D.history b.old) making_b (D.history b.new)) }
-    ensures part { IsTrue (D.tells a.old) → MadePart (D.history a.old)
-        (Write 0 (head_a ++ entry.now) true ∷ Sync true ∷ (Write 16 (1 ∷ []) true ∷ Sync true ∷ []))
-        (D.history a.new) }
+    ensures part { IsTrue (D.tells a.old) →
+        MadePart (D.history a.old) (making (head_a ++ entry.now)) (D.history a.new) }
     ensures other_part { IsTrue (D.tells b.old) →
         MadePart (D.history b.old) making_b (D.history b.new) }
     ensures settled { IsTrue (D.tells a.old) → OnOk result ((r : Record) → IsSound r

@@ -4,7 +4,7 @@ use Rattle.std.proofs.lemmas.List.{append-nil, get_or_append_left, get_or-append
 use Rattle.std.proofs.lemmas.Option.{slice_get-get_or, slice_get_past, get_or_from_slice_get, slice_get_within}
 use Rattle.std.proofs.lemmas.Bool.Decides.{nat_tests}
 use Rattle.std.specs.List.{slice_get}
-use Rattle.disk_model.specs.Disk.{Call, Write, Sync, Refused, History, State, put, pending_during, at_first, during, written, settled, step, after, state_of, contents_of, IsImage, Since, Leaves, Called, DidNothing, Wrote, Synced}
+use Rattle.disk_model.specs.Disk.{Call, Write, Missed, Sync, Refused, History, State, put, pending_during, at_first, during, written, missed, settled, step, after, state_of, contents_of, IsImage, Since, Leaves, Called, DidNothing, Wrote, Synced}
 use Rattle.disk_model.proofs.States.{after-append, state_called}
 
 -- lists that agree at each place, past their ends too, are one
@@ -135,8 +135,8 @@ cleared_image s c image = settled_image (settled s true) c (λ k. refl) image
 -- nothing shorter than the last sync is in the contents, whatever the calls were
 pub synced_after : (s : State) (calls : List Call) → s.synced ≤ length s.contents → (after s calls).synced ≤ length (after s calls).contents
 synced_after s [] le = le
-synced_after s (Write at bytes true ∷ calls) le = synced_after (written s at bytes true) calls (omega (arith, le, put_no_shorter at bytes s.contents))
-synced_after s (Write at bytes false ∷ calls) le = synced_after (written s at bytes false) calls le
+synced_after s (Write at bytes ∷ calls) le = synced_after (written s at bytes) calls (omega (arith, le, put_no_shorter at bytes s.contents))
+synced_after s (Missed at count ∷ calls) le = synced_after (missed s at count) calls le
 synced_after s (Sync true ∷ calls) le = synced_after (settled s true) calls (omega arith)
 synced_after s (Sync false ∷ calls) le = synced_after s calls le
 synced_after s (Refused ∷ calls) le = synced_after s calls le
@@ -150,9 +150,8 @@ pub contents_image : (s : State) → s.synced ≤ length s.contents → IsImage 
 contents_image s le = record { long = le; same = λ k free. refl }
 
 -- what a crash after a write may leave, one within it might have left
-pub after_write : (s : State) (at : ℕ) (bytes : List ℕ) (took : Bool) (c : List ℕ) → at ≤ length s.contents → IsImage (written s at bytes took) c → IsImage (during s (Write at bytes true)) c
-after_write s at bytes false c le image = record { long = image.long; same = image.same }
-after_write s at bytes true c le image = record {
+pub after_write : (s : State) (at : ℕ) (bytes : List ℕ) (c : List ℕ) → at ≤ length s.contents → IsImage (written s at bytes) c → IsImage (during s (Write at bytes)) c
+after_write s at bytes c le image = record {
   long = image.long;
   same = λ k free. image.same k free ∙ other k (calm s at (length bytes) k free);
 }
@@ -163,8 +162,9 @@ after_write s at bytes true c le image = record {
         ∙ ap (λ (x : ℕ). Some x) (put_other at bytes s.contents k 0 le free.outside)
         ∙ sym (slice_get-get_or s.contents k 0 free.inside)
 
-pub within_write : (s : State) (at : ℕ) (bytes : List ℕ) (took : Bool) (c : List ℕ) → IsImage (during s (Write at bytes took)) c → IsImage (during s (Write at bytes true)) c
-within_write s at bytes took c image = record { long = image.long; same = image.same }
+-- and so what one within a write that took no effect, or after it, may leave
+pub missed_write : (s : State) (at : ℕ) (bytes : List ℕ) (c : List ℕ) → IsImage (missed s at (length bytes)) c → IsImage (during s (Write at bytes)) c
+missed_write s at bytes c image = record { long = image.long; same = image.same }
 
 -- what a crash after a sync may leave, one before it might have left
 pub after_sync : (s : State) (cleared : Bool) (c : List ℕ) → s.synced ≤ length s.contents → IsImage (settled s cleared) c → IsImage s c
@@ -217,14 +217,14 @@ goes_nowhere h m h' P so_far (inl called) here = goes_on h m h' Refused P so_far
 goes_nowhere h m h' P so_far (inr stays) here = subst (λ (l : History). Leaves h l P) (sym stays.same) so_far
 
 pub goes_on_write : (h m h' : History) (at : ℕ) (bytes : List ℕ) (done : Type 0) (P : List ℕ → Type 0) → at ≤ length (contents_of m) → Leaves h m P → Wrote m at bytes done h'
-    → ((c : List ℕ) → IsImage (during (state_of m) (Write at bytes true)) c → P c) → ((c : List ℕ) → IsImage (state_of m) c → P c) → Leaves h h' P
+    → ((c : List ℕ) → IsImage (during (state_of m) (Write at bytes)) c → P c) → ((c : List ℕ) → IsImage (state_of m) c → P c) → Leaves h h' P
 goes_on_write h m h' at bytes done P le so_far wrote within here = ⊎_elim taken (λ failed. ⊎_elim left nothing failed.1) wrote
   where
-    taken : Called m (Write at bytes true) h' → Leaves h h' P
-    taken called = goes_on h m h' (Write at bytes true) P so_far called within (λ c image. within c (after_write (state_of m) at bytes true c le image))
+    taken : Called m (Write at bytes) h' → Leaves h h' P
+    taken called = goes_on h m h' (Write at bytes) P so_far called within (λ c image. within c (after_write (state_of m) at bytes c le image))
 
-    left : Called m (Write at bytes false) h' → Leaves h h' P
-    left called = goes_on h m h' (Write at bytes false) P so_far called (λ c image. within c (within_write (state_of m) at bytes false c image)) (λ c image. within c (after_write (state_of m) at bytes false c le image))
+    left : Called m (Missed at (length bytes)) h' → Leaves h h' P
+    left called = goes_on h m h' (Missed at (length bytes)) P so_far called (λ c image. within c (missed_write (state_of m) at bytes c image)) (λ c image. within c (missed_write (state_of m) at bytes c image))
 
     nothing : DidNothing m h' → Leaves h h' P
     nothing did = goes_nowhere h m h' P so_far did here
@@ -242,8 +242,8 @@ goes_on_sync h m h' done P so_far synced here = ⊎_elim cleared (λ failed. ⊎
     nothing did = goes_nowhere h m h' P so_far did here
 
 -- what a call that was done leaves
-pub wrote_done : (h h' : History) (at : ℕ) (bytes : List ℕ) (done : Type 0) → Wrote h at bytes done h' → done → state_of h' ≡ written (state_of h) at bytes true
-wrote_done h h' at bytes done wrote is = ⊎_elim (state_called h h' (Write at bytes true)) (λ failed. absurd (failed.0 is)) wrote
+pub wrote_done : (h h' : History) (at : ℕ) (bytes : List ℕ) (done : Type 0) → Wrote h at bytes done h' → done → state_of h' ≡ written (state_of h) at bytes
+wrote_done h h' at bytes done wrote is = ⊎_elim (state_called h h' (Write at bytes)) (λ failed. absurd (failed.0 is)) wrote
 
 pub synced_done : (h h' : History) (done : Type 0) → Synced h done h' → done → state_of h' ≡ settled (state_of h) true
 synced_done h h' done synced is = ⊎_elim (state_called h h' (Sync true)) (λ failed. absurd (failed.0 is)) synced

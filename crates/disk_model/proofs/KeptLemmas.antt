@@ -1,10 +1,10 @@
 -- One call more at the end of a record.
-use Rattle.std.proofs.Common.{◌≡◌, ◌≤◌, ◌<◌, ℕ, ◌+◌, ◌-◌, min, ◌&&◌, Bool, true, false, IsTrue, nat_lt, nat_le, List, [], ◌∷◌, ◌++◌, length, take, drop, replicate, refl, sym, ◌∙◌, ap, subst, arith, zero, suc, append_assoc, length-append, length-drop, length-take}
+use Rattle.std.proofs.Common.{◌≡◌, ◌≤◌, ◌<◌, ℕ, ◌+◌, ◌*◌, ◌-◌, min, ◌&&◌, Bool, true, false, IsTrue, nat_lt, nat_le, List, [], ◌∷◌, ◌++◌, length, take, drop, replicate, refl, sym, ◌∙◌, ap, subst, arith, zero, suc, append_assoc, length-append, length-drop, length-take}
 use Rattle.std.proofs.lemmas.List.{take_all, take_min, take-append-le, drop-append-le, append-nil, length-replicate, replicate_more}
 use Rattle.std.proofs.lemmas.Bool.Decides.{nat_tests}
 use Rattle.disk_model.specs.declared.kept.Kept.{Kept}
-use Rattle.disk_model.specs.declared.kept.Kept.TheVariants.{Written, Synced, TurnedDown}
-use Rattle.disk_model.specs.Disk.{Call, Write, Sync, Refused, State, step, after}
+use Rattle.disk_model.specs.declared.kept.Kept.TheVariants.{Written, Missed as NotWritten, Synced}
+use Rattle.disk_model.specs.Disk.{Call, Write, Missed, Sync, Refused, State, step, after}
 use Rattle.disk_model.specs.Memory.{written_bytes}
 use Rattle.disk_model.specs.Kept.{RecordView, call_of, bytes_after, total_of, calls_of, recorded}
 
@@ -13,13 +13,14 @@ seen calls room limit = record { calls = calls; room = room; limit = limit }
 
 pub length-calls_of : (kept : List Kept) (bytes : List ℕ) → length (calls_of kept bytes) ≡ length kept
 length-calls_of [] bytes = refl
-length-calls_of (Written at count took ∷ kept) bytes = ap (λ (n : ℕ). suc n) (length-calls_of kept (drop count bytes))
+length-calls_of (Written at count ∷ kept) bytes = ap (λ (n : ℕ). suc n) (length-calls_of kept (drop count bytes))
+length-calls_of (NotWritten at count ∷ kept) bytes = ap (λ (n : ℕ). suc n) (length-calls_of kept bytes)
 length-calls_of (Synced cleared ∷ kept) bytes = ap (λ (n : ℕ). suc n) (length-calls_of kept bytes)
-length-calls_of (TurnedDown ∷ kept) bytes = ap (λ (n : ℕ). suc n) (length-calls_of kept bytes)
 
 pub written_bytes-append : (xs ys : List Call) → written_bytes (xs ++ ys) ≡ written_bytes xs + written_bytes ys
 written_bytes-append [] ys = omega arith
-written_bytes-append (Write at bytes took ∷ xs) ys = omega (arith, written_bytes-append xs ys)
+written_bytes-append (Write at bytes ∷ xs) ys = omega (arith, written_bytes-append xs ys)
+written_bytes-append (Missed at count ∷ xs) ys = written_bytes-append xs ys
 written_bytes-append (Sync cleared ∷ xs) ys = written_bytes-append xs ys
 written_bytes-append (Refused ∷ xs) ys = written_bytes-append xs ys
 
@@ -29,10 +30,10 @@ written_bytes-refused (suc n) = written_bytes-refused n
 
 pub written_bytes-calls_of : (kept : List Kept) (bytes : List ℕ) → total_of kept ≤ length bytes → written_bytes (calls_of kept bytes) ≡ total_of kept
 written_bytes-calls_of [] bytes le = refl
-written_bytes-calls_of (Written at count took ∷ kept) bytes le =
+written_bytes-calls_of (Written at count ∷ kept) bytes le =
     omega (arith, length-take count bytes, length-drop count bytes, written_bytes-calls_of kept (drop count bytes) (omega (arith, length-drop count bytes)))
 written_bytes-calls_of (Synced cleared ∷ kept) bytes le = omega (arith, written_bytes-calls_of kept bytes (omega arith))
-written_bytes-calls_of (TurnedDown ∷ kept) bytes le = omega (arith, written_bytes-calls_of kept bytes (omega arith))
+written_bytes-calls_of (NotWritten at count ∷ kept) bytes le = omega (arith, written_bytes-calls_of kept bytes (omega arith))
 
 pub total_of-append : (xs ys : List Kept) → total_of (xs ++ ys) ≡ total_of xs + total_of ys
 total_of-append [] ys = omega arith
@@ -43,16 +44,16 @@ pub calls_of-append : (xs ys : List Kept) (bytes more : List ℕ) → total_of x
     → calls_of (xs ++ ys) (bytes ++ more) ≡ calls_of xs bytes ++ calls_of ys more
 calls_of-append [] ys [] more total = refl
 calls_of-append [] ys (b ∷ bytes) more total = absurd (omega arith)
-calls_of-append (Written at count took ∷ xs) ys bytes more total =
+calls_of-append (Written at count ∷ xs) ys bytes more total =
     let le : count ≤ length bytes = omega arith in
     let rest : total_of xs ≡ length (drop count bytes) = omega (arith, length-drop count bytes) in
     let head : take count (bytes ++ more) ≡ take count bytes = take-append-le count bytes more le in
     let tail : drop count (bytes ++ more) ≡ drop count bytes ++ more = drop-append-le count bytes more le in
-    ap (λ (l : List ℕ). Write at l took ∷ calls_of (xs ++ ys) (drop count (bytes ++ more))) head
-    ∙ ap (λ (l : List ℕ). Write at (take count bytes) took ∷ calls_of (xs ++ ys) l) tail
-    ∙ ap (λ (l : List Call). Write at (take count bytes) took ∷ l) (calls_of-append xs ys (drop count bytes) more rest)
+    ap (λ (l : List ℕ). Write at l ∷ calls_of (xs ++ ys) (drop count (bytes ++ more))) head
+    ∙ ap (λ (l : List ℕ). Write at (take count bytes) ∷ calls_of (xs ++ ys) l) tail
+    ∙ ap (λ (l : List Call). Write at (take count bytes) ∷ l) (calls_of-append xs ys (drop count bytes) more rest)
 calls_of-append (Synced cleared ∷ xs) ys bytes more total = ap (λ (l : List Call). Sync cleared ∷ l) (calls_of-append xs ys bytes more (omega arith))
-calls_of-append (TurnedDown ∷ xs) ys bytes more total = ap (λ (l : List Call). Refused ∷ l) (calls_of-append xs ys bytes more (omega arith))
+calls_of-append (NotWritten at count ∷ xs) ys bytes more total = ap (λ (l : List Call). Missed at count ∷ l) (calls_of-append xs ys bytes more (omega arith))
 
 pub length-recorded : (kept : List Kept) (bytes : List ℕ) (refused : ℕ) → length (recorded kept bytes refused) ≡ length kept + refused
 unfolding recorded
@@ -68,32 +69,25 @@ pub recorded_none : (kept : List Kept) (bytes : List ℕ) (refused : ℕ) → re
 unfolding recorded
 recorded_none kept bytes refused none = ap (λ (n : ℕ). calls_of kept bytes ++ replicate n Refused) none ∙ append-nil (calls_of kept bytes)
 
-pub recorded_write : (kept : List Kept) (bytes : List ℕ) (refused : ℕ) (at : ℕ) (piece : List ℕ) (took : Bool) (count : ℕ)
+pub recorded_write : (kept : List Kept) (bytes : List ℕ) (refused : ℕ) (at : ℕ) (piece : List ℕ) (count : ℕ)
     → total_of kept ≡ length bytes → refused ≡ 0 → count ≡ length piece
-    → recorded (kept ++ Written at count took ∷ []) (bytes ++ piece) refused ≡ recorded kept bytes refused ++ Write at piece took ∷ []
-recorded_write kept bytes refused at piece took count total none is =
-    recorded_none (kept ++ Written at count took ∷ []) (bytes ++ piece) refused none
-    ∙ calls_of-append kept (Written at count took ∷ []) bytes piece total
-    ∙ ap (λ (l : List ℕ). calls_of kept bytes ++ Write at l took ∷ []) (take_all count piece (omega arith))
-    ∙ sym (ap (λ (l : List Call). l ++ Write at piece took ∷ []) (recorded_none kept bytes refused none))
+    → recorded (kept ++ Written at count ∷ []) (bytes ++ piece) refused ≡ recorded kept bytes refused ++ Write at piece ∷ []
+recorded_write kept bytes refused at piece count total none is =
+    recorded_none (kept ++ Written at count ∷ []) (bytes ++ piece) refused none
+    ∙ calls_of-append kept (Written at count ∷ []) bytes piece total
+    ∙ ap (λ (l : List ℕ). calls_of kept bytes ++ Write at l ∷ []) (take_all count piece (omega arith))
+    ∙ sym (ap (λ (l : List Call). l ++ Write at piece ∷ []) (recorded_none kept bytes refused none))
 
 same_bytes : (kept ys : List Kept) (bytes : List ℕ) → total_of kept ≡ length bytes → calls_of (kept ++ ys) bytes ≡ calls_of kept bytes ++ calls_of ys []
 same_bytes kept ys bytes total =
     ap (λ (l : List ℕ). calls_of (kept ++ ys) l) (sym (append-nil bytes)) ∙ calls_of-append kept ys bytes [] total
 
-pub recorded_sync : (kept : List Kept) (bytes : List ℕ) (refused : ℕ) (cleared : Bool) → total_of kept ≡ length bytes → refused ≡ 0
-    → recorded (kept ++ Synced cleared ∷ []) bytes refused ≡ recorded kept bytes refused ++ Sync cleared ∷ []
-recorded_sync kept bytes refused cleared total none =
-    recorded_none (kept ++ Synced cleared ∷ []) bytes refused none
-    ∙ same_bytes kept (Synced cleared ∷ []) bytes total
-    ∙ sym (ap (λ (l : List Call). l ++ Sync cleared ∷ []) (recorded_none kept bytes refused none))
-
-pub recorded_refusal : (kept : List Kept) (bytes : List ℕ) (refused : ℕ) → total_of kept ≡ length bytes → refused ≡ 0
-    → recorded (kept ++ TurnedDown ∷ []) bytes refused ≡ recorded kept bytes refused ++ Refused ∷ []
-recorded_refusal kept bytes refused total none =
-    recorded_none (kept ++ TurnedDown ∷ []) bytes refused none
-    ∙ same_bytes kept (TurnedDown ∷ []) bytes total
-    ∙ sym (ap (λ (l : List Call). l ++ Refused ∷ []) (recorded_none kept bytes refused none))
+pub recorded_call : (kept : List Kept) (bytes : List ℕ) (refused : ℕ) (call : Kept) → total_of kept ≡ length bytes → refused ≡ 0
+    → recorded (kept ++ call ∷ []) bytes refused ≡ recorded kept bytes refused ++ call_of call [] ∷ []
+recorded_call kept bytes refused call total none =
+    recorded_none (kept ++ call ∷ []) bytes refused none
+    ∙ same_bytes kept (call ∷ []) bytes total
+    ∙ sym (ap (λ (l : List Call). l ++ call_of call [] ∷ []) (recorded_none kept bytes refused none))
 
 pub recorded_more : (kept : List Kept) (bytes : List ℕ) (refused : ℕ) → recorded kept bytes (refused + 1) ≡ recorded kept bytes refused ++ Refused ∷ []
 unfolding recorded
@@ -101,11 +95,11 @@ recorded_more kept bytes refused =
     ap (λ (l : List Call). calls_of kept bytes ++ l) (sym (replicate_more refused Refused)) ∙ sym (append_assoc (calls_of kept bytes) (replicate refused Refused) (Refused ∷ []))
 
 -- whether there is room for a call, by what is kept
-pub keeps_call_is : (kept refused limit all limit' : ℕ) → all ≡ kept + refused → limit ≡ limit' → (0 < refused → limit ≤ kept) → nat_lt kept limit ≡ nat_lt all limit'
+pub keeps_call_is : (kept refused limit all limit' : ℕ) → all ≡ kept + refused → limit ≡ limit' → (0 < refused → 2 * limit ≤ kept) → nat_lt kept limit ≡ nat_lt all limit'
 keeps_call_is kept refused limit all limit' is same full = grind (arith, nat_tests)
 
--- where there is room for a call, none was refused past the stated number
-pub none_refused : (kept refused limit all limit' : ℕ) → all ≡ kept + refused → limit ≡ limit' → (0 < refused → limit ≤ kept) → IsTrue (nat_lt all limit') → (refused ≡ 0) × (kept < limit)
+-- where one call more may be done, all are kept with their places
+pub none_refused : (kept refused limit all limit' : ℕ) → all ≡ kept + refused → limit ≡ limit' → (0 < refused → 2 * limit ≤ kept) → IsTrue (nat_lt all limit') → (refused ≡ 0) × (kept < limit)
 none_refused kept refused limit all limit' is same full room = (grind (arith, nat_tests), grind (arith, nat_tests))
 
 pub keeps_write_is : (count room written all room' : ℕ) → written ≤ room → all ≡ written → room ≡ room' → nat_le count (room - written) ≡ nat_le (all + count) room'
@@ -125,9 +119,20 @@ pub viewed : (old : RecordView) (calls calls' more : List Call) (room limit : �
 viewed old calls calls' more room limit is longer =
     subst (λ (v : RecordView). seen calls' room limit ≡ seen (v.calls ++ more) v.room v.limit) is (ap (λ (l : List Call). seen l room limit) longer)
 
--- below the stated number none was refused past it
-pub none_past : (kept refused limit : ℕ) → (0 < refused → limit ≤ kept) → kept < limit → refused ≡ 0
-none_past kept refused limit full lt = grind arith
+-- below the record's room all are kept with their places
+pub none_past : (kept refused room : ℕ) → (0 < refused → room ≤ kept) → kept < room → refused ≡ 0
+none_past kept refused room full lt = grind arith
+
+-- whether the record has room for a call, by what is kept
+pub has_place : (kept refused limit all limit' : ℕ) → all ≡ kept + refused → limit ≡ limit' → kept < 2 * limit → refused ≡ 0 → IsTrue (nat_lt all (2 * limit'))
+has_place kept refused limit all limit' is same lt none = grind (arith, nat_tests)
+
+pub no_place : (kept refused limit all limit' : ℕ) → all ≡ kept + refused → limit ≡ limit' → 2 * limit ≤ kept → nat_lt all (2 * limit') ≡ false
+no_place kept refused limit all limit' is same full = grind (arith, nat_tests)
+
+-- where one call more may be done, the record has room for it
+pub call_place : (all limit : ℕ) → IsTrue (nat_lt all limit) → IsTrue (nat_lt all (2 * limit))
+call_place all limit room = grind (arith, nat_tests)
 
 pub total_of-take : (n : ℕ) (kept : List Kept) → total_of (take n kept) ≤ total_of kept
 total_of-take zero kept = omega arith

@@ -6,7 +6,7 @@ use Rattle.disk_model.proofs.Replayed.{past}
 use Rattle.std.proofs.lemmas.Option.{slice_get-get_or}
 use Rattle.std.proofs.lemmas.Bool.Decides.{nat_tests}
 use Rattle.std.specs.List.{slice_get}
-use Rattle.disk_model.specs.Disk.{Call, Write, Sync, Refused, State, pending_during, at_first, written, settled, step, after, state_of, contents_of, IsImage}
+use Rattle.disk_model.specs.Disk.{Call, Write, Missed, Sync, Refused, State, pending_during, at_first, written, missed, settled, step, after, state_of, contents_of, IsImage}
 use Rattle.disk_model.specs.declared.replay.Mark.{Mark}
 use Rattle.disk_model.specs.declared.torn.Torn.{Torn}
 use Rattle.disk_model.specs.Marks.{is_marked}
@@ -37,8 +37,8 @@ written_pending : (s : State) (at n : ℕ) → IsSound s → (k : ℕ) → s.syn
 written_pending s at n sound k le = ⊎_elim (λ calm. past_end s at n k (omega (arith, calm.1))) (λ torn. still_pending s at n k (torn k le)) sound.pending
 
 step_sound : (s : State) (call : Call) → IsSound s → IsSound (step s call)
-step_sound s (Write at bytes true) sound = record { within = omega (arith, sound.within, put_no_shorter at bytes s.contents); pending = inr (written_pending s at (length bytes) sound) }
-step_sound s (Write at bytes false) sound = record { within = sound.within; pending = inr (written_pending s at (length bytes) sound) }
+step_sound s (Write at bytes) sound = record { within = omega (arith, sound.within, put_no_shorter at bytes s.contents); pending = inr (written_pending s at (length bytes) sound) }
+step_sound s (Missed at count) sound = record { within = sound.within; pending = inr (written_pending s at count sound) }
 step_sound s (Sync true) sound = record { within = omega arith; pending = inl (λ k. refl, refl) }
 step_sound s (Sync false) sound = sound
 step_sound s Refused sound = sound
@@ -87,8 +87,8 @@ chosen_size s torn image room sound is le torn_le = ⊎_elim
 -- contents never shrink
 pub no_shorter : (s : State) (calls : List Call) → length s.contents ≤ length (after s calls).contents
 no_shorter s [] = omega arith
-no_shorter s (Write at bytes true ∷ calls) = omega (arith, put_no_shorter at bytes s.contents, no_shorter (written s at bytes true) calls)
-no_shorter s (Write at bytes false ∷ calls) = no_shorter (written s at bytes false) calls
+no_shorter s (Write at bytes ∷ calls) = omega (arith, put_no_shorter at bytes s.contents, no_shorter (written s at bytes) calls)
+no_shorter s (Missed at count ∷ calls) = no_shorter (missed s at count) calls
 no_shorter s (Sync true ∷ calls) = no_shorter (settled s true) calls
 no_shorter s (Sync false ∷ calls) = no_shorter s calls
 no_shorter s (Refused ∷ calls) = no_shorter s calls

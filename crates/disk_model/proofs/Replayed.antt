@@ -1,42 +1,29 @@
 -- What a disk in memory holds after one call more.
-use Rattle.std.proofs.Common.{◌≡◌, ◌≤◌, ◌<◌, ℕ, nat_lt, ◌+◌, Bool, true, false, IsTrue, nat_le, ◌&&◌, List, [], ◌∷◌, ◌++◌, length, refl, sym, ◌∙◌, ap, arith}
+use Rattle.std.proofs.Common.{◌≡◌, ◌≤◌, ◌<◌, ℕ, nat_lt, ◌+◌, Bool, true, false, cond, IsTrue, nat_le, ◌&&◌, List, [], ◌∷◌, ◌++◌, length, refl, sym, ◌∙◌, ap, arith}
 use Rattle.std.proofs.lemmas.Bool.Decides.{nat_tests}
-use Rattle.disk_model.specs.Disk.{Call, Write, Sync, Refused, History, State, put, step, written, settled, state_of, contents_of}
+use Rattle.disk_model.specs.Disk.{Call, Write, Refused, History, State, put, step, state_of, contents_of}
 use Rattle.disk_model.proofs.States.{state_pushed, length-put}
 use Rattle.disk_model.proofs.KeptLemmas.{both_true}
 
 abbrev pub past : List ℕ → List Call → History
 past first calls = record { first = first; calls = calls }
 
-settled_contents : (s : State) (cleared : Bool) → (settled s cleared).contents ≡ s.contents
-settled_contents s true = refl
-settled_contents s false = refl
-
 module _ (first : List ℕ) (calls : List Call) (bytes : List ℕ) (is : bytes ≡ contents_of (past first calls)) where
   pushed : (calls' : List Call) (call : Call) → calls' ≡ calls ++ call ∷ [] → contents_of (past first calls') ≡ (step (state_of (past first calls)) call).contents
   pushed calls' call more =
       ap (λ (l : List Call). contents_of (past first l)) more ∙ ap (λ (s : State). s.contents) (state_pushed first calls call)
 
-  pub written_contents : (calls' : List Call) (at : ℕ) (piece : List ℕ) (took : Bool) → calls' ≡ calls ++ Write at piece took ∷ [] → took ≡ true
-      → put at piece bytes ≡ contents_of (past first calls')
-  written_contents calls' at piece took more it_took =
-      ap (λ (l : List ℕ). put at piece l) is
-      ∙ sym (ap (λ (b : Bool). (written (state_of (past first calls)) at piece b).contents) it_took)
-      ∙ sym (pushed calls' (Write at piece took) more)
+  pub written_contents : (calls' : List Call) (at : ℕ) (piece : List ℕ) → calls' ≡ calls ++ Write at piece ∷ [] → put at piece bytes ≡ contents_of (past first calls')
+  written_contents calls' at piece more = ap (λ (l : List ℕ). put at piece l) is ∙ sym (pushed calls' (Write at piece) more)
 
-  pub unwritten_contents : (calls' : List Call) (at : ℕ) (piece : List ℕ) (took : Bool) → calls' ≡ calls ++ Write at piece took ∷ [] → took ≡ false
+  pub same_contents : (calls' : List Call) (call : Call) → (step (state_of (past first calls)) call).contents ≡ contents_of (past first calls) → calls' ≡ calls ++ call ∷ []
       → bytes ≡ contents_of (past first calls')
-  unwritten_contents calls' at piece took more it_left =
-      is
-      ∙ sym (ap (λ (b : Bool). (written (state_of (past first calls)) at piece b).contents) it_left)
-      ∙ sym (pushed calls' (Write at piece took) more)
+  same_contents calls' call left more = is ∙ sym left ∙ sym (pushed calls' call more)
 
-  pub synced_contents : (calls' : List Call) (cleared : Bool) → calls' ≡ calls ++ Sync cleared ∷ [] → bytes ≡ contents_of (past first calls')
-  synced_contents calls' cleared more =
-      is ∙ sym (settled_contents (state_of (past first calls)) cleared) ∙ sym (pushed calls' (Sync cleared) more)
-
-  pub refused_contents : (calls' : List Call) → calls' ≡ calls ++ Refused ∷ [] → bytes ≡ contents_of (past first calls')
-  refused_contents calls' more = is ∙ sym (pushed calls' Refused more)
+-- a call that leaves the contents leaves them as the record keeps it too
+pub still : (s : State) (b : Bool) (call : Call) → (step s call).contents ≡ s.contents → (step s (cond b call Refused)).contents ≡ s.contents
+still s true call same = same
+still s false call same = refl
 
 -- a write for which there is room ends within it
 pub ends_within : (a b c : Bool) → IsTrue (a && (b && c)) → IsTrue a × IsTrue b × IsTrue c

@@ -1,5 +1,5 @@
 -- A disk under its calls of `write_at` and `sync`, and what a crash may leave of it. The model is this project's own.
-use Rattle.std.specs.Prelude.{◌≡◌, ◌<◌, ◌≤◌, ◌-◌, ◌+◌, ◌^◌, ◌⊎◌, ◌&&◌, ◌||◌, Bool, true, false, nat_lt, nat_le, min, ℕ, List, [], ◌∷◌, ◌++◌, length, take, drop, slice_get, Some}
+use Rattle.std.specs.Prelude.{◌≡◌, ◌≤◌, ◌-◌, ◌+◌, ◌^◌, ◌⊎◌, ◌&&◌, ◌||◌, Bool, true, false, nat_lt, nat_le, min, ℕ, List, [], ◌∷◌, ◌++◌, length, take, drop, slice_get, Some}
 use Rattle.cfg_base.specs.Counts.{Rose}
 use Rattle.disk_model.specs.declared.disk.DiskLen.{DiskLen}
 use Rattle.disk_model.specs.declared.disk.DiskLen.TheVariants.{Len, Failed as LenFailed}
@@ -8,11 +8,13 @@ use Rattle.disk_model.specs.declared.disk.DiskRead.TheVariants.{Read, Failed as 
 
 -- one call that a disk counts
 pub data Call : Type 0 where
-  -- bytes written at a place; `took` tells whether they are in the contents now
-  Write : (at : ℕ) (bytes : List ℕ) (took : Bool) → Call
+  -- bytes written at a place, which are in the contents now
+  Write : (at : ℕ) (bytes : List ℕ) → Call
+  -- a write of so many bytes at a place, which failed and left the contents as they were
+  Missed : (at count : ℕ) → Call
   -- a sync; `cleared` tells whether nothing is pending after it
   Sync : (cleared : Bool) → Call
-  -- a call that was refused whole: it changed nothing
+  -- a failed call of which nothing but the count is told: it changed nothing
   Refused : Call
 
 -- what a disk held when it was made, and its calls since, first to last
@@ -41,14 +43,18 @@ at_first first = record { contents = first; pending = λ k. false; synced = leng
 
 -- while a call is under way
 abbrev pub during : State → Call → State
-during s (Write at bytes took) = record { contents = s.contents; pending = pending_during s at (length bytes); synced = s.synced }
+during s (Write at bytes) = record { contents = s.contents; pending = pending_during s at (length bytes); synced = s.synced }
+during s (Missed at count) = record { contents = s.contents; pending = pending_during s at count; synced = s.synced }
 during s (Sync cleared) = s
 during s Refused = s
 
 -- once a write is done
-abbrev pub written : State → ℕ → List ℕ → Bool → State
-written s at bytes true = record { contents = put at bytes s.contents; pending = pending_during s at (length bytes); synced = s.synced }
-written s at bytes false = record { contents = s.contents; pending = pending_during s at (length bytes); synced = s.synced }
+abbrev pub written : State → ℕ → List ℕ → State
+written s at bytes = record { contents = put at bytes s.contents; pending = pending_during s at (length bytes); synced = s.synced }
+
+-- once a write has failed and left the contents: its places are pending all the same
+abbrev pub missed : State → ℕ → ℕ → State
+missed s at count = record { contents = s.contents; pending = pending_during s at count; synced = s.synced }
 
 -- once a sync is done
 abbrev pub settled : State → Bool → State
@@ -57,7 +63,8 @@ settled s false = s
 
 -- once a call is done
 abbrev pub step : State → Call → State
-step s (Write at bytes took) = written s at bytes took
+step s (Write at bytes) = written s at bytes
+step s (Missed at count) = missed s at count
 step s (Sync cleared) = settled s cleared
 step s Refused = s
 
@@ -130,11 +137,13 @@ pub record Uncounted (h h' : History) : Type 0 where
 abbrev pub DidNothing : History → History → Type 0
 DidNothing h h' = Called h Refused h' ⊎ Uncounted h h'
 
+-- a write that took no effect
+abbrev pub TookNoEffect : History → ℕ → ℕ → History → Type 0
+TookNoEffect h at count h' = Called h (Missed at count) h' ⊎ DidNothing h h'
+
 -- what a write did: it took effect; only where it failed may it also not have
 abbrev pub Wrote : History → ℕ → List ℕ → Type 0 → History → Type 0
-Wrote h at bytes done h' =
-    Called h (Write at bytes true) h'
-    ⊎ ((done → ⊥) × (Called h (Write at bytes false) h' ⊎ DidNothing h h'))
+Wrote h at bytes done h' = Called h (Write at bytes) h' ⊎ ((done → ⊥) × TookNoEffect h at (length bytes) h')
 
 -- what a sync did: nothing is pending; only where it failed may the pending places have stayed
 abbrev pub Synced : History → Type 0 → History → Type 0
@@ -146,7 +155,8 @@ MaySync h h' = (h' ≡ h) ⊎ Synced h ⊥ h'
 
 -- a call that was tried and failed
 abbrev pub Tried : History → Call → History → Type 0
-Tried h (Write at bytes took) h' = Wrote h at bytes ⊥ h'
+Tried h (Write at bytes) h' = Wrote h at bytes ⊥ h'
+Tried h (Missed at count) h' = TookNoEffect h at count h'
 Tried h (Sync cleared) h' = Synced h ⊥ h'
 Tried h Refused h' = DidNothing h h'
 

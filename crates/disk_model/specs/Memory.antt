@@ -1,16 +1,17 @@
 -- What a contract sees of a disk in memory, and what each call does to it.
-use Rattle.std.specs.Prelude.{◌≡◌, ◌+◌, ◌-◌, ◌^◌, min, ◌==◌, ◌&&◌, ◌⊎◌, Bool, true, false, nat_lt, nat_le, ℕ, List, [], ◌∷◌, length, Option, Some, None, is_none, find, if◌then◌else◌}
+use Rattle.std.specs.Prelude.{◌≡◌, ◌+◌, ◌*◌, ◌-◌, ◌^◌, min, ◌==◌, ◌&&◌, ◌⊎◌, Bool, true, false, nat_lt, nat_le, ℕ, List, [], ◌∷◌, length, Option, Some, None, is_none, find, if◌then◌else◌}
 use Rattle.std.specs.List.{list_any}
 use Rattle.std.specs.Option.{option_map}
 use Rattle.disk_model.specs.declared.failing.FailAt.{FailAt}
 use Rattle.disk_model.specs.declared.failing.FailMode.{FailMode}
 use Rattle.disk_model.specs.declared.failing.FailMode.TheVariants.{Nothing, Effect}
-use Rattle.disk_model.specs.Disk.{History, Call, Write, Sync, Refused, Called, Uncounted}
+use Rattle.disk_model.specs.Disk.{History, Call, Write, Missed, Sync, Refused, Called, Uncounted}
 
 -- how many bytes the writes of these calls have
 abbrev pub written_bytes : List Call → ℕ
 written_bytes [] = 0
-written_bytes (Write at bytes took ∷ calls) = length bytes + written_bytes calls
+written_bytes (Write at bytes ∷ calls) = length bytes + written_bytes calls
+written_bytes (Missed at count ∷ calls) = written_bytes calls
 written_bytes (Sync cleared ∷ calls) = written_bytes calls
 written_bytes (Refused ∷ calls) = written_bytes calls
 
@@ -48,13 +49,18 @@ takes None = true
 takes (Some Effect) = true
 takes (Some Nothing) = false
 
--- what a write does
+-- a failed call as its record keeps it: with its place up to twice the stated number of calls, and then as a count
+abbrev pub kept_as : MemView → Call → Call
+kept_as v call = if nat_lt (length v.history.calls) (2 * v.limit) then call else Refused
+
+-- what a write does: one without room fails as one does that is to leave nothing
 abbrev pub write_call : MemView → ℕ → List ℕ → Call
-write_call v at bytes = if has_room v at (length bytes) then Write at bytes (takes (next_mode v)) else Refused
+write_call v at bytes =
+    if has_room v at (length bytes) && takes (next_mode v) then Write at bytes else kept_as v (Missed at (length bytes))
 
 -- what a sync does
 abbrev pub sync_call : MemView → Call
-sync_call v = if has_call v then Sync (takes (next_mode v)) else Refused
+sync_call v = if has_call v && takes (next_mode v) then Sync true else kept_as v (Sync false)
 
 -- whether a write is answered as done: there is room, and it isn't to fail
 abbrev pub is_write_done : MemView → ℕ → ℕ → Bool

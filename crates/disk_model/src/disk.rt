@@ -1,5 +1,5 @@
 ghost use Rattle.std.specs.Prelude.{◌≡◌, ◌≤◌, ◌<◌, ◌+◌, ◌^◌, ℕ, Bool, length, IsTrue};
-ghost use Rattle.disk_model.specs.Disk.{History, contents_of, DidNothing, Wrote, Synced, Gives, HasCause, IfLen, IfRead};
+ghost use Rattle.disk_model.specs.Disk.{History, contents_of, TookNoEffect, Wrote, Synced, Gives, HasCause, IfLen, IfRead};
 
 /// A length, if it could be told.
 #[derive(Clone, Copy, Debug, PartialEq, Eq)]
@@ -59,7 +59,7 @@ pub trait Disk {
         ensures bound { result ≡ DiskDone.Done → at + length piece.now ≤ 2 ^ 62 }
         // Past the most bytes that a disk holds a write takes no effect.
         ensures past { IsTrue (tells self.old) → 2 ^ 62 < at + length piece.now →
-            DidNothing (history self.old) (history self.new) }
+            TookNoEffect (history self.old) at (length piece.now) (history self.new) }
         ensures written { IsTrue (tells self.old) →
             Wrote (history self.old) at piece.now (result ≡ DiskDone.Done) (history self.new) }
         ensures cause { HasCause (faults self.old) (faults self.new) (result ≡ DiskDone.Failed) };

@@ -1,8 +1,8 @@
-ghost use Rattle.std.specs.Prelude.{◌≡◌, ◌<◌, ◌≤◌, ◌+◌, ◌-◌, ◌^◌, ◌⊎◌, [], ◌∷◌, ◌++◌, length, IfOk, IsTrue, vec_len, vec_capacity, min};
-ghost use Rattle.disk_model.specs.Disk.{Write, Sync, Refused};
+ghost use Rattle.std.specs.Prelude.{◌≡◌, ◌<◌, ◌≤◌, ◌+◌, ◌-◌, ◌^◌, ◌⊎◌, [], ◌∷◌, ◌++◌, false, length, IfOk, IsTrue, vec_len, vec_capacity, min};
+ghost use Rattle.disk_model.specs.Disk.{Write, Refused};
 ghost use Rattle.std.specs.Prelude.{map, take, replicate, OnOk};
 ghost use Rattle.disk_model.specs.Disk.{after, at_first};
-ghost use Rattle.disk_model.specs.Kept.{keeps_call, keeps_write};
+ghost use Rattle.disk_model.specs.Kept.{keeps_call, keeps_place, as_kept, keeps_write};
 ghost use Rattle.disk_model.specs.Kept.{size_of, call_of as kept_call, bytes_after, total_of, calls_of};
 ghost use Rattle.disk_model.specs.Made.{call_of};
 ghost use Rattle.disk_model.specs.Marks.{Knows};
@@ -16,12 +16,13 @@ use std::marker::Model;
 /// One call of a disk in memory. A write's bytes stand elsewhere.
 #[derive(Clone, Copy, Debug, PartialEq, Eq)]
 pub(crate) enum Kept {
-    Written { at: u64, count: usize, took: bool },
+    Written { at: u64, count: usize },
+    Missed { at: u64, count: usize },
     Synced { cleared: bool },
-    TurnedDown,
 }
 
-/// The record of the calls of a disk in memory, whose room is taken when it is made.
+/// The record of the calls of a disk in memory, whose room is taken when it is made: for as many
+/// calls as may be done, and as many failed ones again.
 #[derive(Drop)]
 pub(crate) struct CallRecord {
     kept: Vec<Kept>,
@@ -75,7 +76,7 @@ impl CallRecord {
         ensures { IfOk result (λ r. r ≡ record { calls = []; room = room; limit = limit }) }
     {
         Ok(CallRecord {
-            kept: Vec::with_capacity(alloc, limit as usize)?,
+            kept: Vec::with_capacity(alloc, 2 * limit as usize)?,
             written: Vec::with_capacity(alloc, room)?,
             refused: 0,
             room,
@@ -83,14 +84,14 @@ impl CallRecord {
         })
     }
 
-    /// Whether the stated number of calls isn't reached.
+    /// Whether one call more may be done.
     pub(crate) fn keeps_call(&self) -> bool
         ensures { result ≡ keeps_call self.now }
     {
         self.kept.len() < self.limit as usize
     }
 
-    /// Whether there is room for a write of that many bytes.
+    /// Whether a write of that many bytes may be done.
     pub(crate) fn keeps_write(&self, count: usize) -> bool
         ensures { result ≡ keeps_write self.now count }
     {
@@ -104,31 +105,24 @@ impl CallRecord {
         self.kept.len() as u64 + self.refused
     }
 
-    /// Keeps a write.
-    pub(crate) fn keep_write(&mut self, at: u64, piece: &[u8], took: bool)
+    /// Keeps a write that took effect.
+    pub(crate) fn keep_write(&mut self, at: u64, piece: &[u8])
         requires { IsTrue (keeps_write self.old (length piece.now)) }
-        ensures { self.new ≡ record self.old { calls = self.old.calls ++ Write at piece.now took ∷ [] } }
+        ensures { self.new ≡ record self.old { calls = self.old.calls ++ Write at piece.now ∷ [] } }
     {
         extend_within(&mut self.written, piece);
         let count = piece.len();
-        push_within(&mut self.kept, Kept::Written { at, count, took });
+        push_within(&mut self.kept, Kept::Written { at, count });
     }
 
-    /// Keeps a sync.
-    pub(crate) fn keep_sync(&mut self, cleared: bool)
-        requires { IsTrue (keeps_call self.old) }
-        ensures { self.new ≡ record self.old { calls = self.old.calls ++ Sync cleared ∷ [] } }
+    /// Keeps a call without bytes. Past the record's room it is only counted.
+    pub(crate) fn keep(&mut self, call: Kept)
+        requires { size_of call ≡ 0 }
+        ensures { (self.new ≡ record self.old { calls = self.old.calls ++ as_kept self.old (kept_call call []) ∷ [] })
+            ⊎ ((2 ^ 64 - 1 ≤ length self.old.calls) × (keeps_place self.old ≡ false) × (self.new ≡ self.old)) }
     {
-        push_within(&mut self.kept, Kept::Synced { cleared });
-    }
-
-    /// Counts a call that was refused, unless the count stands at its end.
-    pub(crate) fn keep_refusal(&mut self)
-        ensures { (self.new ≡ record self.old { calls = self.old.calls ++ Refused ∷ [] })
-            ⊎ ((2 ^ 64 - 1 ≤ length self.old.calls) × (self.new ≡ self.old)) }
-    {
-        if self.kept.len() < self.limit as usize {
-            push_within(&mut self.kept, Kept::TurnedDown);
+        if self.kept.len() < 2 * self.limit as usize {
+            push_within(&mut self.kept, call);
         } else if self.count() < u64::MAX {
             self.refused += 1;
         }
@@ -165,12 +159,12 @@ fn show_call<'a>(call: &Kept, bytes: &'a [u8]) -> (Made<'a>, &'a [u8])
     ensures rest { result.1.now ≡ bytes_after call.now bytes.now }
 {
     match *call {
-        Kept::Written { at, count, took } => {
+        Kept::Written { at, count } => {
             let (bytes, rest) = bytes.split_at(count);
-            (Made::Wrote { at, bytes, took }, rest)
+            (Made::Wrote { at, bytes }, rest)
         }
+        Kept::Missed { at, count } => (Made::Missed { at, count }, bytes),
         Kept::Synced { cleared } => (Made::Synced { cleared }, bytes),
-        Kept::TurnedDown => (Made::TurnedDown, bytes),
     }
 }
 

@@ -1,9 +1,9 @@
 ghost use Rattle.std.specs.Prelude.{◌≡◌, ◌≤◌, ◌<◌, ◌+◌, ◌-◌, ◌^◌, ◌↔◌, ◌++◌, ◌∷◌, [], ℕ, length, min, is_none, true, false, IfOk, IsTrue};
 ghost use Rattle.std.specs.Prelude.{◌==◌};
 ghost use Rattle.std.specs.List.{list_any};
-ghost use Rattle.disk_model.specs.Disk.{History, Call, Write, Sync, Refused, contents_of};
-ghost use Rattle.disk_model.specs.Disk.{Wrote, Synced, Called, DidNothing, Gives, HasCause, IfLen, IfRead};
-ghost use Rattle.disk_model.specs.Memory.{MemView, has_call, has_room, mode_of, next_mode, write_call, sync_call, DidCall};
+ghost use Rattle.disk_model.specs.Disk.{History, Call, Write, Missed, Sync, Refused, contents_of};
+ghost use Rattle.disk_model.specs.Disk.{Wrote, Synced, Called, TookNoEffect, Gives, HasCause, IfLen, IfRead};
+ghost use Rattle.disk_model.specs.Memory.{MemView, has_call, has_room, mode_of, next_mode, kept_as, write_call, sync_call, DidCall};
 ghost use Rattle.disk_model.specs.Memory.{is_write_done, is_sync_done};
 ghost use Rattle.disk_model.specs.Memory.{next_read, fails_read, DidRead};
 ghost use Rattle.std.specs.Prelude.{map};
@@ -13,7 +13,7 @@ ghost use Rattle.disk_model.specs.Replay.{HoldsImage, fresh};
 
 use crate::disk::{Disk, DiskDone, DiskLen, DiskRead};
 use crate::failing::{FailAt, FailMode};
-use crate::kept::CallRecord;
+use crate::kept::{CallRecord, Kept};
 use crate::made::Made;
 use crate::moves::{put_within, read_bytes};
 use crate::replay::chosen_image;
@@ -196,46 +196,54 @@ impl MemDisk {
         mode_of(&self.failing, self.calls.count() + 1)
     }
 
-    fn write(&mut self, at: u64, piece: &[u8], took: bool)
+    fn write(&mut self, at: u64, piece: &[u8])
         requires room { IsTrue (has_room self.old at (length piece.now)) }
         requires at_end { at ≤ length (contents_of self.old.history) }
         ensures { self.new ≡ record self.old {
           history = record {
             first = self.old.history.first;
-            calls = self.old.history.calls ++ Write at piece.now took ∷ [];
+            calls = self.old.history.calls ++ Write at piece.now ∷ [];
           };
         } }
     {
-        self.calls.keep_write(at, piece, took);
-        if took {
-            put_within(&mut self.bytes, at as usize, piece);
-        }
+        self.calls.keep_write(at, piece);
+        put_within(&mut self.bytes, at as usize, piece);
     }
 
-    fn settle(&mut self, cleared: bool)
+    // A write that takes no effect.
+    fn miss(&mut self, at: u64, count: usize)
+        ensures did { DidCall self.old (kept_as self.old (Missed at count)) self.new }
+        ensures cause { HasCause self.old.faults self.new.faults (Unit {0}) }
+    {
+        self.calls.keep(Kept::Missed { at, count });
+        self.faults = self.faults.saturating_add(1);
+    }
+
+    fn settle(&mut self)
         requires { IsTrue (has_call self.old) }
         ensures { self.new ≡ record self.old {
           history = record {
             first = self.old.history.first;
-            calls = self.old.history.calls ++ Sync cleared ∷ [];
+            calls = self.old.history.calls ++ Sync true ∷ [];
           };
         } }
     {
-        self.calls.keep_sync(cleared);
+        self.calls.keep(Kept::Synced { cleared: true });
+    }
+
+    // A sync that clears nothing.
+    fn leave_pending(&mut self)
+        ensures did { DidCall self.old (kept_as self.old (Sync false)) self.new }
+        ensures cause { HasCause self.old.faults self.new.faults (Unit {0}) }
+    {
+        self.calls.keep(Kept::Synced { cleared: false });
+        self.faults = self.faults.saturating_add(1);
     }
 
     fn count_fault(&mut self)
         ensures same { self.new ≡ record self.old { faults = self.new.faults } }
         ensures cause { HasCause self.old.faults self.new.faults (Unit {0}) }
     {
-        self.faults = self.faults.saturating_add(1);
-    }
-
-    fn turn_down(&mut self)
-        ensures did { DidCall self.old Refused self.new }
-        ensures cause { HasCause self.old.faults self.new.faults (Unit {0}) }
-    {
-        self.calls.keep_refusal();
         self.faults = self.faults.saturating_add(1);
     }
 
@@ -299,7 +307,7 @@ impl Disk for MemDisk {
         ensures tells { true ≡ true }
         ensures bound { result ≡ DiskDone.Done → at + length piece.now ≤ 2 ^ 62 }
         ensures past { IsTrue true → 2 ^ 62 < at + length piece.now →
-            DidNothing self.old.history self.new.history }
+            TookNoEffect self.old.history at (length piece.now) self.new.history }
         ensures written { IsTrue true →
             Wrote self.old.history at piece.now (result ≡ DiskDone.Done) self.new.history }
         ensures cause { HasCause self.old.faults self.new.faults (result ≡ DiskDone.Failed) }
@@ -309,21 +317,20 @@ impl Disk for MemDisk {
         ensures calm { result ≡ DiskDone.Done → self.new.faults ≡ self.old.faults }
     {
         if !self.has_room(at, piece.len()) {
-            self.turn_down();
+            self.miss(at, piece.len());
             return DiskDone::Failed;
         }
         match self.next_mode() {
             None => {
-                self.write(at, piece, true);
+                self.write(at, piece);
                 DiskDone::Done
             }
             Some(FailMode::Nothing) => {
-                self.write(at, piece, false);
-                self.count_fault();
+                self.miss(at, piece.len());
                 DiskDone::Failed
             }
             Some(FailMode::Effect) => {
-                self.write(at, piece, true);
+                self.write(at, piece);
                 self.count_fault();
                 DiskDone::Failed
             }
@@ -340,21 +347,20 @@ impl Disk for MemDisk {
         ensures calm { result ≡ DiskDone.Done → self.new.faults ≡ self.old.faults }
     {
         if !self.has_call() {
-            self.turn_down();
+            self.leave_pending();
             return DiskDone::Failed;
         }
         match self.next_mode() {
             None => {
-                self.settle(true);
+                self.settle();
                 DiskDone::Done
             }
             Some(FailMode::Nothing) => {
-                self.settle(false);
-                self.count_fault();
+                self.leave_pending();
                 DiskDone::Failed
             }
             Some(FailMode::Effect) => {
-                self.settle(true);
+                self.settle();
                 self.count_fault();
                 DiskDone::Failed
             }

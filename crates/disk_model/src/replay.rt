@@ -1,5 +1,5 @@
 ghost use Rattle.std.specs.Prelude.{◌≡◌, ◌≤◌, ◌<◌, ◌+◌, ◌++◌, ◌∷◌, [], true, false, ℕ, length, take, IfOk, OnOk, slice_index, if◌then◌else◌, max};
-ghost use Rattle.disk_model.specs.Disk.{State, written, settled, step, after, at_first};
+ghost use Rattle.disk_model.specs.Disk.{State, written, missed, settled, step, after, at_first};
 ghost use Rattle.disk_model.specs.Kept.{calls_of, total_of, size_of, call_of, bytes_after};
 ghost use Rattle.disk_model.specs.Marks.{covers, is_marked, Knows};
 ghost use Rattle.disk_model.specs.Replay.{IsTorn, IsChosenImage};
@@ -38,20 +38,28 @@ fn is_marked(marks: &[Mark], place: usize) -> bool
     marks.iter().any(|mark| covers(mark, place))
 }
 
-fn replay_write(replay: &mut Replay, at: u64, piece: &[u8], took: bool) -> Result<(), AllocError>
+fn replay_miss(replay: &mut Replay, at: u64, count: usize) -> Result<(), AllocError>
+    ensures { OnOk result ((s : State)
+        → Knows replay.old.bytes.items replay.old.marks.items replay.old.synced s
+        → Knows replay.new.bytes.items replay.new.marks.items replay.new.synced (missed s at count)) }
+{
+    let size = replay.bytes.len();
+    replay.marks.push(Mark { at, count, size })?;
+    Ok(())
+}
+
+fn replay_write(replay: &mut Replay, at: u64, piece: &[u8]) -> Result<(), AllocError>
     ensures { OnOk result ((s : State)
         → Knows replay.old.bytes.items replay.old.marks.items replay.old.synced s
         → Knows replay.new.bytes.items replay.new.marks.items replay.new.synced
-        (written s at piece.now took)) }
+        (written s at piece.now)) }
 {
     replay.marks.push(Mark {
         at,
         count: piece.len(),
         size: replay.bytes.len(),
     })?;
-    if took {
-        put_bytes(&mut replay.bytes, at as usize, piece)?;
-    }
+    put_bytes(&mut replay.bytes, at as usize, piece)?;
     Ok(())
 }
 
@@ -79,15 +87,18 @@ fn replay_call<'a>(
         (step s (call_of call.now bytes.now))) }
 {
     match *call {
-        Kept::Written { at, count, took } => {
-            replay_write(replay, at, &bytes[..count], took)?;
+        Kept::Written { at, count } => {
+            replay_write(replay, at, &bytes[..count])?;
             Ok(&bytes[count..])
+        }
+        Kept::Missed { at, count } => {
+            replay_miss(replay, at, count)?;
+            Ok(bytes)
         }
         Kept::Synced { cleared } => {
             replay_sync(replay, cleared);
             Ok(bytes)
         }
-        Kept::TurnedDown => Ok(bytes),
     }
 }
 

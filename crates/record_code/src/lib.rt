@@ -15,6 +15,3 @@ pub use encoded::Encoded;
 pub use encoding::{MAX_PAYLOAD, encode};
 pub use payloads::{Payloads, Placed};
 pub use readers::{digest_of, kind_of, length_of};
-
-#[cfg(test)]
-mod tests;

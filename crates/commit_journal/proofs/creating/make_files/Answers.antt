@@ -1,6 +1,6 @@
-use Rattle.std.proofs.Common.{IsTrue, List, ℕ, [], ◌∷◌, true, sym, subst, ◌∙◌}
-use Rattle.disk_model.specs.Disk.{History, Write, Sync, GoesOn, MadePart, contents_of}
-use Rattle.commit_journal.specs.Opening.{making_b}
+use Rattle.std.proofs.Common.{IsTrue, List, ℕ, sym, subst, ◌∙◌}
+use Rattle.disk_model.specs.Disk.{History, GoesOn, MadePart, contents_of}
+use Rattle.commit_journal.specs.Opening.{making, making_b}
 use Rattle.commit_journal.proofs.CreateLemmas.{made_file, made_chosen}
 use Rattle.commit_journal.proofs.creating.make_files.Goals as goal
 
@@ -22,24 +22,24 @@ pub returns-in-Done-clause-made : goal.returns-in-Done-clause-made
 returns-in-Done-clause-made g c = λ t.
     let h = g.D.Disk.history in
     let t1 = subst IsTrue (sym c.find_journal.ensures.tells) t in
-    subst (λ (l : List ℕ). GoesOn (h c.args.a.now) (Write 0 l true ∷ (Sync true ∷ (Write 16 (1 ∷ []) true ∷ (Sync true ∷ [])))) (h c.write_files.new.a)) (c.deref.ensures.value ∙ c.in-Ok.ensures)
-    (subst (λ (x : History). GoesOn x (Write 0 c.deref.result.now true ∷ (Sync true ∷ (Write 16 (1 ∷ []) true ∷ (Sync true ∷ [])))) (h c.write_files.new.a)) c.find_journal.ensures.history
+    subst (λ (l : List ℕ). GoesOn (h c.args.a.now) (making l) (h c.write_files.new.a)) (c.deref.ensures.value ∙ c.in-Ok.ensures)
+    (subst (λ (x : History). GoesOn x (making c.deref.result.now) (h c.write_files.new.a)) c.find_journal.ensures.history
     (c.write_files.ensures.made c.in-Done.is t1))
 
 pub returns-in-Done-clause-part : goal.returns-in-Done-clause-part
 returns-in-Done-clause-part g c = λ t.
     let h = g.D.Disk.history in
     let t1 = subst IsTrue (sym c.find_journal.ensures.tells) t in
-    subst (λ (l : List ℕ). MadePart (h c.args.a.now) (Write 0 l true ∷ (Sync true ∷ (Write 16 (1 ∷ []) true ∷ (Sync true ∷ [])))) (h c.write_files.new.a)) (c.deref.ensures.value ∙ c.in-Ok.ensures)
-    (subst (λ (x : History). MadePart x (Write 0 c.deref.result.now true ∷ (Sync true ∷ (Write 16 (1 ∷ []) true ∷ (Sync true ∷ [])))) (h c.write_files.new.a)) c.find_journal.ensures.history
+    subst (λ (l : List ℕ). MadePart (h c.args.a.now) (making l) (h c.write_files.new.a)) (c.deref.ensures.value ∙ c.in-Ok.ensures)
+    (subst (λ (x : History). MadePart x (making c.deref.result.now) (h c.write_files.new.a)) c.find_journal.ensures.history
     (c.write_files.ensures.part t1))
 
 pub returns-clause-part : goal.returns-clause-part
 returns-clause-part g c = λ t.
     let h = g.D.Disk.history in
     let t1 = subst IsTrue (sym c.find_journal.ensures.tells) t in
-    subst (λ (l : List ℕ). MadePart (h c.args.a.now) (Write 0 l true ∷ (Sync true ∷ (Write 16 (1 ∷ []) true ∷ (Sync true ∷ [])))) (h c.write_files.new.a)) (c.deref.ensures.value ∙ c.in-Ok.ensures)
-    (subst (λ (x : History). MadePart x (Write 0 c.deref.result.now true ∷ (Sync true ∷ (Write 16 (1 ∷ []) true ∷ (Sync true ∷ [])))) (h c.write_files.new.a)) c.find_journal.ensures.history
+    subst (λ (l : List ℕ). MadePart (h c.args.a.now) (making l) (h c.write_files.new.a)) (c.deref.ensures.value ∙ c.in-Ok.ensures)
+    (subst (λ (x : History). MadePart x (making c.deref.result.now) (h c.write_files.new.a)) c.find_journal.ensures.history
     (c.write_files.ensures.part t1))
 
 pub returns-clause-other_part : goal.returns-clause-other_part

@@ -1,5 +1,6 @@
-use Rattle.std.proofs.Common.{◌∷◌, [], ◌++◌, List, ℕ, true, false, length, IsTrue, refl, subst, ap, ◌∙◌, arith, rules}
-use Rattle.disk_model.specs.Disk.{Write, Sync, GoesOn, MadePart}
+use Rattle.std.proofs.Common.{◌∷◌, [], ◌++◌, List, ℕ, false, length, IsTrue, refl, subst, ap, ◌∙◌, arith, rules}
+use Rattle.disk_model.specs.Disk.{GoesOn, MadePart}
+use Rattle.commit_journal.specs.Opening.{making}
 use Rattle.record_code.specs.Record.{bodies}
 use Rattle.record_code.proofs.ReadingLemmas.{length-body}
 use Rattle.commit_journal.specs.Pair.{head_a}
@@ -41,7 +42,7 @@ returns-in-Ok-clause-made g c =
           let settled = c.in-Ok.ensures.settled t r sound is in
           let chosen = c.in-Ok.ensures.chosen t u r sound is in
           quiet_only _ _ (r ∷ []) settled.quiet (c.in-Ok.ensures.other_quiet u) (chosen_spells false _ _ (r ∷ []) _ chosen settled.spells);
-      made_a = λ t. subst (λ (l : List ℕ). GoesOn (h c.args.a) (Write 0 (head_a ++ l) true ∷ (Sync true ∷ (Write 16 (1 ∷ []) true ∷ (Sync true ∷ [])))) (h c.make_files.new.a)) c.as_bytes-entry.ensures.bytes (c.in-Ok.ensures.made t);
+      made_a = λ t. subst (λ (l : List ℕ). GoesOn (h c.args.a) (making (head_a ++ l)) (h c.make_files.new.a)) c.as_bytes-entry.ensures.bytes (c.in-Ok.ensures.made t);
       made_b = λ u. c.in-Ok.ensures.other_made u;
     }
 
@@ -51,7 +52,7 @@ returns-in-Err-clause-err g c =
       exists = search rules;
       spared = search rules;
       unchanged = search rules;
-      part_a = λ t. subst (λ (l : List ℕ). MadePart (h c.args.a) (Write 0 (head_a ++ l) true ∷ (Sync true ∷ (Write 16 (1 ∷ []) true ∷ (Sync true ∷ [])))) (h c.make_files.new.a)) c.as_bytes-entry.ensures.bytes (c.make_files.ensures.part t);
+      part_a = λ t. subst (λ (l : List ℕ). MadePart (h c.args.a) (making (head_a ++ l)) (h c.make_files.new.a)) c.as_bytes-entry.ensures.bytes (c.make_files.ensures.part t);
       part_b = λ u. c.make_files.ensures.other_part u;
       tells_a = search rules;
       tells_b = search rules;

@@ -36,7 +36,7 @@ invariant_of-self c =
     let all_bytes = ap (λ (v : RecordView). written_bytes v.calls) c.self.view_is in
     let room = ap (λ (v : RecordView). v.room) c.self.view_is in
     let fits = write_fits (length c.args.piece.now) r.room _ _ _ (sym all_bytes ∙ bytes) room (both_true _ _ c.requires).1 in
-    let one : Kept = Written c.args.at (length c.args.piece.now) c.args.took in
+    let one : Kept = Written c.args.at (length c.args.piece.now) in
     let more = c.push_within.ensures.items in
     let long = ap length more ∙ length-append r.kept.items (one ∷ []) in
     let longer = ap length c.extend_within.ensures.items ∙ length-append r.written.items c.args.piece.now in
@@ -57,8 +57,8 @@ returns c =
     let limit = ap (λ (v : RecordView). v.limit) c.self.view_is in
     let counted = length-recorded r.kept.items r.written.items r.refused in
     let free = none_refused (length r.kept.items) r.refused r.limit _ _ (sym all ∙ counted) limit c.self.invariant.full (both_true _ _ c.requires).0 in
-    let one : Kept = Written c.args.at (length c.args.piece.now) c.args.took in
-    viewed _ _ _ (Write c.args.at c.args.piece.now c.args.took ∷ []) _ _ c.self.view_is
+    let one : Kept = Written c.args.at (length c.args.piece.now) in
+    viewed _ _ _ (Write c.args.at c.args.piece.now ∷ []) _ _ c.self.view_is
     (ap (λ (l : List Kept). recorded l c.extend_within.new.bytes.items r.refused) c.push_within.ensures.items
     ∙ ap (λ (l : List ℕ). recorded (r.kept.items ++ one ∷ []) l r.refused) c.extend_within.ensures.items
-    ∙ recorded_write r.kept.items r.written.items r.refused c.args.at c.args.piece.now c.args.took _ c.self.invariant.total free.0 refl)
+    ∙ recorded_write r.kept.items r.written.items r.refused c.args.at c.args.piece.now _ c.self.invariant.total free.0 refl)
