@@ -5,3 +5,4 @@ pub mod ReadLemmas
 pub mod CreateLemmas
 pub mod CauseLemmas
 pub mod CallLemmas
+pub mod SideLemmas

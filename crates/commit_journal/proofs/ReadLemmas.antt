@@ -15,7 +15,8 @@ use Rattle.commit_journal.specs.Pair.{magic, generation}
 use Rattle.record_code.specs.declared.payloads.Placed.{Placed}
 use Rattle.record_code.specs.Reading.{Reads}
 use Rattle.record_code.proofs.ReadingLemmas.{reads_push}
-use Rattle.commit_journal.specs.Attach.{IsHeaderOf, IsDamage, record_of, records_of, PlacedFrom}
+use Rattle.commit_journal.specs.Attach.{IsHeaderOf, IsDamage}
+use Rattle.record_code.specs.Listed.{record_of, records_of, PlacedFrom}
 
 kept_size : (n : ℕ) → n ≤ most_payload → n ≡ cond (nat_le n most_payload) n 0
 kept_size n le = grind (arith, nat_tests)
@@ -117,6 +118,9 @@ module _ (f : List ℕ) (g : ℕ) (head rest payload stored : List ℕ) (head_is
 
 pub is_one : (n : ℕ) (b : Bool) → b ≡ (n == 1) → b ≡ true → n ≡ 1
 is_one n b told is = let e : (n == 1) ≡ true = sym told ∙ is in grind (arith, nat_tests)
+
+pub not_one : (n : ℕ) (b : Bool) → b ≡ (n == 1) → b ≡ false → n ≡ 1 → ⊥
+not_one n b told is one = let e : (n == 1) ≡ false = sym told ∙ is in grind (arith, nat_tests)
 
 -- one record more was read
 pub read_more : (f : List ℕ) (placed placed' : List Placed) (p : Placed) (gate next : ℕ) → Reads f first_gate (records_of placed) gate → IsRecordAt f gate (record_of p)

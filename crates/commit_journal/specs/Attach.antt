@@ -1,24 +1,11 @@
 -- What opening a journal reads, and why it may be refused.
-use Rattle.std.specs.Prelude.{◌≡◌, ◌≢◌, ◌≤◌, ◌==◌, ◌⊎◌, ◌↔◌, IsTrue, ℕ, List, length, map, ◌+◌, [], ◌∷◌}
-use Rattle.record_code.specs.declared.payloads.Placed.{Placed}
+use Rattle.std.specs.Prelude.{◌≡◌, ◌≢◌, ◌≤◌, ◌==◌, ◌⊎◌, ◌↔◌, IsTrue, ℕ, List, length}
 use Rattle.record_code.specs.Record.{Record}
 use Rattle.record_code.specs.Reading.{byte, slice, Reads, first_gate, computed_digest, kept_digest}
 use Rattle.commit_journal.specs.declared.why.AttachWhy.{AttachWhy}
 use Rattle.commit_journal.specs.declared.why.AttachWhy.TheVariants.{NotAJournal, Damaged, DiskFault, NoMemory}
 use Rattle.commit_journal.specs.declared.header.Header.{Header}
 use Rattle.commit_journal.specs.Pair.{magic, HasHeader, IsPair, generation, file_gate, counting_of}
-
--- the record that was read, without its place
-abbrev pub record_of : Placed → Record
-record_of p = record { kind = p.kind; payload = p.payload }
-
-abbrev pub records_of : List Placed → List Record
-records_of placed = map record_of placed
-
--- the records stand one behind the other, the first with its gate at g, and the gate behind the last is at `last`
-abbrev pub PlacedFrom : ℕ → List Placed → ℕ → Type 0
-PlacedFrom g [] last = g ≡ last
-PlacedFrom g (p ∷ placed) last = (p.offset ≡ g) × PlacedFrom (g + 38 + length p.payload) placed last
 
 -- a gated record whose digest isn't that of its bytes
 pub record IsDamage (file : List ℕ) (g offset : ℕ) (kept computed : List ℕ) : Type 0 where

@@ -71,6 +71,13 @@ disk_a v = first_of v.b_counts v.counting v.other
 abbrev pub disk_b : {D : Type 0} → JournalView D → D
 disk_b v = second_of v.b_counts v.counting v.other
 
+-- how many calls the disk of A made since the journal was opened, and that of B
+abbrev pub calls_a : {D : Type 0} → JournalView D → ℕ
+calls_a v = first_of v.b_counts v.counting_calls v.other_calls
+
+abbrev pub calls_b : {D : Type 0} → JournalView D → ℕ
+calls_b v = second_of v.b_counts v.counting_calls v.other_calls
+
 -- each pair of images since the old journal has P
 abbrev pub LeavesBoth : {D : Type 0} → (D → History) → JournalView D → JournalView D → (List ℕ → List ℕ → Type 0) → Type 0
 LeavesBoth history old new P = LeavesPair (a_of history old) (b_of history old) (a_of history new) (b_of history new) P
@@ -86,11 +93,11 @@ IsWhole tells history counting gate (InFlight next) =
     × (next ≡ gate_behind gate r)
     × ((c : List ℕ) → IsImage (state_of (history counting)) c → IsBeforeOrAfter (contents_of (history counting)) rs r gate c))
 
--- no count of faults fell, and a failure comes only where one of them rose
-pub record PairCause (counting counting' other other' : ℕ) (failed : Type 0) : Type 0 where
-  pub counting_later : counting ≤ counting'
-  pub other_later : other ≤ other'
-  pub rose : failed → Rose counting counting' ⊎ Rose other other'
+-- no count of faults of two disks fell, and a failure comes only where one of them rose
+pub record PairCause (a a' b b' : ℕ) (failed : Type 0) : Type 0 where
+  pub later_a : a ≤ a'
+  pub later_b : b ≤ b'
+  pub rose : failed → Rose a a' ⊎ Rose b b'
 
 -- the place of the gate behind a record in flight
 abbrev pub next_of : Flight → ℕ → ℕ

@@ -10,7 +10,8 @@ use Rattle.commit_journal.specs.declared.why.AttachWhy.{AttachWhy}
 use Rattle.commit_journal.specs.declared.why.AttachWhy.TheVariants.{DiskFault}
 use Rattle.commit_journal.specs.Pair.{head_a, head_b, Only, PairSpells}
 use Rattle.commit_journal.specs.Journal.{JournalView, PairCause, Has, IsIdle, a_of, b_of, disk_a, disk_b}
-use Rattle.commit_journal.specs.Attach.{records_of, PlacedFrom, ExplainsPair, IsFree, IsOwed, IsThere}
+use Rattle.commit_journal.specs.Attach.{ExplainsPair, IsFree, IsOwed, IsThere}
+use Rattle.record_code.specs.Listed.{records_of, PlacedFrom}
 
 -- a journal on these two disks that has made no call yet
 pub record IsOpened {D : Type 0} (tells : D → Bool) (faults : D → ℕ) (a b : D) (limit : ℕ) (v : JournalView D) : Type 0 where

@@ -2,7 +2,8 @@ ghost use Rattle.std.specs.Prelude.{◌≡◌, ◌<◌, ◌^◌, ◌⊎◌, ◌�
 ghost use Rattle.disk_model.specs.Disk.{contents_of, Sync, Called, MaySync};
 ghost use Rattle.record_code.specs.Reading.{Spells};
 ghost use Rattle.commit_journal.specs.Pair.{IsPair, PairSpells, Only, b_counts, IsQuiet, FileSettles};
-ghost use Rattle.commit_journal.specs.Attach.{records_of, PlacedFrom, ExplainsPair, ExplainsFile, IsHeaderOf};
+ghost use Rattle.commit_journal.specs.Attach.{ExplainsPair, ExplainsFile, IsHeaderOf};
+ghost use Rattle.record_code.specs.Listed.{records_of, PlacedFrom};
 ghost use Rattle.commit_journal.specs.Journal.{PairCause};
 
 use crate::header::{Header, read_header};

@@ -3,7 +3,8 @@ ghost use Rattle.std.specs.Int.{w32, from_be_bytes};
 ghost use Rattle.sha2.specs.Sha256.{sha256};
 ghost use Rattle.disk_model.specs.Disk.{contents_of, HasCause};
 ghost use Rattle.record_code.specs.Reading.{byte, slice, size_at, next_gate, IsRecordAt, Spells};
-ghost use Rattle.commit_journal.specs.Attach.{record_of, records_of, PlacedFrom, ExplainsRecord, ExplainsFile};
+ghost use Rattle.commit_journal.specs.Attach.{ExplainsRecord, ExplainsFile};
+ghost use Rattle.record_code.specs.Listed.{record_of, records_of, PlacedFrom};
 
 use crate::header::FIRST_GATE;
 use crate::settling::{fill, read_gate};

@@ -1,7 +1,7 @@
 use Rattle.std.proofs.Common.{◌∙◌, List, ℕ, IsTrue, subst, sym}
 use Rattle.disk_model.specs.Disk.{History, contents_of}
 use Rattle.commit_journal.specs.Pair.{PairSpells, Only}
-use Rattle.commit_journal.specs.Attach.{records_of}
+use Rattle.record_code.specs.Listed.{records_of}
 use Rattle.commit_journal.proofs.PairLemmas.{read_spells, quiet_only}
 use Rattle.commit_journal.proofs.opening.open_files.Goals as goal
 

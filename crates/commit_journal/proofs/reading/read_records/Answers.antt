@@ -1,7 +1,7 @@
 use Rattle.std.proofs.Common.{◌≡◌, IsTrue, sym, subst, ◌∙◌, arith}
 use Rattle.disk_model.specs.Disk.{History, contents_of}
 use Rattle.record_code.specs.Reading.{byte, IsRecordAt, next_gate}
-use Rattle.commit_journal.specs.Attach.{record_of}
+use Rattle.record_code.specs.Listed.{record_of}
 use Rattle.commit_journal.proofs.ReadLemmas.{is_one, read_more, placed_more}
 use Rattle.commit_journal.proofs.reading.read_records.Goals as goal
 

@@ -1,7 +1,7 @@
 use Rattle.std.proofs.Common.{◌≡◌, ◌≤◌, ◌<◌, ◌-◌, ◌^◌, IsTrue}
 use Rattle.disk_model.specs.Disk.{contents_of}
 use Rattle.record_code.specs.Reading.{Reads, first_gate}
-use Rattle.commit_journal.specs.Attach.{records_of, PlacedFrom}
+use Rattle.record_code.specs.Listed.{records_of, PlacedFrom}
 use Rattle.commit_journal.proofs.reading.read_records.Given as goal
 
 abbrev pub invariant-loop-gate : goal.invariant-loop-gate

@@ -1,11 +1,13 @@
-use Rattle.std.proofs.Common.{◌≡◌, ◌+◌, ◌++◌, ◌∷◌, [], List, length, IsTrue, sym, subst, ap, ◌∙◌, arith}
-use Rattle.record_code.specs.Record.{Record, bodies}
+use Rattle.std.proofs.Common.{◌≡◌, ◌+◌, ◌++◌, ◌∷◌, [], List, length, IsTrue, ℕ, ◌≤◌, refl, sym, subst, ap, ◌∙◌, arith}
+use Rattle.record_code.specs.Record.{bodies}
 use Rattle.commit_journal.specs.declared.flight.Flight.{Flight}
 use Rattle.commit_journal.specs.declared.flight.Flight.TheVariants.{Nothing, Record as InFlight}
-use Rattle.commit_journal.specs.Pair.{Only, SpellsEither}
-use Rattle.commit_journal.specs.Journal.{a_of, b_of, JournalView, Tell, Has, Awaits, LeavesBoth, IsWhole, CountsCalls}
+use Rattle.commit_journal.specs.Journal.{JournalView, IsWhole, PairCause, counted, disk_a, disk_b}
+use Rattle.commit_journal.specs.Steps.{IsAppended, IsAppendFaulted, IsAppendSafe, Counts, Stays, appending}
+use Rattle.disk_model.specs.Disk.{GoesOn, MadePart}
+use Rattle.commit_journal.proofs.SideLemmas.{side_a, side_b, one_cause, sides_count, sides_count_b}
 use Rattle.commit_journal.proofs.PairLemmas.{append_leaves, append_waits, append_rests, rests_only, append_images, the_one, sound_one, behind_is}
-use Rattle.commit_journal.proofs.CallLemmas.{counts_calls}
+use Rattle.commit_journal.proofs.CallLemmas.{counts_calls, no_calls}
 use Rattle.commit_journal.proofs.journal.Journal.append.Goals as goal
 
 pub invariant_of-self : goal.invariant_of-self
@@ -46,92 +48,159 @@ invariant_of-self-in-Failed g c =
           ),
     )
 
-pub returns-in-Done-clause-kept : goal.returns-in-Done-clause-kept
-returns-in-Done-clause-kept g c =
+pub returns-in-Done-clause-ok : goal.returns-in-Done-clause-ok
+returns-in-Done-clause-ok g c =
     let tells = g.D.Disk.tells in
     let history = g.D.Disk.history in
     let j = c.self.inside in
     let new : JournalView _ = record { counting = c.append_to-tried.new.disk; other = j.other; b_counts = j.b_counts; gate = j.gate + length c.as_bytes-entry.result.now; flight = j.flight; limit = j.limit; counting_calls = c.saturating_add-self-inside.result; other_calls = j.other_calls } in
-    subst (λ (v : JournalView _). (rs : List Record) (r : Record) → Tell tells v → Has history v rs → c.args.body.now ≡ r ∷ [] → Has history new (rs ++ r ∷ [])) c.self.view_is
-    (λ rs r tell has one.
-    let is = c.as_bytes-entry.ensures.bytes ∙ ap bodies one in
-    let sound = sound_one _ r c.as_bytes-entry.ensures.sound one in
-    let leaves = c.append_to-tried.ensures.any_moment tell.0 rs r has.rests.settled sound is in
-    record {
-      idle = has.idle;
-      rests = append_rests j.b_counts (history j.counting) (history c.append_to-tried.new.disk) (history j.other) rs r j.gate _ has.rests leaves
-          (c.append_to-tried.ensures.done c.in-Done.is tell.0 rs r has.rests.settled sound is);
+    subst (λ (v : JournalView _). IsAppended tells history v c.args.body.now new) c.self.view_is (record {
+      has = λ rs r tell has one.
+          let is = c.as_bytes-entry.ensures.bytes ∙ ap bodies one in
+          let sound = sound_one _ r c.as_bytes-entry.ensures.sound one in
+          let leaves = c.append_to-tried.ensures.any_moment tell.0 rs r has.rests.settled sound is in
+          record {
+            idle = has.idle;
+            rests = append_rests j.b_counts (history j.counting) (history c.append_to-tried.new.disk) (history j.other) rs r j.gate _ has.rests leaves
+                (c.append_to-tried.ensures.done c.in-Done.is tell.0 rs r has.rests.settled sound is);
+          };
+      only = λ rs r tell has one.
+          let is = c.as_bytes-entry.ensures.bytes ∙ ap bodies one in
+          let sound = sound_one _ r c.as_bytes-entry.ensures.sound one in
+          let leaves = c.append_to-tried.ensures.any_moment tell.0 rs r has.rests.settled sound is in
+          rests_only j.b_counts (history c.append_to-tried.new.disk) (history j.other) _ (rs ++ r ∷ [])
+          (append_rests j.b_counts (history j.counting) (history c.append_to-tried.new.disk) (history j.other) rs r j.gate _ has.rests leaves
+          (c.append_to-tried.ensures.done c.in-Done.is tell.0 rs r has.rests.settled sound is));
+      idle = ap (λ (v : JournalView _). v.flight) c.self.view_is ∙ c.requires.idle;
+      gate_is = ap (λ (l : List ℕ). j.gate + length l) c.as_bytes-entry.ensures.bytes;
+      made = λ t. subst (λ (l : List ℕ). GoesOn (history j.counting) (appending j.gate l) (history c.append_to-tried.new.disk)) c.as_bytes-entry.ensures.bytes (c.append_to-tried.ensures.made c.in-Done.is t);
+      four = c.saturating_add-self-inside.ensures ∙ ap (counted j.counting_calls) (c.append_to-tried.ensures.four c.in-Done.is);
     })
 
-pub returns-in-Done-clause-any_moment : goal.returns-in-Done-clause-any_moment
-returns-in-Done-clause-any_moment g c =
-    let tells = g.D.Disk.tells in
-    let history = g.D.Disk.history in
-    let j = c.self.inside in
-    let new : JournalView _ = record { counting = c.append_to-tried.new.disk; other = j.other; b_counts = j.b_counts; gate = j.gate + length c.as_bytes-entry.result.now; flight = j.flight; limit = j.limit; counting_calls = c.saturating_add-self-inside.result; other_calls = j.other_calls } in
-    subst (λ (v : JournalView _). (rs : List Record) (r : Record) → Tell tells v → Has history v rs → c.args.body.now ≡ r ∷ [] → LeavesBoth history v new (SpellsEither rs (rs ++ r ∷ []))) c.self.view_is
-    (λ rs r tell has one.
-    let is = c.as_bytes-entry.ensures.bytes ∙ ap bodies one in
-    let sound = sound_one _ r c.as_bytes-entry.ensures.sound one in
-    let leaves = c.append_to-tried.ensures.any_moment tell.0 rs r has.rests.settled sound is in
-    append_leaves j.b_counts (history j.counting) (history c.append_to-tried.new.disk) (history j.other) rs r j.gate has.rests leaves)
-
-pub returns-in-Failed-clause-awaits : goal.returns-in-Failed-clause-awaits
-returns-in-Failed-clause-awaits g c =
+pub returns-in-Failed-clause-err : goal.returns-in-Failed-clause-err
+returns-in-Failed-clause-err g c =
     let tells = g.D.Disk.tells in
     let history = g.D.Disk.history in
     let j = c.self.inside in
     let new : JournalView _ = record { counting = c.append_to-tried.new.disk; other = j.other; b_counts = j.b_counts; gate = j.gate; flight = InFlight c.min.result; limit = j.limit; counting_calls = c.saturating_add-self-inside.result; other_calls = j.other_calls } in
-    subst (λ (v : JournalView _). (rs : List Record) (r : Record) → Tell tells v → Has history v rs → c.args.body.now ≡ r ∷ [] → Awaits history new rs r) c.self.view_is
-    (λ rs r tell has one.
-    let is = c.as_bytes-entry.ensures.bytes ∙ ap bodies one in
-    let sound = sound_one _ r c.as_bytes-entry.ensures.sound one in
-    let leaves = c.append_to-tried.ensures.any_moment tell.0 rs r has.rests.settled sound is in
-    record {
-      flight = ap InFlight (c.min.ensures ∙ behind_is j.gate c.as_bytes-entry.result.now r is);
-      waits = append_waits j.b_counts (history j.counting) (history c.append_to-tried.new.disk) (history j.other) rs r j.gate has.rests leaves;
+    subst (λ (v : JournalView _). IsAppendFaulted tells history v c.args.body.now new) c.self.view_is (record {
+      awaits = λ rs r tell has one.
+          let is = c.as_bytes-entry.ensures.bytes ∙ ap bodies one in
+          let sound = sound_one _ r c.as_bytes-entry.ensures.sound one in
+          let leaves = c.append_to-tried.ensures.any_moment tell.0 rs r has.rests.settled sound is in
+          record {
+            flight = ap InFlight (c.min.ensures ∙ behind_is j.gate c.as_bytes-entry.result.now r is);
+            waits = append_waits j.b_counts (history j.counting) (history c.append_to-tried.new.disk) (history j.other) rs r j.gate has.rests leaves;
+          };
+      in_flight = tt;
+      gate_is = refl;
+      part = λ t. subst (λ (l : List ℕ). MadePart (history j.counting) (appending j.gate l) (history c.append_to-tried.new.disk)) c.as_bytes-entry.ensures.bytes (c.append_to-tried.ensures.part t);
     })
 
-pub returns-in-Failed-clause-any_moment : goal.returns-in-Failed-clause-any_moment
-returns-in-Failed-clause-any_moment g c =
-    let tells = g.D.Disk.tells in
-    let history = g.D.Disk.history in
-    let j = c.self.inside in
-    let new : JournalView _ = record { counting = c.append_to-tried.new.disk; other = j.other; b_counts = j.b_counts; gate = j.gate; flight = InFlight c.min.result; limit = j.limit; counting_calls = c.saturating_add-self-inside.result; other_calls = j.other_calls } in
-    subst (λ (v : JournalView _). (rs : List Record) (r : Record) → Tell tells v → Has history v rs → c.args.body.now ≡ r ∷ [] → LeavesBoth history v new (SpellsEither rs (rs ++ r ∷ []))) c.self.view_is
-    (λ rs r tell has one.
-    let is = c.as_bytes-entry.ensures.bytes ∙ ap bodies one in
-    let sound = sound_one _ r c.as_bytes-entry.ensures.sound one in
-    let leaves = c.append_to-tried.ensures.any_moment tell.0 rs r has.rests.settled sound is in
-    append_leaves j.b_counts (history j.counting) (history c.append_to-tried.new.disk) (history j.other) rs r j.gate has.rests leaves)
-
-pub returns-in-Done-clause-only : goal.returns-in-Done-clause-only
-returns-in-Done-clause-only g c =
+pub returns-in-Done-clause-safe : goal.returns-in-Done-clause-safe
+returns-in-Done-clause-safe g c =
     let tells = g.D.Disk.tells in
     let history = g.D.Disk.history in
     let j = c.self.inside in
     let new : JournalView _ = record { counting = c.append_to-tried.new.disk; other = j.other; b_counts = j.b_counts; gate = j.gate + length c.as_bytes-entry.result.now; flight = j.flight; limit = j.limit; counting_calls = c.saturating_add-self-inside.result; other_calls = j.other_calls } in
-    subst (λ (v : JournalView _). (rs : List Record) (r : Record) → Tell tells v → Has history v rs → c.args.body.now ≡ r ∷ [] → Only (a_of history new) (b_of history new) (rs ++ r ∷ [])) c.self.view_is
-    (λ rs r tell has one.
-    let is = c.as_bytes-entry.ensures.bytes ∙ ap bodies one in
-    let sound = sound_one _ r c.as_bytes-entry.ensures.sound one in
-    let leaves = c.append_to-tried.ensures.any_moment tell.0 rs r has.rests.settled sound is in
-    rests_only j.b_counts (history c.append_to-tried.new.disk) (history j.other) _ (rs ++ r ∷ [])
-    (append_rests j.b_counts (history j.counting) (history c.append_to-tried.new.disk) (history j.other) rs r j.gate _ has.rests leaves
-    (c.append_to-tried.ensures.done c.in-Done.is tell.0 rs r has.rests.settled sound is)))
+    subst (λ (v : JournalView _). IsAppendSafe tells history v c.args.body.now new) c.self.view_is (record {
+      crash = λ rs r tell has one.
+          let is = c.as_bytes-entry.ensures.bytes ∙ ap bodies one in
+          let sound = sound_one _ r c.as_bytes-entry.ensures.sound one in
+          let leaves = c.append_to-tried.ensures.any_moment tell.0 rs r has.rests.settled sound is in
+          append_leaves j.b_counts (history j.counting) (history c.append_to-tried.new.disk) (history j.other) rs r j.gate has.rests leaves;
+      other_is = refl;
+      other_calls_are = refl;
+    })
 
-pub returns-in-Done-clause-calls : goal.returns-in-Done-clause-calls
-returns-in-Done-clause-calls g c =
+pub returns-in-Done-clause-counts : goal.returns-in-Done-clause-counts
+returns-in-Done-clause-counts g c =
     let tells = g.D.Disk.tells in
     let history = g.D.Disk.history in
     let j = c.self.inside in
-    subst (λ (v : JournalView _). IsTrue (tells v.counting) → CountsCalls (history v.counting) (history c.append_to-tried.new.disk) v.counting_calls c.saturating_add-self-inside.result) c.self.view_is
-    (λ t. counts_calls _ _ j.counting_calls c.append_to-tried.result.calls _ (c.append_to-tried.ensures.calls t) c.saturating_add-self-inside.ensures)
+    let new : JournalView _ = record { counting = c.append_to-tried.new.disk; other = j.other; b_counts = j.b_counts; gate = j.gate + length c.as_bytes-entry.result.now; flight = j.flight; limit = j.limit; counting_calls = c.saturating_add-self-inside.result; other_calls = j.other_calls } in
+    let one = λ (t : IsTrue (tells j.counting)). counts_calls _ _ j.counting_calls c.append_to-tried.result.calls _ (c.append_to-tried.ensures.calls t) c.saturating_add-self-inside.ensures in
+    let none = λ (t : IsTrue (tells j.other)). no_calls (history j.other) j.other_calls (omega (arith, c.self.ranges)) in
+    let later : j.counting_calls ≤ c.saturating_add-self-inside.result = omega (arith, c.saturating_add-self-inside.ensures, c.self.ranges) in
+    subst (λ (v : JournalView _). Counts tells history v new) c.self.view_is (record {
+      goes_a = sides_count tells history j.b_counts _ _ _ _ _ _ _ _ one none;
+      goes_b = sides_count_b tells history j.b_counts _ _ _ _ _ _ _ _ one none;
+      later_a = side_a (λ (m n : ℕ). m ≤ n) j.b_counts _ _ _ _ later (omega arith);
+      later_b = side_b (λ (m n : ℕ). m ≤ n) j.b_counts _ _ _ _ later (omega arith);
+    })
 
-pub returns-in-Failed-clause-calls : goal.returns-in-Failed-clause-calls
-returns-in-Failed-clause-calls g c =
+pub returns-in-Done-clause-stays : goal.returns-in-Done-clause-stays
+returns-in-Done-clause-stays g c =
     let tells = g.D.Disk.tells in
     let history = g.D.Disk.history in
     let j = c.self.inside in
-    subst (λ (v : JournalView _). IsTrue (tells v.counting) → CountsCalls (history v.counting) (history c.append_to-tried.new.disk) v.counting_calls c.saturating_add-self-inside.result) c.self.view_is
-    (λ t. counts_calls _ _ j.counting_calls c.append_to-tried.result.calls _ (c.append_to-tried.ensures.calls t) c.saturating_add-self-inside.ensures)
+    let new : JournalView _ = record { counting = c.append_to-tried.new.disk; other = j.other; b_counts = j.b_counts; gate = j.gate + length c.as_bytes-entry.result.now; flight = j.flight; limit = j.limit; counting_calls = c.saturating_add-self-inside.result; other_calls = j.other_calls } in
+    subst (λ (v : JournalView _). Stays tells v new) c.self.view_is (record {
+      choice = refl;
+      limit_is = refl;
+      tells_a = side_a (λ x y. tells y ≡ tells x) j.b_counts j.counting c.append_to-tried.new.disk j.other j.other c.append_to-tried.ensures.tells refl;
+      tells_b = side_b (λ x y. tells y ≡ tells x) j.b_counts j.counting c.append_to-tried.new.disk j.other j.other c.append_to-tried.ensures.tells refl;
+    })
+
+pub returns-in-Done-clause-cause : goal.returns-in-Done-clause-cause
+returns-in-Done-clause-cause g c =
+    let faults = g.D.Disk.faults in
+    let j = c.self.inside in
+    let cause = c.append_to-tried.ensures.cause in
+    let new : JournalView _ = record { counting = c.append_to-tried.new.disk; other = j.other; b_counts = j.b_counts; gate = j.gate + length c.as_bytes-entry.result.now; flight = j.flight; limit = j.limit; counting_calls = c.saturating_add-self-inside.result; other_calls = j.other_calls } in
+    subst (λ (v : JournalView _). PairCause (faults (disk_a v)) (faults (disk_a new)) (faults (disk_b v)) (faults (disk_b new)) _) c.self.view_is
+    (one_cause faults j.b_counts j.counting c.append_to-tried.new.disk j.other _ (record { later = cause.later; rose = λ e. absurd (cc) }))
+
+pub returns-in-Failed-clause-safe : goal.returns-in-Failed-clause-safe
+returns-in-Failed-clause-safe g c =
+    let tells = g.D.Disk.tells in
+    let history = g.D.Disk.history in
+    let j = c.self.inside in
+    let new : JournalView _ = record { counting = c.append_to-tried.new.disk; other = j.other; b_counts = j.b_counts; gate = j.gate; flight = InFlight c.min.result; limit = j.limit; counting_calls = c.saturating_add-self-inside.result; other_calls = j.other_calls } in
+    subst (λ (v : JournalView _). IsAppendSafe tells history v c.args.body.now new) c.self.view_is (record {
+      crash = λ rs r tell has one.
+          let is = c.as_bytes-entry.ensures.bytes ∙ ap bodies one in
+          let sound = sound_one _ r c.as_bytes-entry.ensures.sound one in
+          let leaves = c.append_to-tried.ensures.any_moment tell.0 rs r has.rests.settled sound is in
+          append_leaves j.b_counts (history j.counting) (history c.append_to-tried.new.disk) (history j.other) rs r j.gate has.rests leaves;
+      other_is = refl;
+      other_calls_are = refl;
+    })
+
+pub returns-in-Failed-clause-counts : goal.returns-in-Failed-clause-counts
+returns-in-Failed-clause-counts g c =
+    let tells = g.D.Disk.tells in
+    let history = g.D.Disk.history in
+    let j = c.self.inside in
+    let new : JournalView _ = record { counting = c.append_to-tried.new.disk; other = j.other; b_counts = j.b_counts; gate = j.gate; flight = InFlight c.min.result; limit = j.limit; counting_calls = c.saturating_add-self-inside.result; other_calls = j.other_calls } in
+    let one = λ (t : IsTrue (tells j.counting)). counts_calls _ _ j.counting_calls c.append_to-tried.result.calls _ (c.append_to-tried.ensures.calls t) c.saturating_add-self-inside.ensures in
+    let none = λ (t : IsTrue (tells j.other)). no_calls (history j.other) j.other_calls (omega (arith, c.self.ranges)) in
+    let later : j.counting_calls ≤ c.saturating_add-self-inside.result = omega (arith, c.saturating_add-self-inside.ensures, c.self.ranges) in
+    subst (λ (v : JournalView _). Counts tells history v new) c.self.view_is (record {
+      goes_a = sides_count tells history j.b_counts _ _ _ _ _ _ _ _ one none;
+      goes_b = sides_count_b tells history j.b_counts _ _ _ _ _ _ _ _ one none;
+      later_a = side_a (λ (m n : ℕ). m ≤ n) j.b_counts _ _ _ _ later (omega arith);
+      later_b = side_b (λ (m n : ℕ). m ≤ n) j.b_counts _ _ _ _ later (omega arith);
+    })
+
+pub returns-in-Failed-clause-stays : goal.returns-in-Failed-clause-stays
+returns-in-Failed-clause-stays g c =
+    let tells = g.D.Disk.tells in
+    let history = g.D.Disk.history in
+    let j = c.self.inside in
+    let new : JournalView _ = record { counting = c.append_to-tried.new.disk; other = j.other; b_counts = j.b_counts; gate = j.gate; flight = InFlight c.min.result; limit = j.limit; counting_calls = c.saturating_add-self-inside.result; other_calls = j.other_calls } in
+    subst (λ (v : JournalView _). Stays tells v new) c.self.view_is (record {
+      choice = refl;
+      limit_is = refl;
+      tells_a = side_a (λ x y. tells y ≡ tells x) j.b_counts j.counting c.append_to-tried.new.disk j.other j.other c.append_to-tried.ensures.tells refl;
+      tells_b = side_b (λ x y. tells y ≡ tells x) j.b_counts j.counting c.append_to-tried.new.disk j.other j.other c.append_to-tried.ensures.tells refl;
+    })
+
+pub returns-in-Failed-clause-cause : goal.returns-in-Failed-clause-cause
+returns-in-Failed-clause-cause g c =
+    let faults = g.D.Disk.faults in
+    let j = c.self.inside in
+    let cause = c.append_to-tried.ensures.cause in
+    let new : JournalView _ = record { counting = c.append_to-tried.new.disk; other = j.other; b_counts = j.b_counts; gate = j.gate; flight = InFlight c.min.result; limit = j.limit; counting_calls = c.saturating_add-self-inside.result; other_calls = j.other_calls } in
+    subst (λ (v : JournalView _). PairCause (faults (disk_a v)) (faults (disk_a new)) (faults (disk_b v)) (faults (disk_b new)) _) c.self.view_is
+    (one_cause faults j.b_counts j.counting c.append_to-tried.new.disk j.other _ (record { later = cause.later; rose = λ e. cause.rose c.in-Failed.is }))

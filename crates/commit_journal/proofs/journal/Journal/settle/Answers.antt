@@ -1,10 +1,14 @@
-use Rattle.std.proofs.Common.{◌≡◌, ◌++◌, ◌∷◌, [], List, IsTrue, sym, subst, ap, ◌∙◌, refl, arith}
+use Rattle.std.proofs.Common.{◌≡◌, ◌≤◌, ◌++◌, ◌∷◌, [], true, List, ℕ, IsTrue, rules, sym, subst, ap, ◌∙◌, refl, arith}
 use Rattle.record_code.specs.Record.{Record}
 use Rattle.commit_journal.specs.declared.flight.Flight.{Flight}
 use Rattle.commit_journal.specs.declared.flight.Flight.TheVariants.{Nothing}
 use Rattle.commit_journal.specs.declared.settling.Settled.TheVariants.{Kept, NotKept}
 use Rattle.commit_journal.specs.Pair.{SpellsEither}
-use Rattle.commit_journal.specs.Journal.{JournalView, Tell, Awaits, LeavesBoth, IsWhole, CountsCalls, IsInFlight, HasSettled, gate_behind, next_of}
+use Rattle.commit_journal.specs.Journal.{JournalView, Tell, Awaits, IsWhole, IsInFlight, PairCause, HasSettled, gate_behind, next_of, counted, disk_a, disk_b}
+use Rattle.commit_journal.specs.Steps.{IsSettledAs, IsSettleFaulted, IsSettleSafe, Counts, Stays}
+use Rattle.disk_model.specs.Disk.{Sync, Called, MaySync}
+use Rattle.commit_journal.proofs.ReadLemmas.{is_one, not_one}
+use Rattle.commit_journal.proofs.SideLemmas.{side_a, side_b, sides_cause, sides_count, sides_count_b, sides_tell, sides_tell_b}
 use Rattle.commit_journal.proofs.SettleLemmas.{flight_place, in_flight, settled_kept, settled_left, settle_images, settle_waits, settle_leaves, weaker_pair, waits_either}
 use Rattle.commit_journal.proofs.PairLemmas.{rests_only}
 use Rattle.commit_journal.proofs.CallLemmas.{counts_calls}
@@ -60,18 +64,18 @@ invariant_of-self-in-None g c =
           (stands.0, stands.1, stands.2, settle_images (history j.counting) h1 stands.0 stands.1 j.gate (c.settle_files.ensures.settles t0) stands.3),
     )
 
-pub returns-in-Some-true-clause-settled : goal.returns-in-Some-true-clause-settled
-returns-in-Some-true-clause-settled g c =
+pub returns-in-Some-true-clause-ok : goal.returns-in-Some-true-clause-ok
+returns-in-Some-true-clause-ok g c =
     let tells = g.D.Disk.tells in
     let history = g.D.Disk.history in
     let j = c.self.inside in
     let fl = in_flight j.flight (subst (λ (v : JournalView _). IsInFlight v.flight) (sym c.self.view_is) c.requires) in
+    let place : c.next_or-self-inside.result ≡ fl.0 = c.next_or-self-inside.ensures ∙ ap (λ (f : Flight). next_of f j.gate) fl.1 in
     let h1 = history c.settle_files.new.counting in
     let o1 = history c.settle_files.new.other in
-    let place : c.next_or-self-inside.result ≡ fl.0 = c.next_or-self-inside.ensures ∙ ap (λ (f : Flight). next_of f j.gate) fl.1 in
+    let old : JournalView _ = record { counting = j.counting; other = j.other; b_counts = j.b_counts; gate = j.gate; flight = j.flight; limit = j.limit; counting_calls = j.counting_calls; other_calls = j.other_calls } in
     let new : JournalView _ = record { counting = c.settle_files.new.counting; other = c.settle_files.new.other; b_counts = j.b_counts; gate = c.next_or-self-inside.result; flight = Nothing; limit = j.limit; counting_calls = c.saturating_add-self-inside.result; other_calls = c.saturating_add-self-inside-2.result } in
-    subst (λ (v : JournalView _). (rs : List Record) (r : Record) → Tell tells v → Awaits history v rs r → HasSettled history new rs r Kept) c.self.view_is
-    (λ rs r tell awaits.
+    let has : (rs : List Record) (r : Record) → Tell tells old → Awaits history old rs r → HasSettled history new rs r Kept = λ rs r tell awaits.
     let settles = c.settle_files.ensures.settles tell.0 in
     let other = c.settle_files.ensures.other_settles tell.1 in
     let waits = settle_waits j.b_counts (history j.counting) h1 (history j.other) o1 rs r j.gate settles other awaits.waits in
@@ -83,19 +87,26 @@ returns-in-Some-true-clause-settled g c =
         other_quiet = waits.other_quiet;
         chosen = waits.chosen;
       };
+    } in
+    subst (λ (v : JournalView _). IsSettledAs tells history v Kept new) c.self.view_is (record {
+      has = has;
+      only = λ rs r tell awaits. rests_only j.b_counts h1 o1 c.next_or-self-inside.result (rs ++ r ∷ []) (has rs r tell awaits).rests;
+      idle = refl;
+      by_gate = λ t. let one = is_one _ c.in-Some-true.field-0 (c.in-Some-true.ensures.gate t) c.in-Some-true.field-0-test in (λ same. one, λ same. refl);
+      synced_a = sides_tell tells history (λ x y. Called x (Sync true) y) j.b_counts j.counting c.settle_files.new.counting j.other c.settle_files.new.other (c.in-Some-true.ensures.synced refl) (c.in-Some-true.ensures.other_synced refl);
+      synced_b = sides_tell_b tells history (λ x y. Called x (Sync true) y) j.b_counts j.counting c.settle_files.new.counting j.other c.settle_files.new.other (c.in-Some-true.ensures.synced refl) (c.in-Some-true.ensures.other_synced refl);
     })
 
-pub returns-in-Some-false-clause-settled : goal.returns-in-Some-false-clause-settled
-returns-in-Some-false-clause-settled g c =
+pub returns-in-Some-false-clause-ok : goal.returns-in-Some-false-clause-ok
+returns-in-Some-false-clause-ok g c =
     let tells = g.D.Disk.tells in
     let history = g.D.Disk.history in
     let j = c.self.inside in
-    let fl = in_flight j.flight (subst (λ (v : JournalView _). IsInFlight v.flight) (sym c.self.view_is) c.requires) in
     let h1 = history c.settle_files.new.counting in
     let o1 = history c.settle_files.new.other in
+    let old : JournalView _ = record { counting = j.counting; other = j.other; b_counts = j.b_counts; gate = j.gate; flight = j.flight; limit = j.limit; counting_calls = j.counting_calls; other_calls = j.other_calls } in
     let new : JournalView _ = record { counting = c.settle_files.new.counting; other = c.settle_files.new.other; b_counts = j.b_counts; gate = j.gate; flight = Nothing; limit = j.limit; counting_calls = c.saturating_add-self-inside.result; other_calls = c.saturating_add-self-inside-2.result } in
-    subst (λ (v : JournalView _). (rs : List Record) (r : Record) → Tell tells v → Awaits history v rs r → HasSettled history new rs r NotKept) c.self.view_is
-    (λ rs r tell awaits.
+    let has : (rs : List Record) (r : Record) → Tell tells old → Awaits history old rs r → HasSettled history new rs r NotKept = λ rs r tell awaits.
     let settles = c.settle_files.ensures.settles tell.0 in
     let other = c.settle_files.ensures.other_settles tell.1 in
     let waits = settle_waits j.b_counts (history j.counting) h1 (history j.other) o1 rs r j.gate settles other awaits.waits in
@@ -106,132 +117,209 @@ returns-in-Some-false-clause-settled g c =
         other_quiet = waits.other_quiet;
         chosen = waits.chosen;
       };
+    } in
+    subst (λ (v : JournalView _). IsSettledAs tells history v NotKept new) c.self.view_is (record {
+      has = has;
+      only = λ rs r tell awaits. rests_only j.b_counts h1 o1 j.gate rs (has rs r tell awaits).rests;
+      idle = refl;
+      by_gate = λ t. (λ same. absurd (cc), λ one. absurd (not_one _ c.in-Some-false.field-0 (c.in-Some-false.ensures.gate t) c.in-Some-false.field-0-test one));
+      synced_a = sides_tell tells history (λ x y. Called x (Sync true) y) j.b_counts j.counting c.settle_files.new.counting j.other c.settle_files.new.other (c.in-Some-false.ensures.synced refl) (c.in-Some-false.ensures.other_synced refl);
+      synced_b = sides_tell_b tells history (λ x y. Called x (Sync true) y) j.b_counts j.counting c.settle_files.new.counting j.other c.settle_files.new.other (c.in-Some-false.ensures.synced refl) (c.in-Some-false.ensures.other_synced refl);
     })
 
-pub returns-in-None-clause-awaits : goal.returns-in-None-clause-awaits
-returns-in-None-clause-awaits g c =
+pub returns-in-None-clause-err : goal.returns-in-None-clause-err
+returns-in-None-clause-err g c =
     let tells = g.D.Disk.tells in
     let history = g.D.Disk.history in
     let j = c.self.inside in
-    let fl = in_flight j.flight (subst (λ (v : JournalView _). IsInFlight v.flight) (sym c.self.view_is) c.requires) in
     let h1 = history c.settle_files.new.counting in
     let o1 = history c.settle_files.new.other in
     let new : JournalView _ = record { counting = c.settle_files.new.counting; other = c.settle_files.new.other; b_counts = j.b_counts; gate = j.gate; flight = j.flight; limit = j.limit; counting_calls = c.saturating_add-self-inside.result; other_calls = c.saturating_add-self-inside-2.result } in
-    subst (λ (v : JournalView _). (rs : List Record) (r : Record) → Tell tells v → Awaits history v rs r → Awaits history new rs r) c.self.view_is
-    (λ rs r tell awaits.
-    let settles = c.settle_files.ensures.settles tell.0 in
-    let other = c.settle_files.ensures.other_settles tell.1 in
-    let waits = settle_waits j.b_counts (history j.counting) h1 (history j.other) o1 rs r j.gate settles other awaits.waits in
-    record { flight = awaits.flight; waits = waits })
+    subst (λ (v : JournalView _). IsSettleFaulted tells history v new) c.self.view_is (record {
+      awaits = λ rs r tell awaits.
+          let settles = c.settle_files.ensures.settles tell.0 in
+          let other = c.settle_files.ensures.other_settles tell.1 in
+          record { flight = awaits.flight; waits = settle_waits j.b_counts (history j.counting) h1 (history j.other) o1 rs r j.gate settles other awaits.waits };
+      flight_is = refl;
+      gate_is = refl;
+    })
 
-pub returns-in-Some-true-clause-either : goal.returns-in-Some-true-clause-either
-returns-in-Some-true-clause-either g c =
+pub returns-in-Some-true-clause-safe : goal.returns-in-Some-true-clause-safe
+returns-in-Some-true-clause-safe g c =
     let tells = g.D.Disk.tells in
     let history = g.D.Disk.history in
     let j = c.self.inside in
-    let fl = in_flight j.flight (subst (λ (v : JournalView _). IsInFlight v.flight) (sym c.self.view_is) c.requires) in
     let h1 = history c.settle_files.new.counting in
     let o1 = history c.settle_files.new.other in
-    let place : c.next_or-self-inside.result ≡ fl.0 = c.next_or-self-inside.ensures ∙ ap (λ (f : Flight). next_of f j.gate) fl.1 in
     let new : JournalView _ = record { counting = c.settle_files.new.counting; other = c.settle_files.new.other; b_counts = j.b_counts; gate = c.next_or-self-inside.result; flight = Nothing; limit = j.limit; counting_calls = c.saturating_add-self-inside.result; other_calls = c.saturating_add-self-inside-2.result } in
-    subst (λ (v : JournalView _). (rs : List Record) (r : Record) → Tell tells v → Awaits history v rs r → LeavesBoth history v new (SpellsEither rs (rs ++ r ∷ []))) c.self.view_is
-    (λ rs r tell awaits.
-    let settles = c.settle_files.ensures.settles tell.0 in
-    let other = c.settle_files.ensures.other_settles tell.1 in
-    let waits = settle_waits j.b_counts (history j.counting) h1 (history j.other) o1 rs r j.gate settles other awaits.waits in
-    weaker_pair _ _ _ _ _ (SpellsEither rs (rs ++ r ∷ [])) (waits_either j.b_counts (history j.counting) (history j.other) rs r j.gate awaits.waits)
-    (settle_leaves j.b_counts (history j.counting) h1 (history j.other) o1 settles other))
+    subst (λ (v : JournalView _). IsSettleSafe tells history v new) c.self.view_is (record {
+      crash = λ tell. settle_leaves j.b_counts (history j.counting) h1 (history j.other) o1 (c.settle_files.ensures.settles tell.0) (c.settle_files.ensures.other_settles tell.1);
+      either = λ rs r tell awaits.
+          weaker_pair _ _ _ _ _ (SpellsEither rs (rs ++ r ∷ [])) (waits_either j.b_counts (history j.counting) (history j.other) rs r j.gate awaits.waits)
+          (settle_leaves j.b_counts (history j.counting) h1 (history j.other) o1 (c.settle_files.ensures.settles tell.0) (c.settle_files.ensures.other_settles tell.1));
+      may_a = sides_tell tells history MaySync j.b_counts j.counting c.settle_files.new.counting j.other c.settle_files.new.other c.settle_files.ensures.may c.settle_files.ensures.other_may;
+      may_b = sides_tell_b tells history MaySync j.b_counts j.counting c.settle_files.new.counting j.other c.settle_files.new.other c.settle_files.ensures.may c.settle_files.ensures.other_may;
+      one_call = (
+        side_a (λ (m n : ℕ). n ≡ counted m 1) j.b_counts _ _ _ _ c.saturating_add-self-inside.ensures c.saturating_add-self-inside-2.ensures,
+        side_b (λ (m n : ℕ). n ≡ counted m 1) j.b_counts _ _ _ _ c.saturating_add-self-inside.ensures c.saturating_add-self-inside-2.ensures,
+      );
+    })
 
-pub returns-in-Some-false-clause-either : goal.returns-in-Some-false-clause-either
-returns-in-Some-false-clause-either g c =
+pub returns-in-Some-true-clause-counts : goal.returns-in-Some-true-clause-counts
+returns-in-Some-true-clause-counts g c =
     let tells = g.D.Disk.tells in
     let history = g.D.Disk.history in
     let j = c.self.inside in
-    let fl = in_flight j.flight (subst (λ (v : JournalView _). IsInFlight v.flight) (sym c.self.view_is) c.requires) in
+    let new : JournalView _ = record { counting = c.settle_files.new.counting; other = c.settle_files.new.other; b_counts = j.b_counts; gate = c.next_or-self-inside.result; flight = Nothing; limit = j.limit; counting_calls = c.saturating_add-self-inside.result; other_calls = c.saturating_add-self-inside-2.result } in
+    let one = λ (t : IsTrue (tells j.counting)). counts_calls _ _ j.counting_calls 1 _ (c.settle_files.ensures.calls t) c.saturating_add-self-inside.ensures in
+    let two = λ (t : IsTrue (tells j.other)). counts_calls _ _ j.other_calls 1 _ (c.settle_files.ensures.other_calls t) c.saturating_add-self-inside-2.ensures in
+    let later : j.counting_calls ≤ c.saturating_add-self-inside.result = omega (arith, c.saturating_add-self-inside.ensures, c.self.ranges) in
+    let other_later : j.other_calls ≤ c.saturating_add-self-inside-2.result = omega (arith, c.saturating_add-self-inside-2.ensures, c.self.ranges) in
+    subst (λ (v : JournalView _). Counts tells history v new) c.self.view_is (record {
+      goes_a = sides_count tells history j.b_counts _ _ _ _ _ _ _ _ one two;
+      goes_b = sides_count_b tells history j.b_counts _ _ _ _ _ _ _ _ one two;
+      later_a = side_a (λ (m n : ℕ). m ≤ n) j.b_counts _ _ _ _ later other_later;
+      later_b = side_b (λ (m n : ℕ). m ≤ n) j.b_counts _ _ _ _ later other_later;
+    })
+
+pub returns-in-Some-true-clause-stays : goal.returns-in-Some-true-clause-stays
+returns-in-Some-true-clause-stays g c =
+    let tells = g.D.Disk.tells in
+    let history = g.D.Disk.history in
+    let j = c.self.inside in
+    let new : JournalView _ = record { counting = c.settle_files.new.counting; other = c.settle_files.new.other; b_counts = j.b_counts; gate = c.next_or-self-inside.result; flight = Nothing; limit = j.limit; counting_calls = c.saturating_add-self-inside.result; other_calls = c.saturating_add-self-inside-2.result } in
+    subst (λ (v : JournalView _). Stays tells v new) c.self.view_is (record {
+      choice = refl;
+      limit_is = refl;
+      tells_a = side_a (λ x y. tells y ≡ tells x) j.b_counts j.counting c.settle_files.new.counting j.other c.settle_files.new.other c.settle_files.ensures.tells c.settle_files.ensures.other_tells;
+      tells_b = side_b (λ x y. tells y ≡ tells x) j.b_counts j.counting c.settle_files.new.counting j.other c.settle_files.new.other c.settle_files.ensures.tells c.settle_files.ensures.other_tells;
+    })
+
+pub returns-in-Some-true-clause-cause : goal.returns-in-Some-true-clause-cause
+returns-in-Some-true-clause-cause g c =
+    let faults = g.D.Disk.faults in
+    let j = c.self.inside in
+    let cause = c.settle_files.ensures.cause in
+    let new : JournalView _ = record { counting = c.settle_files.new.counting; other = c.settle_files.new.other; b_counts = j.b_counts; gate = c.next_or-self-inside.result; flight = Nothing; limit = j.limit; counting_calls = c.saturating_add-self-inside.result; other_calls = c.saturating_add-self-inside-2.result } in
+    subst (λ (v : JournalView _). PairCause (faults (disk_a v)) (faults (disk_a new)) (faults (disk_b v)) (faults (disk_b new)) _) c.self.view_is
+    (sides_cause faults j.b_counts j.counting c.settle_files.new.counting j.other c.settle_files.new.other _ (record { later_a = cause.later_a; later_b = cause.later_b; rose = λ e. absurd (cc) }))
+
+pub returns-in-Some-false-clause-safe : goal.returns-in-Some-false-clause-safe
+returns-in-Some-false-clause-safe g c =
+    let tells = g.D.Disk.tells in
+    let history = g.D.Disk.history in
+    let j = c.self.inside in
     let h1 = history c.settle_files.new.counting in
     let o1 = history c.settle_files.new.other in
     let new : JournalView _ = record { counting = c.settle_files.new.counting; other = c.settle_files.new.other; b_counts = j.b_counts; gate = j.gate; flight = Nothing; limit = j.limit; counting_calls = c.saturating_add-self-inside.result; other_calls = c.saturating_add-self-inside-2.result } in
-    subst (λ (v : JournalView _). (rs : List Record) (r : Record) → Tell tells v → Awaits history v rs r → LeavesBoth history v new (SpellsEither rs (rs ++ r ∷ []))) c.self.view_is
-    (λ rs r tell awaits.
-    let settles = c.settle_files.ensures.settles tell.0 in
-    let other = c.settle_files.ensures.other_settles tell.1 in
-    let waits = settle_waits j.b_counts (history j.counting) h1 (history j.other) o1 rs r j.gate settles other awaits.waits in
-    weaker_pair _ _ _ _ _ (SpellsEither rs (rs ++ r ∷ [])) (waits_either j.b_counts (history j.counting) (history j.other) rs r j.gate awaits.waits)
-    (settle_leaves j.b_counts (history j.counting) h1 (history j.other) o1 settles other))
+    subst (λ (v : JournalView _). IsSettleSafe tells history v new) c.self.view_is (record {
+      crash = λ tell. settle_leaves j.b_counts (history j.counting) h1 (history j.other) o1 (c.settle_files.ensures.settles tell.0) (c.settle_files.ensures.other_settles tell.1);
+      either = λ rs r tell awaits.
+          weaker_pair _ _ _ _ _ (SpellsEither rs (rs ++ r ∷ [])) (waits_either j.b_counts (history j.counting) (history j.other) rs r j.gate awaits.waits)
+          (settle_leaves j.b_counts (history j.counting) h1 (history j.other) o1 (c.settle_files.ensures.settles tell.0) (c.settle_files.ensures.other_settles tell.1));
+      may_a = sides_tell tells history MaySync j.b_counts j.counting c.settle_files.new.counting j.other c.settle_files.new.other c.settle_files.ensures.may c.settle_files.ensures.other_may;
+      may_b = sides_tell_b tells history MaySync j.b_counts j.counting c.settle_files.new.counting j.other c.settle_files.new.other c.settle_files.ensures.may c.settle_files.ensures.other_may;
+      one_call = (
+        side_a (λ (m n : ℕ). n ≡ counted m 1) j.b_counts _ _ _ _ c.saturating_add-self-inside.ensures c.saturating_add-self-inside-2.ensures,
+        side_b (λ (m n : ℕ). n ≡ counted m 1) j.b_counts _ _ _ _ c.saturating_add-self-inside.ensures c.saturating_add-self-inside-2.ensures,
+      );
+    })
 
-pub returns-in-None-clause-either : goal.returns-in-None-clause-either
-returns-in-None-clause-either g c =
+pub returns-in-Some-false-clause-counts : goal.returns-in-Some-false-clause-counts
+returns-in-Some-false-clause-counts g c =
     let tells = g.D.Disk.tells in
     let history = g.D.Disk.history in
     let j = c.self.inside in
-    let fl = in_flight j.flight (subst (λ (v : JournalView _). IsInFlight v.flight) (sym c.self.view_is) c.requires) in
+    let new : JournalView _ = record { counting = c.settle_files.new.counting; other = c.settle_files.new.other; b_counts = j.b_counts; gate = j.gate; flight = Nothing; limit = j.limit; counting_calls = c.saturating_add-self-inside.result; other_calls = c.saturating_add-self-inside-2.result } in
+    let one = λ (t : IsTrue (tells j.counting)). counts_calls _ _ j.counting_calls 1 _ (c.settle_files.ensures.calls t) c.saturating_add-self-inside.ensures in
+    let two = λ (t : IsTrue (tells j.other)). counts_calls _ _ j.other_calls 1 _ (c.settle_files.ensures.other_calls t) c.saturating_add-self-inside-2.ensures in
+    let later : j.counting_calls ≤ c.saturating_add-self-inside.result = omega (arith, c.saturating_add-self-inside.ensures, c.self.ranges) in
+    let other_later : j.other_calls ≤ c.saturating_add-self-inside-2.result = omega (arith, c.saturating_add-self-inside-2.ensures, c.self.ranges) in
+    subst (λ (v : JournalView _). Counts tells history v new) c.self.view_is (record {
+      goes_a = sides_count tells history j.b_counts _ _ _ _ _ _ _ _ one two;
+      goes_b = sides_count_b tells history j.b_counts _ _ _ _ _ _ _ _ one two;
+      later_a = side_a (λ (m n : ℕ). m ≤ n) j.b_counts _ _ _ _ later other_later;
+      later_b = side_b (λ (m n : ℕ). m ≤ n) j.b_counts _ _ _ _ later other_later;
+    })
+
+pub returns-in-Some-false-clause-stays : goal.returns-in-Some-false-clause-stays
+returns-in-Some-false-clause-stays g c =
+    let tells = g.D.Disk.tells in
+    let history = g.D.Disk.history in
+    let j = c.self.inside in
+    let new : JournalView _ = record { counting = c.settle_files.new.counting; other = c.settle_files.new.other; b_counts = j.b_counts; gate = j.gate; flight = Nothing; limit = j.limit; counting_calls = c.saturating_add-self-inside.result; other_calls = c.saturating_add-self-inside-2.result } in
+    subst (λ (v : JournalView _). Stays tells v new) c.self.view_is (record {
+      choice = refl;
+      limit_is = refl;
+      tells_a = side_a (λ x y. tells y ≡ tells x) j.b_counts j.counting c.settle_files.new.counting j.other c.settle_files.new.other c.settle_files.ensures.tells c.settle_files.ensures.other_tells;
+      tells_b = side_b (λ x y. tells y ≡ tells x) j.b_counts j.counting c.settle_files.new.counting j.other c.settle_files.new.other c.settle_files.ensures.tells c.settle_files.ensures.other_tells;
+    })
+
+pub returns-in-Some-false-clause-cause : goal.returns-in-Some-false-clause-cause
+returns-in-Some-false-clause-cause g c =
+    let faults = g.D.Disk.faults in
+    let j = c.self.inside in
+    let cause = c.settle_files.ensures.cause in
+    let new : JournalView _ = record { counting = c.settle_files.new.counting; other = c.settle_files.new.other; b_counts = j.b_counts; gate = j.gate; flight = Nothing; limit = j.limit; counting_calls = c.saturating_add-self-inside.result; other_calls = c.saturating_add-self-inside-2.result } in
+    subst (λ (v : JournalView _). PairCause (faults (disk_a v)) (faults (disk_a new)) (faults (disk_b v)) (faults (disk_b new)) _) c.self.view_is
+    (sides_cause faults j.b_counts j.counting c.settle_files.new.counting j.other c.settle_files.new.other _ (record { later_a = cause.later_a; later_b = cause.later_b; rose = λ e. absurd (cc) }))
+
+pub returns-in-None-clause-safe : goal.returns-in-None-clause-safe
+returns-in-None-clause-safe g c =
+    let tells = g.D.Disk.tells in
+    let history = g.D.Disk.history in
+    let j = c.self.inside in
     let h1 = history c.settle_files.new.counting in
     let o1 = history c.settle_files.new.other in
     let new : JournalView _ = record { counting = c.settle_files.new.counting; other = c.settle_files.new.other; b_counts = j.b_counts; gate = j.gate; flight = j.flight; limit = j.limit; counting_calls = c.saturating_add-self-inside.result; other_calls = c.saturating_add-self-inside-2.result } in
-    subst (λ (v : JournalView _). (rs : List Record) (r : Record) → Tell tells v → Awaits history v rs r → LeavesBoth history v new (SpellsEither rs (rs ++ r ∷ []))) c.self.view_is
-    (λ rs r tell awaits.
-    let settles = c.settle_files.ensures.settles tell.0 in
-    let other = c.settle_files.ensures.other_settles tell.1 in
-    let waits = settle_waits j.b_counts (history j.counting) h1 (history j.other) o1 rs r j.gate settles other awaits.waits in
-    weaker_pair _ _ _ _ _ (SpellsEither rs (rs ++ r ∷ [])) (waits_either j.b_counts (history j.counting) (history j.other) rs r j.gate awaits.waits)
-    (settle_leaves j.b_counts (history j.counting) h1 (history j.other) o1 settles other))
+    subst (λ (v : JournalView _). IsSettleSafe tells history v new) c.self.view_is (record {
+      crash = λ tell. settle_leaves j.b_counts (history j.counting) h1 (history j.other) o1 (c.settle_files.ensures.settles tell.0) (c.settle_files.ensures.other_settles tell.1);
+      either = λ rs r tell awaits.
+          weaker_pair _ _ _ _ _ (SpellsEither rs (rs ++ r ∷ [])) (waits_either j.b_counts (history j.counting) (history j.other) rs r j.gate awaits.waits)
+          (settle_leaves j.b_counts (history j.counting) h1 (history j.other) o1 (c.settle_files.ensures.settles tell.0) (c.settle_files.ensures.other_settles tell.1));
+      may_a = sides_tell tells history MaySync j.b_counts j.counting c.settle_files.new.counting j.other c.settle_files.new.other c.settle_files.ensures.may c.settle_files.ensures.other_may;
+      may_b = sides_tell_b tells history MaySync j.b_counts j.counting c.settle_files.new.counting j.other c.settle_files.new.other c.settle_files.ensures.may c.settle_files.ensures.other_may;
+      one_call = (
+        side_a (λ (m n : ℕ). n ≡ counted m 1) j.b_counts _ _ _ _ c.saturating_add-self-inside.ensures c.saturating_add-self-inside-2.ensures,
+        side_b (λ (m n : ℕ). n ≡ counted m 1) j.b_counts _ _ _ _ c.saturating_add-self-inside.ensures c.saturating_add-self-inside-2.ensures,
+      );
+    })
 
-pub returns-in-Some-true-clause-calls : goal.returns-in-Some-true-clause-calls
-returns-in-Some-true-clause-calls g c =
+pub returns-in-None-clause-counts : goal.returns-in-None-clause-counts
+returns-in-None-clause-counts g c =
     let tells = g.D.Disk.tells in
     let history = g.D.Disk.history in
     let j = c.self.inside in
-    subst (λ (v : JournalView _). IsTrue (tells v.counting) → CountsCalls (history v.counting) (history c.settle_files.new.counting) v.counting_calls c.saturating_add-self-inside.result) c.self.view_is
-    (λ t. counts_calls _ _ j.counting_calls 1 _ (c.settle_files.ensures.calls t) c.saturating_add-self-inside.ensures)
+    let new : JournalView _ = record { counting = c.settle_files.new.counting; other = c.settle_files.new.other; b_counts = j.b_counts; gate = j.gate; flight = j.flight; limit = j.limit; counting_calls = c.saturating_add-self-inside.result; other_calls = c.saturating_add-self-inside-2.result } in
+    let one = λ (t : IsTrue (tells j.counting)). counts_calls _ _ j.counting_calls 1 _ (c.settle_files.ensures.calls t) c.saturating_add-self-inside.ensures in
+    let two = λ (t : IsTrue (tells j.other)). counts_calls _ _ j.other_calls 1 _ (c.settle_files.ensures.other_calls t) c.saturating_add-self-inside-2.ensures in
+    let later : j.counting_calls ≤ c.saturating_add-self-inside.result = omega (arith, c.saturating_add-self-inside.ensures, c.self.ranges) in
+    let other_later : j.other_calls ≤ c.saturating_add-self-inside-2.result = omega (arith, c.saturating_add-self-inside-2.ensures, c.self.ranges) in
+    subst (λ (v : JournalView _). Counts tells history v new) c.self.view_is (record {
+      goes_a = sides_count tells history j.b_counts _ _ _ _ _ _ _ _ one two;
+      goes_b = sides_count_b tells history j.b_counts _ _ _ _ _ _ _ _ one two;
+      later_a = side_a (λ (m n : ℕ). m ≤ n) j.b_counts _ _ _ _ later other_later;
+      later_b = side_b (λ (m n : ℕ). m ≤ n) j.b_counts _ _ _ _ later other_later;
+    })
 
-pub returns-in-Some-true-clause-other_calls : goal.returns-in-Some-true-clause-other_calls
-returns-in-Some-true-clause-other_calls g c =
+pub returns-in-None-clause-stays : goal.returns-in-None-clause-stays
+returns-in-None-clause-stays g c =
     let tells = g.D.Disk.tells in
     let history = g.D.Disk.history in
     let j = c.self.inside in
-    subst (λ (v : JournalView _). IsTrue (tells v.other) → CountsCalls (history v.other) (history c.settle_files.new.other) v.other_calls c.saturating_add-self-inside-2.result) c.self.view_is
-    (λ t. counts_calls _ _ j.other_calls 1 _ (c.settle_files.ensures.other_calls t) c.saturating_add-self-inside-2.ensures)
+    let new : JournalView _ = record { counting = c.settle_files.new.counting; other = c.settle_files.new.other; b_counts = j.b_counts; gate = j.gate; flight = j.flight; limit = j.limit; counting_calls = c.saturating_add-self-inside.result; other_calls = c.saturating_add-self-inside-2.result } in
+    subst (λ (v : JournalView _). Stays tells v new) c.self.view_is (record {
+      choice = refl;
+      limit_is = refl;
+      tells_a = side_a (λ x y. tells y ≡ tells x) j.b_counts j.counting c.settle_files.new.counting j.other c.settle_files.new.other c.settle_files.ensures.tells c.settle_files.ensures.other_tells;
+      tells_b = side_b (λ x y. tells y ≡ tells x) j.b_counts j.counting c.settle_files.new.counting j.other c.settle_files.new.other c.settle_files.ensures.tells c.settle_files.ensures.other_tells;
+    })
 
-pub returns-in-Some-false-clause-calls : goal.returns-in-Some-false-clause-calls
-returns-in-Some-false-clause-calls g c =
-    let tells = g.D.Disk.tells in
-    let history = g.D.Disk.history in
+pub returns-in-None-clause-cause : goal.returns-in-None-clause-cause
+returns-in-None-clause-cause g c =
+    let faults = g.D.Disk.faults in
     let j = c.self.inside in
-    subst (λ (v : JournalView _). IsTrue (tells v.counting) → CountsCalls (history v.counting) (history c.settle_files.new.counting) v.counting_calls c.saturating_add-self-inside.result) c.self.view_is
-    (λ t. counts_calls _ _ j.counting_calls 1 _ (c.settle_files.ensures.calls t) c.saturating_add-self-inside.ensures)
-
-pub returns-in-Some-false-clause-other_calls : goal.returns-in-Some-false-clause-other_calls
-returns-in-Some-false-clause-other_calls g c =
-    let tells = g.D.Disk.tells in
-    let history = g.D.Disk.history in
-    let j = c.self.inside in
-    subst (λ (v : JournalView _). IsTrue (tells v.other) → CountsCalls (history v.other) (history c.settle_files.new.other) v.other_calls c.saturating_add-self-inside-2.result) c.self.view_is
-    (λ t. counts_calls _ _ j.other_calls 1 _ (c.settle_files.ensures.other_calls t) c.saturating_add-self-inside-2.ensures)
-
-pub returns-in-None-clause-calls : goal.returns-in-None-clause-calls
-returns-in-None-clause-calls g c =
-    let tells = g.D.Disk.tells in
-    let history = g.D.Disk.history in
-    let j = c.self.inside in
-    subst (λ (v : JournalView _). IsTrue (tells v.counting) → CountsCalls (history v.counting) (history c.settle_files.new.counting) v.counting_calls c.saturating_add-self-inside.result) c.self.view_is
-    (λ t. counts_calls _ _ j.counting_calls 1 _ (c.settle_files.ensures.calls t) c.saturating_add-self-inside.ensures)
-
-pub returns-in-None-clause-other_calls : goal.returns-in-None-clause-other_calls
-returns-in-None-clause-other_calls g c =
-    let tells = g.D.Disk.tells in
-    let history = g.D.Disk.history in
-    let j = c.self.inside in
-    subst (λ (v : JournalView _). IsTrue (tells v.other) → CountsCalls (history v.other) (history c.settle_files.new.other) v.other_calls c.saturating_add-self-inside-2.result) c.self.view_is
-    (λ t. counts_calls _ _ j.other_calls 1 _ (c.settle_files.ensures.other_calls t) c.saturating_add-self-inside-2.ensures)
-
-pub returns-in-Some-true-clause-only : goal.returns-in-Some-true-clause-only
-returns-in-Some-true-clause-only g c = λ rs r tell awaits.
-    let history = g.D.Disk.history in
-    let j = c.self.inside in
-    rests_only j.b_counts (history c.settle_files.new.counting) (history c.settle_files.new.other) c.next_or-self-inside.result (rs ++ r ∷ []) (returns-in-Some-true-clause-settled g c rs r tell awaits).rests
-
-pub returns-in-Some-false-clause-only : goal.returns-in-Some-false-clause-only
-returns-in-Some-false-clause-only g c = λ rs r tell awaits.
-    let history = g.D.Disk.history in
-    let j = c.self.inside in
-    rests_only j.b_counts (history c.settle_files.new.counting) (history c.settle_files.new.other) j.gate (rs) (returns-in-Some-false-clause-settled g c rs r tell awaits).rests
+    let cause = c.settle_files.ensures.cause in
+    let new : JournalView _ = record { counting = c.settle_files.new.counting; other = c.settle_files.new.other; b_counts = j.b_counts; gate = j.gate; flight = j.flight; limit = j.limit; counting_calls = c.saturating_add-self-inside.result; other_calls = c.saturating_add-self-inside-2.result } in
+    subst (λ (v : JournalView _). PairCause (faults (disk_a v)) (faults (disk_a new)) (faults (disk_b v)) (faults (disk_b new)) _) c.self.view_is
+    (sides_cause faults j.b_counts j.counting c.settle_files.new.counting j.other c.settle_files.new.other _ (record { later_a = cause.later_a; later_b = cause.later_b; rose = λ e. cause.rose (search rules) }))
