@@ -78,6 +78,10 @@ next_read v = min (v.reads + 1) (2 ^ 64 - 1)
 abbrev pub fails_read : MemView → Bool
 fails_read v = list_any (λ n. n == next_read v) v.failing_reads
 
+-- the count of faults after a call that failed; it stands still at its last value
+abbrev pub one_fault : MemView → ℕ
+one_fault v = min (v.faults + 1) (2 ^ 64 - 1)
+
 -- the disk did that call, or its count stood at its end; only the count of faults may have changed with it
 pub record DidCall (v : MemView) (call : Call) (v' : MemView) : Type 0 where
   pub history : Called v.history call v'.history ⊎ Uncounted v.history v'.history

@@ -4,7 +4,7 @@ ghost use Rattle.std.specs.List.{list_any};
 ghost use Rattle.disk_model.specs.Disk.{History, Call, Write, Missed, Sync, Refused, contents_of};
 ghost use Rattle.disk_model.specs.Disk.{Wrote, Synced, Called, TookNoEffect, Gives, HasCause, IfLen, IfRead};
 ghost use Rattle.disk_model.specs.Memory.{MemView, has_call, has_room, mode_of, next_mode, kept_as, write_call, sync_call, DidCall};
-ghost use Rattle.disk_model.specs.Memory.{is_write_done, is_sync_done};
+ghost use Rattle.disk_model.specs.Memory.{is_write_done, is_sync_done, one_fault};
 ghost use Rattle.disk_model.specs.Memory.{next_read, fails_read, DidRead};
 ghost use Rattle.std.specs.Prelude.{map};
 ghost use Rattle.disk_model.specs.Disk.{LeftAfter};
@@ -213,6 +213,7 @@ impl MemDisk {
     // A write that takes no effect.
     fn miss(&mut self, at: u64, count: usize)
         ensures did { DidCall self.old (kept_as self.old (Missed at count)) self.new }
+        ensures fault { self.new.faults ≡ one_fault self.old }
         ensures cause { HasCause self.old.faults self.new.faults (Unit {0}) }
     {
         self.calls.keep(Kept::Missed { at, count });
@@ -234,6 +235,7 @@ impl MemDisk {
     // A sync that clears nothing.
     fn leave_pending(&mut self)
         ensures did { DidCall self.old (kept_as self.old (Sync false)) self.new }
+        ensures fault { self.new.faults ≡ one_fault self.old }
         ensures cause { HasCause self.old.faults self.new.faults (Unit {0}) }
     {
         self.calls.keep(Kept::Synced { cleared: false });
@@ -241,7 +243,7 @@ impl MemDisk {
     }
 
     fn count_fault(&mut self)
-        ensures same { self.new ≡ record self.old { faults = self.new.faults } }
+        ensures same { self.new ≡ record self.old { faults = one_fault self.old } }
         ensures cause { HasCause self.old.faults self.new.faults (Unit {0}) }
     {
         self.faults = self.faults.saturating_add(1);
@@ -250,6 +252,7 @@ impl MemDisk {
     fn read_fails(&mut self) -> bool
         ensures fails { result ≡ fails_read self.old }
         ensures calm { result ≡ false → self.new.faults ≡ self.old.faults }
+        ensures fault { IsTrue result → self.new.faults ≡ one_fault self.old }
         ensures did { DidRead self.old self.new }
         ensures cause { HasCause self.old.faults self.new.faults (IsTrue result) }
     {
@@ -278,6 +281,7 @@ impl Disk for MemDisk {
         ensures did { DidRead self.old self.new }
         ensures fails { (result ≡ DiskLen.Failed) ↔ IsTrue (fails_read self.old) }
         ensures calm { IfLen result (λ _. self.new.faults ≡ self.old.faults) }
+        ensures fault { result ≡ DiskLen.Failed → self.new.faults ≡ one_fault self.old }
     {
         if self.read_fails() {
             return DiskLen::Failed;
@@ -295,6 +299,7 @@ impl Disk for MemDisk {
         ensures did { DidRead self.old self.new }
         ensures fails { (result ≡ DiskRead.Failed) ↔ IsTrue (fails_read self.old) }
         ensures calm { IfRead result (λ _. self.new.faults ≡ self.old.faults) }
+        ensures fault { result ≡ DiskRead.Failed → self.new.faults ≡ one_fault self.old }
     {
         if self.read_fails() {
             return DiskRead::Failed;
@@ -315,6 +320,7 @@ impl Disk for MemDisk {
         ensures done { (result ≡ DiskDone.Done)
             ↔ IsTrue (is_write_done self.old at (length piece.now)) }
         ensures calm { result ≡ DiskDone.Done → self.new.faults ≡ self.old.faults }
+        ensures fault { result ≡ DiskDone.Failed → self.new.faults ≡ one_fault self.old }
     {
         if !self.has_room(at, piece.len()) {
             self.miss(at, piece.len());
@@ -345,6 +351,7 @@ impl Disk for MemDisk {
         ensures did { DidCall self.old (sync_call self.old) self.new }
         ensures done { (result ≡ DiskDone.Done) ↔ IsTrue (is_sync_done self.old) }
         ensures calm { result ≡ DiskDone.Done → self.new.faults ≡ self.old.faults }
+        ensures fault { result ≡ DiskDone.Failed → self.new.faults ≡ one_fault self.old }
     {
         if !self.has_call() {
             self.leave_pending();
