@@ -8,7 +8,11 @@ use Rattle.record_code.specs.Record.{Record, IsSound, body}
 use Rattle.record_code.specs.Reading.{byte, slice, Spells, first_gate}
 use Rattle.record_code.proofs.Slices.{slice_is}
 use Rattle.record_code.proofs.ReadingLemmas.{length-body, body_there}
-use Rattle.commit_journal.specs.Pair.{head_a, head_b, magic, file_gate, generation, HasHeader, b_counts, IsChosen}
+use Rattle.commit_journal.specs.Pair.{head_b, magic, file_gate, generation, HasHeader, b_counts, IsChosen}
+
+-- the header of A and the open gate behind it
+abbrev pub front_a : List ℕ
+front_a = 0x43 ∷ 0x4f ∷ 0x4e ∷ 0x46 ∷ 0x44 ∷ 0x4a ∷ 0x31 ∷ 0x0a ∷ 0 ∷ 0 ∷ 0 ∷ 0 ∷ 0 ∷ 0 ∷ 0 ∷ 1 ∷ 0 ∷ 1 ∷ []
 
 -- a file with bytes put at its start
 front : (bytes old : List ℕ) (k : ℕ) → k < length bytes → byte (put 0 bytes old) k ≡ get_or bytes k 0
@@ -19,25 +23,25 @@ eight f l size each = slice_is f 0 8 l size (λ k lt. let e : 0 + k ≡ k = omeg
 
 module _ (bytes old : List ℕ) (r : Record) (sound : IsSound r) (is : bytes ≡ body 0 r) where
   first : List ℕ
-  first = put 0 (head_a ++ bytes) old
+  first = put 0 (front_a ++ bytes) old
 
   pub made : List ℕ
   made = put 16 (1 ∷ []) first
 
-  whole : length (head_a ++ bytes) ≡ 56 + length r.payload
-  whole = omega (arith, length-append head_a bytes, ap length is, length-body 0 r)
+  whole : length (front_a ++ bytes) ≡ 56 + length r.payload
+  whole = omega (arith, length-append front_a bytes, ap length is, length-body 0 r)
 
   first_long : 56 + length r.payload ≤ length first
   unfolding first
-  first_long = omega (arith, length-put 0 (head_a ++ bytes) old (omega arith), whole)
+  first_long = omega (arith, length-put 0 (front_a ++ bytes) old (omega arith), whole)
 
   pub made_long : 56 + length r.payload ≤ length made
   unfolding made
   made_long = omega (arith, put_no_shorter 16 (1 ∷ []) first, first_long)
 
-  other : (k : ℕ) → k < 56 + length r.payload → (k < 16) ⊎ (17 ≤ k) → byte made k ≡ get_or (head_a ++ bytes) k 0
+  other : (k : ℕ) → k < 56 + length r.payload → (k < 16) ⊎ (17 ≤ k) → byte made k ≡ get_or (front_a ++ bytes) k 0
   unfolding made first
-  other k lt outside = put_other 16 (1 ∷ []) (put 0 (head_a ++ bytes) old) k 0 (omega (arith, first_long)) outside ∙ front (head_a ++ bytes) old k (omega (arith, whole))
+  other k lt outside = put_other 16 (1 ∷ []) (put 0 (front_a ++ bytes) old) k 0 (omega (arith, first_long)) outside ∙ front (front_a ++ bytes) old k (omega (arith, whole))
 
   pub gate_open : file_gate made ≡ 1
   unfolding made
@@ -46,21 +50,21 @@ module _ (bytes old : List ℕ) (r : Record) (sound : IsSound r) (is : bytes ≡
   pub header_made : HasHeader made
   header_made = record {
     long = omega (arith, made_long);
-    begins = eight made magic refl (λ k lt. other k (omega arith) (inl (omega arith)) ∙ get_or_append_left head_a bytes 0 k (omega arith) ∙ in_magic k lt);
+    begins = eight made magic refl (λ k lt. other k (omega arith) (inl (omega arith)) ∙ get_or_append_left front_a bytes 0 k (omega arith) ∙ in_magic k lt);
   }
     where
-      in_magic : (k : ℕ) → k < 8 → get_or head_a k 0 ≡ get_or magic k 0
+      in_magic : (k : ℕ) → k < 8 → get_or front_a k 0 ≡ get_or magic k 0
       in_magic k lt = get_or_append_left magic (0 ∷ 0 ∷ 0 ∷ 0 ∷ 0 ∷ 0 ∷ 0 ∷ 1 ∷ 0 ∷ 1 ∷ []) 0 k lt
 
   there : slice made 18 (38 + length r.payload) ≡ body 0 r
   there = slice_is made 18 (38 + length r.payload) (body 0 r) (length-body 0 r)
       (λ k lt. let back : 18 + k - 18 ≡ k = omega arith in
-      other (18 + k) (omega arith) (inr (omega arith)) ∙ get_or-append_right head_a bytes 18 (18 + k) 0 refl (omega arith) ∙ ap (λ (j : ℕ). get_or bytes j 0) back ∙ ap (λ (l : List ℕ). get_or l k 0) is)
+      other (18 + k) (omega arith) (inr (omega arith)) ∙ get_or-append_right front_a bytes 18 (18 + k) 0 refl (omega arith) ∙ ap (λ (j : ℕ). get_or bytes j 0) back ∙ ap (λ (l : List ℕ). get_or l k 0) is)
 
   pub made_spells : Spells made (r ∷ []) (first_gate + length bytes)
   made_spells =
       let stands = body_there made 17 0 r sound there in
-      let one : byte made 17 ≡ 1 = other 17 (omega arith) (inr (omega arith)) ∙ get_or_append_left head_a bytes 0 17 (omega arith) in
+      let one : byte made 17 ≡ 1 = other 17 (omega arith) (inr (omega arith)) ∙ get_or_append_left front_a bytes 0 17 (omega arith) in
       let place : 17 + 38 + length r.payload ≡ first_gate + length bytes = omega (arith, ap length is, length-body 0 r) in
       record {
         reads = (stands.here one, stands.gate ∙ place);
@@ -96,10 +100,10 @@ pub record Made (a b : List ℕ) (r : Record) (gate : ℕ) : Type 0 where
   pub chosen : IsChosen false a b
   pub spells : Spells a (r ∷ []) gate
 
-pub made_pair : (a b a0 a1 b0 bytes : List ℕ) (r : Record) → IsSound r → bytes ≡ body 0 r → a1 ≡ put 0 (head_a ++ bytes) a0 → a ≡ put 16 (1 ∷ []) a1 → b ≡ put 0 head_b b0 → Made a b r (first_gate + length bytes)
+pub made_pair : (a b a0 a1 b0 bytes : List ℕ) (r : Record) → IsSound r → bytes ≡ body 0 r → a1 ≡ put 0 (front_a ++ bytes) a0 → a ≡ put 16 (1 ∷ []) a1 → b ≡ put 0 head_b b0 → Made a b r (first_gate + length bytes)
 unfolding made first other_made
 made_pair a b a0 a1 b0 bytes r sound is first_is a_is b_is =
-    let a_made : a ≡ put 16 (1 ∷ []) (put 0 (head_a ++ bytes) a0) = a_is ∙ ap (λ (l : List ℕ). put 16 (1 ∷ []) l) first_is in
+    let a_made : a ≡ put 16 (1 ∷ []) (put 0 (front_a ++ bytes) a0) = a_is ∙ ap (λ (l : List ℕ). put 16 (1 ∷ []) l) first_is in
     subst (λ (x : List ℕ). Made x b r (first_gate + length bytes)) (sym a_made)
     (subst (λ (y : List ℕ). Made (made bytes a0 r sound is) y r (first_gate + length bytes)) (sym b_is)
     (record {
@@ -110,11 +114,11 @@ made_pair a b a0 a1 b0 bytes r sound is first_is a_is b_is =
       spells = made_spells bytes a0 r sound is;
     }))
 
-pub made_file : (a a0 image bytes : List ℕ) (r : Record) → IsSound r → bytes ≡ body 0 r → image ≡ head_a ++ bytes → a ≡ put 16 (1 ∷ []) (put 0 image a0) → Spells a (r ∷ []) (first_gate + length bytes)
+pub made_file : (a a0 image bytes : List ℕ) (r : Record) → IsSound r → bytes ≡ body 0 r → image ≡ front_a ++ bytes → a ≡ put 16 (1 ∷ []) (put 0 image a0) → Spells a (r ∷ []) (first_gate + length bytes)
 unfolding made first
 made_file a a0 image bytes r sound is image_is a_is =
     subst (λ (x : List ℕ). Spells x (r ∷ []) (first_gate + length bytes)) (sym (a_is ∙ ap (λ (l : List ℕ). put 16 (1 ∷ []) (put 0 l a0)) image_is)) (made_spells bytes a0 r sound is)
 
-pub made_chosen : (a a0 b b0 image bytes : List ℕ) (r : Record) → IsSound r → bytes ≡ body 0 r → image ≡ head_a ++ bytes → a ≡ put 16 (1 ∷ []) (put 0 image a0) → b ≡ put 0 head_b b0 → IsChosen false a b
+pub made_chosen : (a a0 b b0 image bytes : List ℕ) (r : Record) → IsSound r → bytes ≡ body 0 r → image ≡ front_a ++ bytes → a ≡ put 16 (1 ∷ []) (put 0 image a0) → b ≡ put 0 head_b b0 → IsChosen false a b
 made_chosen a a0 b b0 image bytes r sound is image_is a_is b_is =
-    (made_pair a b a0 (put 0 (head_a ++ bytes) a0) b0 bytes r sound is refl (a_is ∙ ap (λ (l : List ℕ). put 16 (1 ∷ []) (put 0 l a0)) image_is) b_is).chosen
+    (made_pair a b a0 (put 0 (front_a ++ bytes) a0) b0 bytes r sound is refl (a_is ∙ ap (λ (l : List ℕ). put 16 (1 ∷ []) (put 0 l a0)) image_is) b_is).chosen

@@ -2,7 +2,7 @@
 use Rattle.std.specs.Prelude.{◌≡◌, ◌≤◌, ◌⊎◌, Bool, true, IsTrue, ℕ, List, [], ◌∷◌, ◌++◌}
 use Rattle.disk_model.specs.Disk.{History, Call, Write, Sync, Called, GoesOn, MaySync, MadePart, contents_of}
 use Rattle.record_code.specs.declared.payloads.Placed.{Placed}
-use Rattle.record_code.specs.Record.{Record, bodies}
+use Rattle.record_code.specs.Record.{Record, bodies, gated}
 use Rattle.record_code.specs.Reading.{first_gate}
 use Rattle.commit_journal.specs.declared.why.CreateWhy.{CreateWhy}
 use Rattle.commit_journal.specs.declared.why.CreateWhy.TheVariants.{Exists, DiskFault as CreateDiskFault, NoMemory as CreateNoMemory}
@@ -36,9 +36,9 @@ making_b = Write 0 head_b ∷ (Sync true ∷ [])
 abbrev pub making : List ℕ → List Call
 making file = Write 0 file ∷ (Sync true ∷ (Write 16 (1 ∷ []) ∷ (Sync true ∷ [])))
 
--- the calls that make A: its header and its first record
+-- the calls that make A: its header and its first record behind an open gate
 abbrev pub making_a : List Record → List Call
-making_a first = making (head_a ++ bodies first)
+making_a first = making (head_a ++ gated (bodies first))
 
 -- the journal that was made of one record; each fact is of disks that tell
 pub record IsCreated {D : Type 0} (tells : D → Bool) (history : D → History) (a b : D) (first : List Record) (v : JournalView D) : Type 0 where
@@ -62,6 +62,8 @@ pub record IsNotCreated {D : Type 0} (tells : D → Bool) (history : D → Histo
   pub unchanged : (why ≡ Exists) ⊎ (why ≡ CreateNoMemory) → (history a' ≡ history a) × (history b' ≡ history b)
   pub part_a : IsTrue (tells a) → MadePart (history a) (making_a first) (history a')
   pub part_b : IsTrue (tells b) → MadePart (history b) making_b (history b')
+  -- A is written only once B is made
+  pub b_first : IsTrue (tells b) → (history a' ≡ history a) ⊎ GoesOn (history b) making_b (history b')
   pub tells_a : tells a' ≡ tells a
   pub tells_b : tells b' ≡ tells b
   -- a disk's fault comes only where its count rose

@@ -1,6 +1,6 @@
 ghost use Rattle.std.specs.Prelude.{◌≡◌, ◌≤◌, ◌<◌, ◌+◌, ◌^◌, ◌++◌, ◌∷◌, [], ◌⊎◌, ◌↔◌, false, true, OnOk, List, ℕ, length, IsTrue, IfOk, IfErr, IfSome, IsNone, IsErrOf};
 ghost use Rattle.disk_model.specs.Disk.{contents_of, put, HasCause, Write, Sync, GoesOn, MadePart};
-ghost use Rattle.record_code.specs.Record.{Record, IsSound, body};
+ghost use Rattle.record_code.specs.Record.{Record, IsSound, body, gated};
 ghost use Rattle.commit_journal.specs.Pair.{IsQuiet, IsSettled, IsChosen, head_a, head_b};
 ghost use Rattle.commit_journal.specs.Journal.{PairCause};
 ghost use Rattle.commit_journal.specs.Attach.{IsThere, IsHeaderOf};
@@ -8,7 +8,7 @@ ghost use Rattle.commit_journal.specs.Opening.{IsOpened, IsCreated, IsNotCreated
 
 use crate::appending::OPEN;
 use crate::flight::Flight;
-use crate::header::{FIRST_GATE, Header, read_header};
+use crate::header::{Header, read_header};
 use crate::journal::Journal;
 use crate::why::{CreateFault, CreateWhy};
 use disk_model::{Disk, DiskDone};
@@ -58,8 +58,8 @@ pub(crate) fn find_journal<D: Disk>(a: &mut D, b: &mut D) -> Option<bool>
     }
 }
 
-// What the files begin with: magic, generation and file gate, and in A the first record's gate.
-const HEADER_A: [u8; 18] = *b"CONFDJ1\n\0\0\0\0\0\0\0\x01\0\x01";
+// What the files begin with: magic, generation and file gate.
+const HEADER_A: [u8; 17] = *b"CONFDJ1\n\0\0\0\0\0\0\0\x01\0";
 
 const HEADER_B: [u8; 17] = *b"CONFDJ1\n\0\0\0\0\0\0\0\0\0";
 
@@ -77,7 +77,7 @@ fn image_of(alloc: Global, entry: &[u8]) -> Result<Vec<u8>, AllocError>
 }
 
 fn write_files<D: Disk>(a: &mut D, b: &mut D, image: &[u8]) -> DiskDone
-    requires { 18 ≤ length image.now }
+    requires { 17 ≤ length image.now }
     ensures tells { D.tells a.new ≡ D.tells a.old }
     ensures other_tells { D.tells b.new ≡ D.tells b.old }
     ensures contents { result ≡ DiskDone.Done → IsTrue (D.tells a.old) → contents_of (D.history a.new)
@@ -94,6 +94,8 @@ fn write_files<D: Disk>(a: &mut D, b: &mut D, image: &[u8]) -> DiskDone
         MadePart (D.history a.old) (making image.now) (D.history a.new) }
     ensures other_part { IsTrue (D.tells b.old) →
         MadePart (D.history b.old) making_b (D.history b.new) }
+    ensures other_first { IsTrue (D.tells b.old) → (D.history a.new ≡ D.history a.old)
+        ⊎ GoesOn (D.history b.old) making_b (D.history b.new) }
     ensures bound { result ≡ DiskDone.Done → length image.now ≤ 2 ^ 62 }
     ensures cause { PairCause (D.faults a.old) (D.faults a.new)
         (D.faults b.old) (D.faults b.new) (result ≡ DiskDone.Failed) }
@@ -117,7 +119,7 @@ pub(crate) fn make_files<D: Disk>(
     requires { length entry.now < 2 ^ 62 }
     ensures tells { D.tells a.new ≡ D.tells a.old }
     ensures other_tells { D.tells b.new ≡ D.tells b.old }
-    ensures bound { OnOk result (17 + length entry.now < 2 ^ 62) }
+    ensures bound { OnOk result (16 + length entry.now < 2 ^ 62) }
     ensures made { IsTrue (D.tells a.old) → OnOk result
         (GoesOn (D.history a.old) (making (head_a ++ entry.now)) (D.history a.new)) }
     ensures other_made { IsTrue (D.tells b.old) → OnOk result
@@ -126,12 +128,14 @@ pub(crate) fn make_files<D: Disk>(
         MadePart (D.history a.old) (making (head_a ++ entry.now)) (D.history a.new) }
     ensures other_part { IsTrue (D.tells b.old) →
         MadePart (D.history b.old) making_b (D.history b.new) }
+    ensures other_first { IsTrue (D.tells b.old) → (D.history a.new ≡ D.history a.old)
+        ⊎ GoesOn (D.history b.old) making_b (D.history b.new) }
     ensures settled { IsTrue (D.tells a.old) → OnOk result ((r : Record) → IsSound r
-        → entry.now ≡ body 0 r
-        → IsSettled (D.history a.new) (r ∷ []) (17 + length entry.now)) }
+        → entry.now ≡ gated (body 0 r)
+        → IsSettled (D.history a.new) (r ∷ []) (16 + length entry.now)) }
     ensures other_quiet { IsTrue (D.tells b.old) → OnOk result (IsQuiet (D.history b.new)) }
     ensures chosen { IsTrue (D.tells a.old) → IsTrue (D.tells b.old) → OnOk result ((r : Record)
-        → IsSound r → entry.now ≡ body 0 r
+        → IsSound r → entry.now ≡ gated (body 0 r)
         → IsChosen false (contents_of (D.history a.new)) (contents_of (D.history b.new))) }
     ensures free { IsTrue (D.tells a.old) → IsTrue (D.tells b.old) → OnOk result
         (IsThere (contents_of (D.history a.old)) (contents_of (D.history b.old)) → ⊥) }
@@ -178,13 +182,13 @@ impl<D: Disk> Journal<D> {
     {
         let mut a = a;
         let mut b = b;
-        let entry = first.as_bytes();
+        let entry = first.with_gate();
         match make_files(alloc, &mut a, &mut b, entry) {
             Ok(()) => Ok(Journal {
                 counting: a,
                 other: b,
                 b_counts: false,
-                gate: FIRST_GATE + entry.len() as u64,
+                gate: FILE_GATE + entry.len() as u64,
                 flight: Flight::Nothing,
                 limit,
                 counting_calls: 0,

@@ -7,7 +7,7 @@
 //! The rules of the two files, each with what says it:
 //! 1. `create` writes B's header and syncs; then A with its file gate closed, syncs, opens the gate
 //!    and syncs. It never writes a journal that is there (`IsCreated`: `made_a`, `made_b`;
-//!    `IsNotCreated`: `spared`, `unchanged`, `part_a`, `part_b`).
+//!    `IsNotCreated`: `spared`, `unchanged`, `part_a`, `part_b`, `b_first`).
 //! 2. `attach` syncs each disk once, writes nothing, and reads what the files spell. It refuses files
 //!    exactly for what their bytes are (`IsAttached`: `spelled`, `synced_a`, `synced_b`, `free`;
 //!    `IsNotAttached`: `explained`, `owed`).

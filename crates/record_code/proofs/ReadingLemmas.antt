@@ -1,12 +1,12 @@
 -- Reading records: what agrees reads the same, one more at the end, and that there is one reading.
-use Rattle.std.proofs.Common.{◌≡◌, ◌≢◌, ◌≤◌, ℕ, ◌+◌, ◌-◌, nat_le, cond, List, [], ◌∷◌, ◌++◌, length, take, drop, refl, sym, ◌∙◌, ap, subst, arith, append_assoc, length-append}
+use Rattle.std.proofs.Common.{◌≡◌, ◌≢◌, ◌≤◌, ℕ, ◌+◌, ◌-◌, nat_le, cond, List, [], ◌∷◌, ◌++◌, length, take, drop, refl, sym, ◌∙◌, ap, subst, arith, append_assoc, length-append, length-drop}
 use Rattle.std.specs.Int.{w32, to_be_bytes, from_be_bytes}
-use Rattle.std.proofs.lemmas.List.{take_at, drop_at}
+use Rattle.std.proofs.lemmas.List.{take_all, take_at, drop_at}
 use Rattle.std.proofs.lemmas.Nat.{from_be_bytes-to_be_bytes_4}
 use Rattle.std.proofs.lemmas.Bool.Decides.{nat_tests}
 use Rattle.sha2.specs.Sha256.{sha256}
 use Rattle.sha2.proofs.Facts256.{length-sha256}
-use Rattle.record_code.specs.Record.{Record, IsSound, most_payload, head, body, record_in, IsBody}
+use Rattle.record_code.specs.Record.{Record, IsSound, most_payload, head, body, gated, record_in, IsBody, IsGated}
 use Rattle.record_code.specs.Reading.{byte, slice, Agree, size_at, record_at, computed_digest, kept_digest, next_gate, IsRecordAt, Reads}
 use Rattle.record_code.proofs.Slices.{slice_byte, slice_same, slice_front, slice_back}
 
@@ -199,15 +199,26 @@ body_is r bytes sound is =
     let same : record_in bytes ≡ r = ap record_in is ∙ record_in-body r in
     record { is = is ∙ ap (body 0) (sym same); sound = subst IsSound (sym same) sound }
 
--- a body that was put together piece by piece
-pub pieces : (r : Record) (l0 l1 l2 l3 l4 l5 number payload digest read : List ℕ) → l0 ≡ [] → l1 ≡ l0 ++ r.kind ∷ []
-    → number ≡ to_be_bytes w32 (length r.payload) → l2 ≡ l1 ++ number → payload ≡ r.payload → l3 ≡ l2 ++ payload
-    → read ≡ l3 → digest ≡ sha256 read → l4 ≡ l3 ++ digest → l5 ≡ l4 ++ 0 ∷ [] → l5 ≡ body 0 r
+-- all bytes behind the first
+pub behind_first : (l : List ℕ) → take (length l - 1) (drop 1 l) ≡ drop 1 l
+behind_first l = take_all (length l - 1) (drop 1 l) (omega (arith, length-drop 1 l))
+
+-- a body that was put together piece by piece behind its gate
+pub pieces : (r : Record) (l0 l1 l2 l3 l4 l5 l6 number payload digest read : List ℕ) → l0 ≡ [] → l1 ≡ l0 ++ 1 ∷ [] → l2 ≡ l1 ++ r.kind ∷ []
+    → number ≡ to_be_bytes w32 (length r.payload) → l3 ≡ l2 ++ number → payload ≡ r.payload → l4 ≡ l3 ++ payload
+    → read ≡ drop 1 l4 → digest ≡ sha256 read → l5 ≡ l4 ++ digest → l6 ≡ l5 ++ 0 ∷ [] → l6 ≡ gated (body 0 r)
 unfolding body
-pieces r l0 l1 l2 l3 l4 l5 number payload digest read a0 a1 number_is a2 payload_is a3 read_is digest_is a4 a5 =
+pieces r l0 l1 l2 l3 l4 l5 l6 number payload digest read a0 a1 a2 number_is a3 payload_is a4 read_is digest_is a5 a6 =
     let front = (r.kind ∷ []) ++ to_be_bytes w32 (length r.payload) in
-    let e1 : l1 ≡ r.kind ∷ [] = a1 ∙ ap (λ (l : List ℕ). l ++ r.kind ∷ []) a0 in
-    let e2 : l2 ≡ front = a2 ∙ ap (λ (l : List ℕ). l ++ number) e1 ∙ ap (λ (l : List ℕ). (r.kind ∷ []) ++ l) number_is in
-    let e3 : l3 ≡ head r = a3 ∙ ap (λ (l : List ℕ). l ++ payload) e2 ∙ ap (λ (l : List ℕ). front ++ l) payload_is in
-    let e4 : l4 ≡ head r ++ sha256 (head r) = a4 ∙ ap (λ (l : List ℕ). l ++ digest) e3 ∙ ap (λ (l : List ℕ). head r ++ l) (digest_is ∙ ap sha256 (read_is ∙ e3)) in
-    a5 ∙ ap (λ (l : List ℕ). l ++ 0 ∷ []) e4
+    let e1 : l1 ≡ 1 ∷ [] = a1 ∙ ap (λ (l : List ℕ). l ++ 1 ∷ []) a0 in
+    let e2 : l2 ≡ 1 ∷ (r.kind ∷ []) = a2 ∙ ap (λ (l : List ℕ). l ++ r.kind ∷ []) e1 in
+    let e3 : l3 ≡ 1 ∷ front = a3 ∙ ap (λ (l : List ℕ). l ++ number) e2 ∙ ap (λ (l : List ℕ). 1 ∷ ((r.kind ∷ []) ++ l)) number_is in
+    let e4 : l4 ≡ 1 ∷ head r = a4 ∙ ap (λ (l : List ℕ). l ++ payload) e3 ∙ ap (λ (l : List ℕ). 1 ∷ (front ++ l)) payload_is in
+    let e5 : l5 ≡ 1 ∷ (head r ++ sha256 (head r)) = a5 ∙ ap (λ (l : List ℕ). l ++ digest) e4 ∙ ap (λ (l : List ℕ). 1 ∷ (head r ++ l)) (digest_is ∙ ap sha256 (read_is ∙ ap (λ (l : List ℕ). drop 1 l) e4)) in
+    a6 ∙ ap (λ (l : List ℕ). l ++ 0 ∷ []) e5
+
+-- the bytes of a record behind its gate
+pub gated_is : (r : Record) (bytes : List ℕ) → IsSound r → bytes ≡ gated (body 0 r) → IsGated bytes
+gated_is r bytes sound is =
+    let behind : drop 1 bytes ≡ body 0 r = ap (λ (l : List ℕ). drop 1 l) is in
+    record { is_open = is ∙ ap gated (sym behind); body_is = body_is r (drop 1 bytes) sound behind }

@@ -34,7 +34,16 @@ bodies (r ∷ (s ∷ rs)) = body 1 r ++ bodies (s ∷ rs)
 abbrev pub record_in : List ℕ → Record
 record_in bytes = record { kind = slice_index bytes 0; payload = take (length bytes - 38) (drop 5 bytes) }
 
+-- the gate before records is open, and behind it stand these bytes
+abbrev pub gated : List ℕ → List ℕ
+gated body = 1 ∷ body
+
 -- these bytes are the body of one record, with a closed gate at its end
 pub record IsBody (bytes : List ℕ) : Type 0 where
   pub is : bytes ≡ body 0 (record_in bytes)
   pub sound : IsSound (record_in bytes)
+
+-- these bytes are an open gate and the body of one record
+pub record IsGated (bytes : List ℕ) : Type 0 where
+  pub is_open : bytes ≡ gated (drop 1 bytes)
+  pub body_is : IsBody (drop 1 bytes)

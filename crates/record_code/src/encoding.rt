@@ -9,8 +9,11 @@ use std::alloc::Global;
 /// The most bytes that a payload has.
 pub const MAX_PAYLOAD: usize = 1_049_600;
 
-// The bytes of a record beside its payload: kind, length, digest and the next gate.
-const OVERHEAD: usize = 38;
+// An open gate.
+const OPEN: u8 = 1;
+
+// The bytes of a record beside its payload: the gate before it, kind, length, digest and the next gate.
+const OVERHEAD: usize = 39;
 
 /// One record of that kind with that payload.
 pub fn encode(alloc: Global, kind: u8, payload: &Bytes) -> Result<Encoded, NoMemory>
@@ -19,10 +22,11 @@ pub fn encode(alloc: Global, kind: u8, payload: &Bytes) -> Result<Encoded, NoMem
 {
     let payload = payload.as_slice();
     let mut bytes = Vec::with_capacity(alloc, payload.len() + OVERHEAD)?;
+    bytes.push(OPEN)?;
     bytes.push(kind)?;
     bytes.extend_from_slice(&(payload.len() as u32).to_be_bytes())?;
     bytes.extend_from_slice(payload)?;
-    let digest = digest_of(&bytes);
+    let digest = digest_of(&bytes[1..]);
     bytes.extend_from_slice(&digest)?;
     bytes.push(0)?;
     Ok(Encoded { bytes })
