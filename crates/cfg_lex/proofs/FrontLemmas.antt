@@ -10,9 +10,9 @@ use Rattle.cfg_lex.specs.declared.fault.Cause.{Cause}
 use Rattle.cfg_lex.specs.declared.fault.Cause.TheVariants.{BadByte, OpenComment, OpenQuote, LongWord}
 use Rattle.cfg_lex.specs.declared.front.Front.{Front}
 use Rattle.cfg_lex.specs.declared.front.Front.TheVariants.{Gap, Token, Fault}
-use Rattle.cfg_lex.specs.Bytes.{begins_with, is_space, is_bare, is_in_line, is_angle_byte, is_printed, is_inside, is_in_run, is_run, sign_of, unescaped}
-use Rattle.cfg_lex.specs.Lexeme.{Lexeme, Space, LineComment, Comment, Sign, BareWord, AngleWord, QuotedWord, spelled, kind_of, word_of, EndsLine, IsShaped, IsPrinted, Stands}
-use Rattle.cfg_lex.specs.Tokens.{FaultAt, IsStray, IsUnprinted}
+use Rattle.cfg_lex.specs.Bytes.{begins_with, is_space, is_bare, is_in_line, is_angle_byte, is_printing, is_inside, is_in_run, is_run, sign_of, unescaped}
+use Rattle.cfg_lex.specs.Lexeme.{Lexeme, Space, LineComment, Comment, Sign, BareWord, AngleWord, QuotedWord, spelled, kind_of, word_of, EndsLine, IsShaped, IsPrinting, Stands}
+use Rattle.cfg_lex.specs.Tokens.{FaultAt, IsStray, IsNotPrinting}
 use Rattle.cfg_lex.specs.Front.{close_of, quote_of, bare_len, word_front, bare_front, angle_front, quoted_front, quote_front, comment_front, sign_front, front_of}
 use Rattle.cfg_lex.proofs.RunLemmas.{longest, longest_found, close_found, close_is, close_missing, not_closed, starts_with, quote_found, quote_is, run_is, run_found, run_whole}
 
@@ -46,7 +46,7 @@ shape_front (Comment bytes) = Gap (length bytes + 4)
 shape_front (Sign byte kind) = Token kind 1
 shape_front (BareWord bytes) = word_front Bare (length bytes) (length bytes)
 shape_front (AngleWord bytes) = word_front Bare (length bytes + 2) (length bytes + 2)
-shape_front (QuotedWord bytes) = quoted_front bytes (prefix_len is_printed bytes)
+shape_front (QuotedWord bytes) = quoted_front bytes (prefix_len is_printing bytes)
 
 -- a bare byte is none of the others
 pub bare_is_no_space : (b : ℕ) → is_bare b ≡ true → is_space b ≡ false
@@ -129,11 +129,11 @@ angle_found bytes behind shaped =
     (and_from (ltb 0 (length bytes)) (begins_with 62 (drop (length bytes) rest)) (lt-ltb 0 (length bytes) shaped.0)
     (ap (begins_with 62) (drop_at bytes (62 ∷ behind) (length bytes) refl)))
 
-quoted_found : (bytes behind : List ℕ) → is_inside false bytes ≡ true → quote_front (bytes ++ 34 ∷ behind) (quote_of false (bytes ++ 34 ∷ behind)) ≡ quoted_front bytes (prefix_len is_printed bytes)
+quoted_found : (bytes behind : List ℕ) → is_inside false bytes ≡ true → quote_front (bytes ++ 34 ∷ behind) (quote_of false (bytes ++ 34 ∷ behind)) ≡ quoted_front bytes (prefix_len is_printing bytes)
 quoted_found bytes behind inner =
     let rest : List ℕ = bytes ++ 34 ∷ behind in
     ap (quote_front rest) (quote_found false bytes behind inner)
-    ∙ ap (λ bs. quoted_front bs (prefix_len is_printed bs)) (take_at bytes (34 ∷ behind) (length bytes) refl)
+    ∙ ap (λ bs. quoted_front bs (prefix_len is_printing bs)) (take_at bytes (34 ∷ behind) (length bytes) refl)
 
 -- a lexeme that may stand in front of what follows is found there by its shape
 pub shape_found : (lexeme : Lexeme) (behind : List ℕ) → IsShaped lexeme behind → front_of (spelled lexeme ++ behind) ≡ shape_front lexeme
@@ -169,12 +169,12 @@ by_test true P x y this other = this refl
 by_test false P x y this other = other refl
 
 -- a word is short, or too long
-word_tells : (lexeme : Lexeme) (text behind : List ℕ) (kind : TokenKind) (size count : ℕ) → text ≡ spelled lexeme ++ behind → IsShaped lexeme behind → IsPrinted lexeme → kind_of lexeme ≡ Some kind → length (word_of lexeme) ≡ size → length (spelled lexeme) ≡ count → IsFront text (word_front kind size count)
-word_tells lexeme text behind kind size count joined shaped printed is long taken =
+word_tells : (lexeme : Lexeme) (text behind : List ℕ) (kind : TokenKind) (size count : ℕ) → text ≡ spelled lexeme ++ behind → IsShaped lexeme behind → IsPrinting lexeme → kind_of lexeme ≡ Some kind → length (word_of lexeme) ≡ size → length (spelled lexeme) ≡ count → IsFront text (word_front kind size count)
+word_tells lexeme text behind kind size count joined shaped printing is long taken =
     by_test (ltb 255 size) (IsFront text) (Fault LongWord 0) (Token kind count)
     (λ over. Wrong LongWord 0 (record { lexeme = lexeme; behind = behind; joined = joined; shaped = shaped; long = omega (arith, ltb-true 255 size over) }, refl))
     (λ short. subst (IsFront text) (ap (λ k. found_front k (length (spelled lexeme))) is ∙ ap (Token kind) taken)
-    (Found lexeme behind joined (record { shaped = shaped; short = omega (arith, ltb-false 255 size short); printed = printed })))
+    (Found lexeme behind joined (record { shaped = shaped; short = omega (arith, ltb-false 255 size short); printing = printing })))
 
 word_is_no_stray : (size count : ℕ) → word_front Bare size count ≡ Fault BadByte 0 → ⊥
 word_is_no_stray size count =
@@ -189,10 +189,10 @@ shape_is_no_stray (Sign byte kind) e = cc
 shape_is_no_stray (BareWord bytes) e = word_is_no_stray (length bytes) (length bytes) e
 shape_is_no_stray (AngleWord bytes) e = word_is_no_stray (length bytes + 2) (length bytes + 2) e
 shape_is_no_stray (QuotedWord bytes) e =
-    by_test (ltb 255 (length (unescaped false bytes))) (λ f. f ≡ Fault BadByte 0 → ⊥) (Fault LongWord 0) (cond (eqb (prefix_len is_printed bytes) (length bytes)) (Token Quoted (length bytes + 2)) (Fault BadByte (1 + prefix_len is_printed bytes)))
+    by_test (ltb 255 (length (unescaped false bytes))) (λ f. f ≡ Fault BadByte 0 → ⊥) (Fault LongWord 0) (cond (eqb (prefix_len is_printing bytes) (length bytes)) (Token Quoted (length bytes + 2)) (Fault BadByte (1 + prefix_len is_printing bytes)))
     (λ over f. cc)
-    (λ short. by_test (eqb (prefix_len is_printed bytes) (length bytes)) (λ f. f ≡ Fault BadByte 0 → ⊥) (Token Quoted (length bytes + 2)) (Fault BadByte (1 + prefix_len is_printed bytes)) (λ all f. cc)
-    (λ some f. let same : 1 + prefix_len is_printed bytes ≡ 0 = cc in omega arith))
+    (λ short. by_test (eqb (prefix_len is_printing bytes) (length bytes)) (λ f. f ≡ Fault BadByte 0 → ⊥) (Token Quoted (length bytes + 2)) (Fault BadByte (1 + prefix_len is_printing bytes)) (λ all f. cc)
+    (λ some f. let same : 1 + prefix_len is_printing bytes ≡ 0 = cc in omega arith))
     e
 
 -- a byte at which nothing is found is stray
@@ -217,7 +217,7 @@ line_tells rest =
     (Found (LineComment run.front) run.back (ap (λ bs. 35 ∷ bs) run.joined) (record {
       shaped = (run.each, line_ends run.back run.stops);
       short = omega arith;
-      printed = tt;
+      printing = tt;
     }))
   where
     line_ends : (back : List ℕ) → ((b : ℕ) (bytes : List ℕ) → back ≡ b ∷ bytes → is_in_line b ≡ false) → EndsLine back
@@ -235,7 +235,7 @@ comment_tells rest =
           (Found (Comment closed.inside) closed.behind (ap (λ bs. 47 ∷ 42 ∷ bs) (closed.joined ∙ sym whole)) (record {
             shaped = closed.first;
             short = omega arith;
-            printed = tt;
+            printing = tt;
           }))
     ] refl
 
@@ -243,9 +243,9 @@ nothing_left : (front back : List ℕ) → length front ≡ length (front ++ bac
 nothing_left front [] e = refl
 nothing_left front (b ∷ bytes) e = absurd (omega (arith, length-append front (b ∷ bytes)))
 
-unprinted_tells : (inside front back behind : List ℕ) → is_inside false inside ≡ true → length (unescaped false inside) ≤ 255 → inside ≡ front ++ back → list_all is_printed front ≡ true → ((b : ℕ) (bytes : List ℕ) → back ≡ b ∷ bytes → is_printed b ≡ false) → (place : ℕ) → place ≡ 1 + length front → (back ≡ [] → ⊥) → IsFront (34 ∷ (inside ++ 34 ∷ behind)) (Fault BadByte place)
-unprinted_tells inside front [] behind inner short joined each stops place is some = absurd (some refl)
-unprinted_tells inside front (b ∷ back) behind inner short joined each stops place is some =
+not_printing_tells : (inside front back behind : List ℕ) → is_inside false inside ≡ true → length (unescaped false inside) ≤ 255 → inside ≡ front ++ back → list_all is_printing front ≡ true → ((b : ℕ) (bytes : List ℕ) → back ≡ b ∷ bytes → is_printing b ≡ false) → (place : ℕ) → place ≡ 1 + length front → (back ≡ [] → ⊥) → IsFront (34 ∷ (inside ++ 34 ∷ behind)) (Fault BadByte place)
+not_printing_tells inside front [] behind inner short joined each stops place is some = absurd (some refl)
+not_printing_tells inside front (b ∷ back) behind inner short joined each stops place is some =
     Wrong BadByte place (inr (record {
       front = front;
       byte = b;
@@ -260,10 +260,10 @@ unprinted_tells inside front (b ∷ back) behind inner short joined each stops p
     }))
 
 -- what stands in quotes that are closed: a word, or a word that is too long, or a byte that may not stand there
-quoted_tells : (inside behind : List ℕ) → is_inside false inside ≡ true → IsFront (34 ∷ (inside ++ 34 ∷ behind)) (quoted_front inside (prefix_len is_printed inside))
+quoted_tells : (inside behind : List ℕ) → is_inside false inside ≡ true → IsFront (34 ∷ (inside ++ 34 ∷ behind)) (quoted_front inside (prefix_len is_printing inside))
 quoted_tells inside behind inner =
-    let run = longest is_printed inside in
-    let count : ℕ = prefix_len is_printed inside in
+    let run = longest is_printing inside in
+    let count : ℕ = prefix_len is_printing inside in
     let text : List ℕ = 34 ∷ (inside ++ 34 ∷ behind) in
     let joined : text ≡ spelled (QuotedWord inside) ++ behind = ap (λ bs. 34 ∷ bs) (sym (append_assoc inside (34 ∷ []) behind)) in
     by_test (ltb 255 (length (unescaped false inside))) (IsFront text) (Fault LongWord 0) (cond (eqb count (length inside)) (Token Quoted (length inside + 2)) (Fault BadByte (1 + count)))
@@ -285,9 +285,9 @@ quoted_tells inside behind inner =
     (Found (QuotedWord inside) behind joined (record {
       shaped = inner;
       short = omega (arith, ltb-false 255 (length (unescaped false inside)) short);
-      printed = ap (list_all is_printed) whole ∙ run.each;
+      printing = ap (list_all is_printing) whole ∙ run.each;
     })))
-    (λ some. unprinted_tells inside run.front run.back behind inner (omega (arith, ltb-false 255 (length (unescaped false inside)) short)) run.joined run.each run.stops
+    (λ some. not_printing_tells inside run.front run.back behind inner (omega (arith, ltb-false 255 (length (unescaped false inside)) short)) run.joined run.each run.stops
     (1 + count) (omega (arith, run.size))
     (λ none. eqb-false count (length inside) some (sym run.size ∙ ap length (sym (append-nil run.front) ∙ ap (λ bs. run.front ++ bs) (sym none) ∙ sym run.joined)))))
 
@@ -305,8 +305,8 @@ quote_tells rest =
       | Some count ↦ λ e.
           let closed = quote_is false rest count e in
           let front : take count rest ≡ closed.inside = ap (take count) closed.joined ∙ take_at closed.inside (34 ∷ closed.behind) count closed.size in
-          subst (λ bs. IsFront (34 ∷ rest) (quoted_front bs (prefix_len is_printed bs))) (sym front)
-          (subst (λ bs. IsFront (34 ∷ bs) (quoted_front closed.inside (prefix_len is_printed closed.inside))) (sym closed.joined)
+          subst (λ bs. IsFront (34 ∷ rest) (quoted_front bs (prefix_len is_printing bs))) (sym front)
+          (subst (λ bs. IsFront (34 ∷ bs) (quoted_front closed.inside (prefix_len is_printing closed.inside))) (sym closed.joined)
           (quoted_tells closed.inside closed.behind closed.inner))
     ] refl
   where
@@ -346,14 +346,14 @@ sign_tells : (b : ℕ) (rest : List ℕ) → eqb b 34 ≡ false → (eqb b 47 &&
 sign_tells b rest quote comment =
     elim (sign_of b) as (λ s. sign_of b ≡ s → Tells (b ∷ rest) (sign_front s (bare_front (bare_len (b ∷ rest))))) [
       | None ↦ λ e. bare_tells b rest quote comment
-      | Some kind ↦ λ e found. Found (Sign b kind) rest refl (record { shaped = e; short = omega arith; printed = tt })
+      | Some kind ↦ λ e found. Found (Sign b kind) rest refl (record { shaped = e; short = omega arith; printing = tt })
     ] refl
 
 -- what is found at the front of a text stands there
 pub front_tells : (b : ℕ) (rest : List ℕ) → IsFront (b ∷ rest) (front_of (b ∷ rest))
 front_tells b rest =
     by_test (is_space b) (Tells (b ∷ rest)) (Gap 1) (after_space b rest)
-    (λ e found. Found (Space b) rest refl (record { shaped = e; short = omega arith; printed = tt }))
+    (λ e found. Found (Space b) rest refl (record { shaped = e; short = omega arith; printing = tt }))
     (λ no_space. by_test (eqb b 35) (Tells (b ∷ rest)) (Gap (1 + prefix_len is_in_line rest)) (after_hash b rest)
     (λ e found. subst (λ c. IsFront (c ∷ rest) (Gap (1 + prefix_len is_in_line rest))) (sym (eqb-true b 35 e)) (line_tells rest))
     (λ no_hash. by_test (eqb b 34) (Tells (b ∷ rest)) (quote_front rest (quote_of false rest)) (after_quote b rest)
@@ -381,9 +381,9 @@ stands_found (AngleWord bytes) behind stands =
     at_false (ltb 255 (length bytes + 2)) (Fault LongWord 0) (Token Bare (length bytes + 2)) (le-ltb 255 (length bytes + 2) (omega (arith, long, stands.short)))
     ∙ ap (Token Bare) (omega (arith, long))
 stands_found (QuotedWord bytes) behind stands =
-    let all = ap (prefix_len is_printed) (sym (append-nil bytes)) ∙ longest_found is_printed bytes [] stands.printed (λ b bs e. absurd cc) in
-    at_false (ltb 255 (length (unescaped false bytes))) (Fault LongWord 0) (cond (eqb (prefix_len is_printed bytes) (length bytes)) (Token Quoted (length bytes + 2)) (Fault BadByte (1 + prefix_len is_printed bytes))) (le-ltb 255 (length (unescaped false bytes)) stands.short)
-    ∙ at_true (eqb (prefix_len is_printed bytes) (length bytes)) (Token Quoted (length bytes + 2)) (Fault BadByte (1 + prefix_len is_printed bytes)) (eq-eqb (prefix_len is_printed bytes) (length bytes) all)
+    let all = ap (prefix_len is_printing) (sym (append-nil bytes)) ∙ longest_found is_printing bytes [] stands.printing (λ b bs e. absurd cc) in
+    at_false (ltb 255 (length (unescaped false bytes))) (Fault LongWord 0) (cond (eqb (prefix_len is_printing bytes) (length bytes)) (Token Quoted (length bytes + 2)) (Fault BadByte (1 + prefix_len is_printing bytes))) (le-ltb 255 (length (unescaped false bytes)) stands.short)
+    ∙ at_true (eqb (prefix_len is_printing bytes) (length bytes)) (Token Quoted (length bytes + 2)) (Fault BadByte (1 + prefix_len is_printing bytes)) (eq-eqb (prefix_len is_printing bytes) (length bytes) all)
     ∙ ap (Token Quoted) (omega (arith, length-append bytes (34 ∷ [])))
 
 long_found : (lexeme : Lexeme) → 255 < length (word_of lexeme) → shape_front lexeme ≡ Fault LongWord 0
@@ -395,17 +395,17 @@ long_found (BareWord bytes) long = at_true (ltb 255 (length bytes)) (Fault LongW
 long_found (AngleWord bytes) long =
     at_true (ltb 255 (length bytes + 2)) (Fault LongWord 0) (Token Bare (length bytes + 2)) (lt-ltb 255 (length bytes + 2) (omega (arith, length-append bytes (62 ∷ []))))
 long_found (QuotedWord bytes) long =
-    at_true (ltb 255 (length (unescaped false bytes))) (Fault LongWord 0) (cond (eqb (prefix_len is_printed bytes) (length bytes)) (Token Quoted (length bytes + 2)) (Fault BadByte (1 + prefix_len is_printed bytes))) (lt-ltb 255 (length (unescaped false bytes)) long)
+    at_true (ltb 255 (length (unescaped false bytes))) (Fault LongWord 0) (cond (eqb (prefix_len is_printing bytes) (length bytes)) (Token Quoted (length bytes + 2)) (Fault BadByte (1 + prefix_len is_printing bytes))) (lt-ltb 255 (length (unescaped false bytes)) long)
 
-unprinted_found : (text : List ℕ) (offset : ℕ) → IsUnprinted text offset → front_of text ≡ Fault BadByte offset
-unprinted_found text offset bad =
+not_printing_found : (text : List ℕ) (offset : ℕ) → IsNotPrinting text offset → front_of text ≡ Fault BadByte offset
+not_printing_found text offset bad =
     let inside : List ℕ = bad.front ++ bad.byte ∷ bad.back in
-    let count = longest_found is_printed bad.front (bad.byte ∷ bad.back) bad.before (λ b bs e. ap is_printed (sym (first_same bad.byte b bad.back bs e)) ∙ bad.bad) in
+    let count = longest_found is_printing bad.front (bad.byte ∷ bad.back) bad.before (λ b bs e. ap is_printing (sym (first_same bad.byte b bad.back bs e)) ∙ bad.bad) in
     ap front_of bad.joined
     ∙ shape_found (QuotedWord inside) bad.behind bad.inside
-    ∙ at_false (ltb 255 (length (unescaped false inside))) (Fault LongWord 0) (cond (eqb (prefix_len is_printed inside) (length inside)) (Token Quoted (length inside + 2)) (Fault BadByte (1 + prefix_len is_printed inside))) (le-ltb 255 (length (unescaped false inside)) bad.short)
-    ∙ at_false (eqb (prefix_len is_printed inside) (length inside)) (Token Quoted (length inside + 2)) (Fault BadByte (1 + prefix_len is_printed inside))
-    (ne_eqb (prefix_len is_printed inside) (length inside) (λ same. absurd (omega (arith, count, length-append bad.front (bad.byte ∷ bad.back)))))
+    ∙ at_false (ltb 255 (length (unescaped false inside))) (Fault LongWord 0) (cond (eqb (prefix_len is_printing inside) (length inside)) (Token Quoted (length inside + 2)) (Fault BadByte (1 + prefix_len is_printing inside))) (le-ltb 255 (length (unescaped false inside)) bad.short)
+    ∙ at_false (eqb (prefix_len is_printing inside) (length inside)) (Token Quoted (length inside + 2)) (Fault BadByte (1 + prefix_len is_printing inside))
+    (ne_eqb (prefix_len is_printing inside) (length inside) (λ same. absurd (omega (arith, count, length-append bad.front (bad.byte ∷ bad.back)))))
     ∙ ap (λ n. Fault BadByte (1 + n)) count
     ∙ ap (Fault BadByte) (sym bad.place)
   where
@@ -445,7 +445,7 @@ fault_found text BadByte offset (inl here) =
     let stray = here.0 in
     let tells : IsFront text (front_of text) = subst (λ t. IsFront t (front_of t)) (sym stray.joined) (front_tells stray.byte stray.rest) in
     stray_found text (front_of text) stray tells ∙ ap (Fault BadByte) (sym here.1)
-fault_found text BadByte offset (inr bad) = unprinted_found text offset bad
+fault_found text BadByte offset (inr bad) = not_printing_found text offset bad
 fault_found text OpenComment offset fault =
     ap front_of fault.0.joined ∙ ap comment_front (close_missing fault.0.bytes fault.0.unclosed) ∙ ap (Fault OpenComment) (sym fault.1)
 fault_found text OpenQuote offset fault =

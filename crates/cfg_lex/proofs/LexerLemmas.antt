@@ -79,7 +79,7 @@ tokens_more place (y ∷ xs) x =
 token_placed : (text : List ℕ) (kind : Option TokenKind) (place count : ℕ) → 0 < count → place + count ≤ length text → All (IsPlaced text) (token_at kind place count)
 token_placed text None place count some within = All-nil (IsPlaced text)
 token_placed text (Some kind) place count some within =
-    All-cons (IsPlaced text) (record { kind = kind; start = place; past = place + count }) [] (record { some = omega arith; within = within }) (All-nil (IsPlaced text))
+    All-cons (IsPlaced text) (record { kind = kind; start = place; end = place + count }) [] (record { some = omega arith; within = within }) (All-nil (IsPlaced text))
 
 -- the text is read on over the lexeme that is found
 pub record Moves (text : List ℕ) (place : ℕ) (tokens : List Token) (kind : Option TokenKind) (count : ℕ) : Type 0 where

@@ -6,7 +6,7 @@ use Rattle.std.proofs.lemmas.List.{append_assoc, append-nil, map-append, take_at
 use Rattle.std.proofs.lemmas.List.Folds.{list_all-append}
 use Rattle.cfg_lex.specs.declared.token.TokenKind.{TokenKind}
 use Rattle.cfg_lex.specs.declared.token.TokenKind.TheVariants.{OpenBrace, CloseBrace, OpenBracket, CloseBracket, Semicolon, Bare, Quoted}
-use Rattle.cfg_lex.specs.Bytes.{sign_of, is_inside, is_printed, is_run, is_angle_byte, goes_on, unescaped}
+use Rattle.cfg_lex.specs.Bytes.{sign_of, is_inside, is_printing, is_run, is_angle_byte, goes_on, unescaped}
 use Rattle.cfg_lex.specs.Lexeme.{Lexeme, Space, LineComment, Comment, Sign, BareWord, AngleWord, QuotedWord, spelled, kind_of, word_of, IsShaped, Stands, BeginsWith}
 use Rattle.cfg_lex.specs.Tokens.{token_at, tokens_at, IsTokens, between, word_spelled, word_in, word_at, words_of}
 use Rattle.cfg_lex.specs.Printed.{is_mark, is_wildcard, is_plain, escaped, printed_word, printed_kind, printed_token, IsPrintable, IsPrintedAs}
@@ -46,19 +46,19 @@ read_printed [] = refl
 read_printed (b ∷ word) = read_escaped b (flat_map escaped word) ∙ ap (λ bs. b ∷ bs) (read_printed word)
 
 -- of printing bytes alone
-printed_escaped : (b : ℕ) → is_printed b ≡ true → list_all is_printed (escaped b) ≡ true
-printed_escaped b e =
-    elim (eqb b 34 || eqb b 92) as (λ t. list_all is_printed (cond t (92 ∷ b ∷ []) (b ∷ [])) ≡ true) [
-      | true ↦ and_from (is_printed b) true e refl
-      | false ↦ and_from (is_printed b) true e refl
+printing_escaped : (b : ℕ) → is_printing b ≡ true → list_all is_printing (escaped b) ≡ true
+printing_escaped b e =
+    elim (eqb b 34 || eqb b 92) as (λ t. list_all is_printing (cond t (92 ∷ b ∷ []) (b ∷ [])) ≡ true) [
+      | true ↦ and_from (is_printing b) true e refl
+      | false ↦ and_from (is_printing b) true e refl
     ]
 
-printed_printed : (word : List ℕ) → list_all is_printed word ≡ true → list_all is_printed (flat_map escaped word) ≡ true
-printed_printed [] e = refl
-printed_printed (b ∷ word) e =
-    let parts = and_parts (is_printed b) (list_all is_printed word) e in
-    list_all-append is_printed (escaped b) (flat_map escaped word)
-    ∙ and_from (list_all is_printed (escaped b)) (list_all is_printed (flat_map escaped word)) (printed_escaped b parts.0) (printed_printed word parts.1)
+printing_printed : (word : List ℕ) → list_all is_printing word ≡ true → list_all is_printing (flat_map escaped word) ≡ true
+printing_printed [] e = refl
+printing_printed (b ∷ word) e =
+    let parts = and_parts (is_printing b) (list_all is_printing word) e in
+    list_all-append is_printing (escaped b) (flat_map escaped word)
+    ∙ and_from (list_all is_printing (escaped b)) (list_all is_printing (flat_map escaped word)) (printing_escaped b parts.0) (printing_printed word parts.1)
 
 -- a wildcard name is an angle word
 last_of : (bytes : List ℕ) → 0 < length bytes → bytes ≡ take (length bytes - 1) bytes ++ get_or bytes (length bytes - 1) 0 ∷ []
@@ -93,7 +93,7 @@ wildcard_stands word rest able wild =
       record {
         shaped = (omega (arith, ap length whole, size, over), bytes.1);
         short = omega (arith, ap length whole, able.short);
-        printed = tt;
+        printing = tt;
       },
     )
 
@@ -114,7 +114,7 @@ printed_as word rest able stops =
           stands = record {
             shaped = inside_printed word;
             short = subst (λ bs. length bs ≤ 255) (sym (read_printed word)) able.short;
-            printed = printed_printed word able.printed;
+            printing = printing_printed word able.printing;
           };
           kind = ap (λ t. Some (cond t Bare Quoted)) (sym quoted);
           means = read_printed word;
@@ -130,7 +130,7 @@ printed_as word rest able stops =
       BareWord word,
       record {
         spells = text;
-        stands = record { shaped = (some, run, stops); short = able.short; printed = tt };
+        stands = record { shaped = (some, run, stops); short = able.short; printing = tt };
         kind = kind;
         means = refl;
       },
@@ -215,16 +215,16 @@ pub words_are : (text rest : List ℕ) (lexemes : List Lexeme) → BeginsWith le
 words_are text rest lexemes begins = words_behind [] text rest lexemes begins
 
 -- a text that is one lexeme is one token
-one_token : (text : List ℕ) (kind : TokenKind) (lexeme : Lexeme) → spelled lexeme ≡ text → Stands lexeme [] → kind_of lexeme ≡ Some kind → IsTokens text (record { kind = kind; start = 0; past = length text } ∷ [])
+one_token : (text : List ℕ) (kind : TokenKind) (lexeme : Lexeme) → spelled lexeme ≡ text → Stands lexeme [] → kind_of lexeme ≡ Some kind → IsTokens text (record { kind = kind; start = 0; end = length text } ∷ [])
 one_token text kind lexeme spells stands is =
     let size : 0 + length (spelled lexeme) ≡ length text = omega (arith, ap length spells) in
     record {
       lexemes = lexeme ∷ [];
       whole = ([], sym (append-nil (spelled lexeme) ∙ spells), stands, refl);
-      listed = ap (λ n. record { kind = kind; start = 0; past = n } ∷ []) (sym size) ∙ ap (λ k. token_at k 0 (length (spelled lexeme)) ++ []) (sym is);
+      listed = ap (λ n. record { kind = kind; start = 0; end = n } ∷ []) (sym size) ∙ ap (λ k. token_at k 0 (length (spelled lexeme)) ++ []) (sym is);
     }
 
-one_word : (text : List ℕ) (kind : TokenKind) (lexeme : Lexeme) → spelled lexeme ≡ text → Stands lexeme [] → kind_of lexeme ≡ Some kind → word_in text (record { kind = kind; start = 0; past = length text }) ≡ word_of lexeme
+one_word : (text : List ℕ) (kind : TokenKind) (lexeme : Lexeme) → spelled lexeme ≡ text → Stands lexeme [] → kind_of lexeme ≡ Some kind → word_in text (record { kind = kind; start = 0; end = length text }) ≡ word_of lexeme
 one_word text kind lexeme spells stands is =
     ap (word_spelled kind) (take_all (length text - 0) text (omega arith) ∙ sym spells) ∙ spelled_word lexeme [] kind stands.shaped is
 

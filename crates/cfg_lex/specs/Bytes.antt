@@ -18,8 +18,8 @@ abbrev pub is_angle_byte : ℕ → Bool
 is_angle_byte b = is_bare b || (b == 91 || b == 93)
 
 -- a byte that a quoted word may have: 0x20 to 0x7E
-abbrev pub is_printed : ℕ → Bool
-is_printed b = nat_le 32 b && nat_le b 126
+abbrev pub is_printing : ℕ → Bool
+is_printing b = nat_le 32 b && nat_le b 126
 
 -- a byte of a line's rest
 abbrev pub is_in_line : ℕ → Bool

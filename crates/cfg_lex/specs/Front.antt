@@ -6,7 +6,7 @@ use Rattle.cfg_lex.specs.declared.token.TokenKind.TheVariants as kind
 use Rattle.cfg_lex.specs.declared.fault.Cause.TheVariants.{BadByte, OpenComment, OpenQuote, LongWord}
 use Rattle.cfg_lex.specs.declared.front.Front.{Front}
 use Rattle.cfg_lex.specs.declared.front.Front.TheVariants.{Gap, Token, Fault}
-use Rattle.cfg_lex.specs.Bytes.{is_space, is_in_line, is_in_run, is_angle_byte, is_printed, sign_of, begins_with, unescaped}
+use Rattle.cfg_lex.specs.Bytes.{is_space, is_in_line, is_in_run, is_angle_byte, is_printing, sign_of, begins_with, unescaped}
 
 -- a place that is one byte further on
 abbrev pub later : Option ℕ → Option ℕ
@@ -44,15 +44,15 @@ angle_front count rest =
 
 -- what stands in quotes, of which so many bytes at the front may stand there
 abbrev pub quoted_front : List ℕ → ℕ → Front
-quoted_front inside printed =
+quoted_front inside printing =
     if nat_lt 255 (length (unescaped false inside))
     then Fault LongWord 0
-    else (if printed == length inside then Token kind.Quoted (length inside + 2) else Fault BadByte (1 + printed))
+    else (if printing == length inside then Token kind.Quoted (length inside + 2) else Fault BadByte (1 + printing))
 
 -- what stands behind a quote, by where the next one is
 abbrev pub quote_front : List ℕ → Option ℕ → Front
 quote_front rest None = Fault OpenQuote 0
-quote_front rest (Some count) = quoted_front (take count rest) (prefix_len is_printed (take count rest))
+quote_front rest (Some count) = quoted_front (take count rest) (prefix_len is_printing (take count rest))
 
 -- what stands behind `/*`, by where the next `*/` is
 abbrev pub comment_front : Option ℕ → Front

@@ -4,7 +4,7 @@ use Rattle.std.specs.Prelude.{◌≡◌, ◌<◌, ◌≤◌, ℕ, List, [], ◌�
 use Rattle.std.specs.List.{list_all}
 use Rattle.cfg_lex.specs.declared.token.TokenKind.{TokenKind}
 use Rattle.cfg_lex.specs.declared.token.TokenKind.TheVariants.{Bare, Quoted}
-use Rattle.cfg_lex.specs.Bytes.{is_space, is_in_line, is_run, goes_on, is_angle_byte, is_printed, sign_of, closes, is_inside, unescaped}
+use Rattle.cfg_lex.specs.Bytes.{is_space, is_in_line, is_run, goes_on, is_angle_byte, is_printing, sign_of, closes, is_inside, unescaped}
 
 -- a part of a text: white space, a comment, a sign or a word
 pub data Lexeme : Type 0 where
@@ -63,20 +63,20 @@ IsShaped (AngleWord bytes) rest = (0 < length bytes) × (list_all is_angle_byte 
 IsShaped (QuotedWord bytes) rest = is_inside false bytes ≡ true
 
 -- quotes hold printing bytes alone
-abbrev pub IsPrinted : Lexeme → Type 0
-IsPrinted (Space byte) = Unit {0}
-IsPrinted (LineComment bytes) = Unit {0}
-IsPrinted (Comment bytes) = Unit {0}
-IsPrinted (Sign byte kind) = Unit {0}
-IsPrinted (BareWord bytes) = Unit {0}
-IsPrinted (AngleWord bytes) = Unit {0}
-IsPrinted (QuotedWord bytes) = list_all is_printed bytes ≡ true
+abbrev pub IsPrinting : Lexeme → Type 0
+IsPrinting (Space byte) = Unit {0}
+IsPrinting (LineComment bytes) = Unit {0}
+IsPrinting (Comment bytes) = Unit {0}
+IsPrinting (Sign byte kind) = Unit {0}
+IsPrinting (BareWord bytes) = Unit {0}
+IsPrinting (AngleWord bytes) = Unit {0}
+IsPrinting (QuotedWord bytes) = list_all is_printing bytes ≡ true
 
 -- the lexeme stands in front of what follows, and is no fault: a word has at most 255 bytes
 pub record Stands (lexeme : Lexeme) (rest : List ℕ) : Type 0 where
   pub shaped : IsShaped lexeme rest
   pub short : length (word_of lexeme) ≤ 255
-  pub printed : IsPrinted lexeme
+  pub printing : IsPrinting lexeme
 
 -- a text begins with these lexemes, and the rest is left
 abbrev pub BeginsWith : List Lexeme → List ℕ → List ℕ → Type 0

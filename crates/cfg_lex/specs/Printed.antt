@@ -5,7 +5,7 @@ use Rattle.std.specs.Cmp.Lexicographic.{pointwise}
 use Rattle.cfg_lex.specs.declared.token.TokenKind.{TokenKind}
 use Rattle.cfg_lex.specs.declared.token.TokenKind.TheVariants.{Bare, Quoted}
 use Rattle.cfg_lex.specs.declared.token.Token.{Token}
-use Rattle.cfg_lex.specs.Bytes.{is_run, is_angle_byte, is_printed}
+use Rattle.cfg_lex.specs.Bytes.{is_run, is_angle_byte, is_printing}
 use Rattle.cfg_lex.specs.Lexeme.{Lexeme, spelled, kind_of, word_of, Stands}
 use Rattle.cfg_lex.specs.Tokens.{between}
 
@@ -40,12 +40,12 @@ abbrev pub printed_kind : List ℕ → TokenKind
 printed_kind word = if is_plain word then Bare else Quoted
 
 abbrev pub printed_token : List ℕ → Token
-printed_token word = record { kind = printed_kind word; start = 0; past = length (printed_word word) }
+printed_token word = record { kind = printed_kind word; start = 0; end = length (printed_word word) }
 
 -- a word that can be printed so that it is read again: at most 255 bytes, from 0x20 to 0x7E
 pub record IsPrintable (word : List ℕ) : Type 0 where
   pub short : length word ≤ 255
-  pub printed : list_all is_printed word ≡ true
+  pub printing : list_all is_printing word ≡ true
 
 -- what is printed of a word is one lexeme in front of what follows, and that word
 pub record IsPrintedAs (word rest : List ℕ) (lexeme : Lexeme) : Type 0 where

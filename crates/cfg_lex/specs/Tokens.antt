@@ -9,13 +9,13 @@ use Rattle.cfg_lex.specs.declared.fault.Cause.{Cause}
 use Rattle.cfg_lex.specs.declared.fault.Cause.TheVariants as cause
 use Rattle.cfg_lex.specs.declared.fault.LexFault.{LexFault}
 use Rattle.cfg_lex.specs.declared.fault.LexFault.TheVariants.{BadByte, OpenComment, OpenQuote, LongWord}
-use Rattle.cfg_lex.specs.Bytes.{begins_with, closes, is_inside, is_printed, unescaped}
+use Rattle.cfg_lex.specs.Bytes.{begins_with, closes, is_inside, is_printing, unescaped}
 use Rattle.cfg_lex.specs.Lexeme.{Lexeme, QuotedWord, spelled, kind_of, word_of, IsShaped, BeginsWith}
 
 -- the token of a kind, of that many bytes from a place on; none where there is no kind
 abbrev pub token_at : Option TokenKind → ℕ → ℕ → List Token
 token_at None place count = []
-token_at (Some kind) place count = record { kind = kind; start = place; past = place + count } ∷ []
+token_at (Some kind) place count = record { kind = kind; start = place; end = place + count } ∷ []
 
 -- the tokens of lexemes that stand from a place on
 abbrev pub tokens_at : ℕ → List Lexeme → List Token
@@ -31,8 +31,8 @@ pub record IsTokens (text : List ℕ) (tokens : List Token) : Type 0 where
 
 -- a token stands in its text
 pub record IsPlaced (text : List ℕ) (token : Token) : Type 0 where
-  pub some : token.start < token.past
-  pub within : token.past ≤ length text
+  pub some : token.start < token.end
+  pub within : token.end ≤ length text
 
 -- the bytes that stand between the first and the last
 abbrev pub between : List ℕ → List ℕ
@@ -50,7 +50,7 @@ word_spelled Quoted bytes = unescaped false (between bytes)
 
 -- the bytes of a token in its text
 abbrev pub bytes_in : List ℕ → Token → List ℕ
-bytes_in text token = take (token.past - token.start) (drop token.start text)
+bytes_in text token = take (token.end - token.start) (drop token.start text)
 
 -- the word of a token in its text
 abbrev pub word_in : List ℕ → Token → List ℕ
@@ -80,7 +80,7 @@ pub record IsStray (text : List ℕ) : Type 0 where
   pub no_lexeme : (lexeme : Lexeme) (behind : List ℕ) → text ≡ spelled lexeme ++ behind → IsShaped lexeme behind → ⊥
 
 -- the first byte of a quoted word that may not stand in one, behind its quote and the bytes before it; the word itself isn't too long
-pub record IsUnprinted (text : List ℕ) (offset : ℕ) : Type 0 where
+pub record IsNotPrinting (text : List ℕ) (offset : ℕ) : Type 0 where
   pub front : List ℕ
   pub byte : ℕ
   pub back : List ℕ
@@ -88,8 +88,8 @@ pub record IsUnprinted (text : List ℕ) (offset : ℕ) : Type 0 where
   pub joined : text ≡ spelled (QuotedWord (front ++ byte ∷ back)) ++ behind
   pub inside : is_inside false (front ++ byte ∷ back) ≡ true
   pub short : length (unescaped false (front ++ byte ∷ back)) ≤ 255
-  pub before : list_all is_printed front ≡ true
-  pub bad : is_printed byte ≡ false
+  pub before : list_all is_printing front ≡ true
+  pub bad : is_printing byte ≡ false
   pub place : offset ≡ 1 + length front
 
 -- a comment without its end
@@ -114,7 +114,7 @@ pub record IsLong (text : List ℕ) : Type 0 where
 
 -- what is wrong with a text's front, and how many bytes from its first one
 abbrev pub FaultAt : List ℕ → Cause → ℕ → Type 0
-FaultAt text cause.BadByte offset = (IsStray text × (offset ≡ 0)) ⊎ IsUnprinted text offset
+FaultAt text cause.BadByte offset = (IsStray text × (offset ≡ 0)) ⊎ IsNotPrinting text offset
 FaultAt text cause.OpenComment offset = IsOpenComment text × (offset ≡ 0)
 FaultAt text cause.OpenQuote offset = IsOpenQuote text × (offset ≡ 0)
 FaultAt text cause.LongWord offset = IsLong text × (offset ≡ 0)

@@ -2,7 +2,7 @@
 
 ghost use Rattle.std.specs.Prelude.{◌≡◌, ◌==◌, ◌&&◌, ◌≤◌, ◌+◌, false, length, IfSome};
 ghost use Rattle.std.specs.List.{prefix_len};
-ghost use Rattle.cfg_lex.specs.Bytes.{begins_with, is_angle_byte, is_bare, is_in_line, is_in_run, is_printed, is_space, sign_of, unescaped};
+ghost use Rattle.cfg_lex.specs.Bytes.{begins_with, is_angle_byte, is_bare, is_in_line, is_in_run, is_printing, is_space, sign_of, unescaped};
 ghost use Rattle.cfg_lex.specs.Front.{bare_len, close_of, quote_of};
 
 use crate::token::TokenKind;
@@ -29,8 +29,8 @@ pub(crate) fn is_angle_byte(byte: u8) -> bool
     is_bare(byte) || matches!(byte, b'[' | b']')
 }
 
-fn is_printed(byte: u8) -> bool
-    ensures { result ≡ is_printed byte }
+fn is_printing(byte: u8) -> bool
+    ensures { result ≡ is_printing byte }
 {
     matches!(byte, 0x20..=0x7E)
 }
@@ -140,11 +140,11 @@ pub(crate) fn angle_len(text: &[u8]) -> usize
 }
 
 /// How many printing bytes the text begins with.
-pub(crate) fn printed_len(text: &[u8]) -> usize
-    ensures length { result ≡ prefix_len is_printed text.now }
+pub(crate) fn printing_len(text: &[u8]) -> usize
+    ensures length { result ≡ prefix_len is_printing text.now }
     ensures within { result ≤ length text.now }
 {
-    text.iter().take_while(|byte| is_printed(**byte)).count()
+    text.iter().take_while(|byte| is_printing(**byte)).count()
 }
 
 /// How many bytes the word has that stands in quotes so.

@@ -2,12 +2,12 @@
 
 ghost use Rattle.std.specs.Prelude.{◌≡◌, ◌<◌, false, length};
 ghost use Rattle.std.specs.List.{prefix_len};
-ghost use Rattle.cfg_lex.specs.Bytes.{is_angle_byte, is_printed};
+ghost use Rattle.cfg_lex.specs.Bytes.{is_angle_byte, is_printing};
 ghost use Rattle.cfg_lex.specs.Front.{angle_front, bare_front, close_of, comment_front, front_of, quote_front, quote_of, quoted_front, word_front};
 
 use crate::bytes::{
-    angle_len, bare_len, begins_with, close_of, is_space, line_len, printed_len, quote_of, sign_of,
-    unescaped_len,
+    angle_len, bare_len, begins_with, close_of, is_space, line_len, printing_len, quote_of,
+    sign_of, unescaped_len,
 };
 use crate::fault::Cause;
 use crate::token::TokenKind;
@@ -58,16 +58,16 @@ fn angle_front(rest: &[u8]) -> Front
 
 /// What stands in quotes.
 fn quoted_front(inside: &[u8]) -> Front
-    ensures { result ≡ quoted_front inside.now (prefix_len is_printed inside.now) }
+    ensures { result ≡ quoted_front inside.now (prefix_len is_printing inside.now) }
 {
     if unescaped_len(inside) > MAX_WORD {
         return Front::Fault(Cause::LongWord, 0);
     }
-    let printed = printed_len(inside);
-    if printed == inside.len() {
+    let printing = printing_len(inside);
+    if printing == inside.len() {
         Front::Token(TokenKind::Quoted, inside.len() + 2)
     } else {
-        Front::Fault(Cause::BadByte, 1 + printed)
+        Front::Fault(Cause::BadByte, 1 + printing)
     }
 }
 

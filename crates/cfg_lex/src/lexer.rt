@@ -22,16 +22,16 @@ pub fn tokens(alloc: Global, text: &[u8]) -> Result<Tokens, LexFault>
         match front_of(&text[place..]) {
             Front::Gap(count) => place += count,
             Front::Token(kind, count) => {
-                let past = place + count;
+                let end = place + count;
                 tokens.push(Token {
                     kind,
                     start: place,
-                    past,
+                    end,
                 })?;
-                place = past;
+                place = end;
             }
             Front::Fault(cause, offset) => return Err(fault_at(cause, place + offset)),
         }
     }
-    Ok(Tokens::from(tokens))
+    Ok(Tokens::of(tokens))
 }

@@ -14,13 +14,13 @@ pub enum TokenKind {
     Quoted,
 }
 
-/// What a token is, and where it stands in its text: its bytes are those from `start` up to `past`, its
+/// What a token is, and where it stands in its text: its bytes are those from `start` up to `end`, its
 /// quotes among them.
 #[derive(Clone, Copy, Debug, PartialEq, Eq)]
 pub struct Token {
     pub kind: TokenKind,
     pub start: usize,
-    pub past: usize,
+    pub end: usize,
 }
 
 /// The tokens of a text, in order.
@@ -39,18 +39,16 @@ impl Model for Tokens {
 }
 
 impl Tokens {
+    pub(crate) fn of(tokens: Vec<Token>) -> Tokens
+        ensures { result ≡ tokens.items }
+    {
+        Tokens { tokens }
+    }
+
     /// The tokens, in order.
     pub fn as_slice(&self) -> &[Token]
         ensures { result.now ≡ self.now }
     {
         &self.tokens
-    }
-}
-
-impl From<Vec<Token>> for Tokens {
-    ghost from_gives = { λ source tokens. tokens ≡ source.items };
-
-    fn from(tokens: Vec<Token>) -> Tokens {
-        Tokens { tokens }
     }
 }

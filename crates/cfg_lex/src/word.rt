@@ -79,7 +79,7 @@ impl Token {
         // Memory is asked for only where there is something to read.
         ensures memory { OnErr result (HasBackslash text.now self) }
     {
-        let bytes = &text[self.start..self.past];
+        let bytes = &text[self.start..self.end];
         match self.kind {
             TokenKind::Bare => Ok(CowSlice::Borrowed(bytes)),
             TokenKind::Quoted => quoted_word(alloc, between(bytes)),

@@ -21,8 +21,8 @@ loop-place-preserved-in-Gap c =
     subst (IsRead c.args.text.now (c.loop-place.place + c.in-Gap.count)) (append-nil c.loop-place.tokens.items) on.further
 
 -- a token is taken
-pub overflow_add-past : goal.overflow_add-past
-overflow_add-past c =
+pub overflow_add-end : goal.overflow_add-end
+overflow_add-end c =
     let on = moves c.args.text.now c.loop-place.place c.loop-place.tokens.items (Some c.in-Token.kind) c.in-Token.count c.loop-place.invariant c.loop-place-test.true c.in-Token.ensures in
     omega arith
 
