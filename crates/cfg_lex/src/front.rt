@@ -11,6 +11,7 @@ use crate::bytes::{
 };
 use crate::fault::Cause;
 use crate::token::TokenKind;
+use cfg_base::MAX_BYTES;
 
 /// What stands at the front of a text, with how many bytes it takes: white space or a comment, a token, or a
 /// fault that many bytes on.
@@ -21,13 +22,10 @@ pub(crate) enum Front {
     Fault(Cause, usize),
 }
 
-/// The most bytes that a word has.
-const MAX_WORD: usize = 255;
-
 fn word_front(kind: TokenKind, size: usize, count: usize) -> Front
     ensures { result ≡ word_front kind size count }
 {
-    if size > MAX_WORD {
+    if size > MAX_BYTES {
         Front::Fault(Cause::LongWord, 0)
     } else {
         Front::Token(kind, count)
@@ -60,7 +58,7 @@ fn angle_front(rest: &[u8]) -> Front
 fn quoted_front(inside: &[u8]) -> Front
     ensures { result ≡ quoted_front inside.now (prefix_len is_printing inside.now) }
 {
-    if unescaped_len(inside) > MAX_WORD {
+    if unescaped_len(inside) > MAX_BYTES {
         return Front::Fault(Cause::LongWord, 0);
     }
     let printing = printing_len(inside);
