@@ -1,0 +1,150 @@
+//! Changes of the tree that a script keeps, and looks at it.
+
+ghost use Rattle.cfg_tree.specs.Resolve.{IsLevelPath};
+
+use crate::answers::{put_bytes, put_path, put_words, say, say_number, say_path};
+use crate::fault::Fault;
+use crate::level::resolved;
+use crate::words::{Arg, words_of};
+use cfg_base::{Op, Path, Value, Words};
+use cfg_tree::Tree;
+use edit_ops::{EditFault, apply};
+use std::alloc::Global;
+
+/// The change of that name.
+pub(crate) fn op_of(call: &str, words: Words) -> Option<Op> {
+    match call {
+        "set" => Some(Op::Set(words)),
+        "delete" => Some(Op::Delete(words)),
+        "activate" => Some(Op::Activate(words)),
+        "deactivate" => Some(Op::Deactivate(words)),
+        "protect" => Some(Op::Protect(words)),
+        "unprotect" => Some(Op::Unprotect(words)),
+        _ => None,
+    }
+}
+
+fn say_fault(out: &mut String, fault: &EditFault) -> Result<(), Fault> {
+    match fault {
+        EditFault::Unknown(path) => say_path(out, "unknown", path),
+        EditFault::BadValue(path) => say_path(out, "bad value", path),
+        EditFault::Incomplete(path) => say_path(out, "incomplete", path),
+        EditFault::Extra(path) => say_path(out, "extra", path),
+        EditFault::NotThere(path) => say_path(out, "not there", path),
+        EditFault::Protected(path) => say_path(out, "protected", path),
+        EditFault::TooMany => say(out, "too many"),
+        EditFault::NoMemory => Err(Fault::NoMemory),
+    }
+}
+
+/// set WORDS.., delete WORDS.. and so on: one change of the tree, whose words are read from a level.
+pub(crate) fn change(
+    alloc: Global,
+    tree: &mut Tree,
+    level: &Path,
+    op: &Op,
+    out: &mut String,
+) -> Result<(), Fault>
+    requires { IsLevelPath level.now }
+{
+    match apply(alloc, tree, level, op) {
+        Ok(true) => say(out, "changed"),
+        Ok(false) => say(out, "unchanged"),
+        Err(fault) => say_fault(out, &fault),
+    }
+}
+
+/// A statement: its marks, its path, and its words behind `--`.
+fn say_statement(out: &mut String, path: &Path, value: &Value) -> Result<(), Fault> {
+    out.push_str("=")?;
+    if value.inactive {
+        out.push_str(" inactive:")?;
+    }
+    if value.protected {
+        out.push_str(" protect:")?;
+    }
+    put_path(out, path)?;
+    if !value.words.as_slice().is_empty() {
+        out.push_str(" --")?;
+        put_words(out, value.words.as_slice())?;
+    }
+    out.push('\n')?;
+    Ok(())
+}
+
+/// tree: how many statements stand, and each, in the order of their paths
+fn ask_tree(alloc: Global, tree: &Tree, out: &mut String) -> Result<(), Fault> {
+    say_number(out, u64::from(tree.count()))?;
+    let mut path = Path::top(alloc);
+    for _ in 0..tree.count() {
+        match tree.next(&path) {
+            Some((next, value)) => {
+                say_statement(out, next, value)?;
+                path = next.clone()?;
+            }
+            None => return Ok(()),
+        }
+    }
+    Ok(())
+}
+
+/// The path that words name from the top, whatever stands there.
+fn path_named(alloc: Global, args: &[Arg]) -> Result<Path, Fault> {
+    if args.is_empty() {
+        return Ok(Path::top(alloc));
+    }
+    let words = words_of(alloc, args)?;
+    match resolved(alloc, &words) {
+        Ok(target) => Ok(target.path),
+        Err(_) => Err(Fault::Script("the words name a statement")),
+    }
+}
+
+/// value WORDS..
+fn ask_value(alloc: Global, tree: &Tree, args: &[Arg], out: &mut String) -> Result<(), Fault> {
+    let path = path_named(alloc, args)?;
+    match tree.at(&path) {
+        Some(value) => say_statement(out, &path, value),
+        None => say(out, "none"),
+    }
+}
+
+/// children WORDS..
+fn ask_children(alloc: Global, tree: &Tree, args: &[Arg], out: &mut String) -> Result<(), Fault> {
+    let children = tree.children(&path_named(alloc, args)?)?;
+    say_number(out, children.as_slice().len() as u64)?;
+    for step in children.as_slice() {
+        out.push_str("=")?;
+        put_bytes(out, step.head.as_bytes())?;
+        put_bytes(out, step.name.as_bytes())?;
+        out.push('\n')?;
+    }
+    Ok(())
+}
+
+/// next WORDS..
+fn ask_next(alloc: Global, tree: &Tree, args: &[Arg], out: &mut String) -> Result<(), Fault> {
+    match tree.next(&path_named(alloc, args)?) {
+        Some((path, value)) => say_statement(out, path, value),
+        None => say(out, "none"),
+    }
+}
+
+/// Answers a look at the tree, and tells whether the call is one.
+pub(crate) fn look(
+    alloc: Global,
+    tree: &Tree,
+    call: &str,
+    args: &[Arg],
+    out: &mut String,
+) -> Result<bool, Fault> {
+    match call {
+        "tree" => ask_tree(alloc, tree, out)?,
+        "count" => say_number(out, u64::from(tree.count()))?,
+        "value" => ask_value(alloc, tree, args, out)?,
+        "children" => ask_children(alloc, tree, args, out)?,
+        "next" => ask_next(alloc, tree, args, out)?,
+        _ => return Ok(false),
+    }
+    Ok(true)
+}

@@ -1,0 +1,40 @@
+//! Calls that read a line of a session. What stands behind the mode and a blank is the line, blanks and all.
+
+use crate::answers::{say, say_flag};
+use crate::commands::say_command;
+use crate::fault::Fault;
+use crate::words::{Arg, bytes_of, first_and_rest};
+use shell_words::{ReadFault, is_plain, read_line};
+use std::alloc::Global;
+
+/// Whether the mode is configuration mode.
+pub(crate) fn is_configuration(mode: &str) -> Result<bool, Fault> {
+    match mode {
+        "configuration" => Ok(true),
+        "operational" => Ok(false),
+        _ => Err(Fault::Script("a mode is operational or configuration")),
+    }
+}
+
+/// read_line operational|configuration LINE
+pub(crate) fn ask_line(alloc: Global, text: &str, out: &mut String) -> Result<(), Fault> {
+    let (mode, line) = first_and_rest(text);
+    let line = bytes_of(alloc, line)?;
+    match read_line(alloc, is_configuration(mode)?, &line) {
+        Ok(None) => say(out, "nothing"),
+        Ok(Some(command)) => say_command(out, &command),
+        Err(ReadFault::Syntax(place)) => {
+            writeln!(out, "= syntax error at byte {place}")?;
+            Ok(())
+        }
+        Err(ReadFault::NoMemory) => Err(Fault::NoMemory),
+    }
+}
+
+/// is_plain BYTES
+pub(crate) fn ask_plain(args: &[Arg], out: &mut String) -> Result<(), Fault> {
+    match args {
+        [bytes] => say_flag(out, is_plain(bytes)),
+        _ => Err(Fault::Script("is_plain BYTES")),
+    }
+}

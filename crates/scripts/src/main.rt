@@ -1,0 +1,65 @@
+//! Answers scripts of worked cases, and compares what comes with what each script expects.
+//!
+//! Guarantees: it is safe and ends, whatever a script has. docs/SCRIPTS.md has the form of a script.
+//! Leaves to others: what the calls answer, each in its crate.
+#![tactic(auto)]
+
+use checking::{Report, check};
+use std::alloc::{AllocError, Global};
+use std::process::ExitCode;
+use std::rt::Env;
+use std::{env, fs, io};
+
+mod answers;
+mod base_calls;
+mod changes;
+mod checking;
+mod commands;
+mod expanding;
+mod fault;
+mod input_calls;
+mod kinds;
+mod level;
+mod line_calls;
+mod profile_calls;
+mod puts;
+mod record_calls;
+mod script;
+mod stage;
+mod steps;
+mod value_calls;
+mod words;
+
+/// The report on a file that can't be read.
+fn unread(alloc: Global, name: &str) -> Result<Report, AllocError> {
+    let mut report = Report::new(alloc, name)?;
+    report.wrong("the file can't be read")?;
+    Ok(report)
+}
+
+fn check_file(rt: &HostRuntime, name: &str) -> Result<Report, AllocError> {
+    let alloc = rt.alloc();
+    match fs::read(rt, name) {
+        Ok(bytes) => check(alloc, name, &bytes),
+        Err(_) => unread(alloc, name),
+    }
+}
+
+/// Checks the files that the command line names, prints the reports, and tells whether all is as expected.
+fn check_all(rt: &HostRuntime) -> io::Result<bool> {
+    let mut right = true;
+    for name in env::args(rt)?.skip(1) {
+        let report = check_file(rt, name.as_str())?;
+        report.print(rt)?;
+        right = right && report.is_right();
+    }
+    Ok(right)
+}
+
+fn main(rt: HostRuntime) -> ExitCode {
+    match check_all(&rt) {
+        Ok(true) => ExitCode::from(0),
+        Ok(false) => ExitCode::from(1),
+        Err(_) => ExitCode::from(9),
+    }
+}

@@ -1,0 +1,171 @@
+//! What a script keeps between its lines, and what a line answers.
+
+use crate::answers::say_flag;
+use crate::changes::{change, look, op_of};
+use crate::fault::Fault;
+use crate::level::{ask_resolve, level_of};
+use crate::line_calls::{ask_line, ask_plain};
+use crate::stage::Stage;
+use crate::steps::{Machine, ask_step};
+use crate::words::{Arg, args_of, bytes_of, first_and_rest, number, words_of};
+use crate::{base_calls, input_calls, profile_calls, puts, record_calls, value_calls};
+use cfg_tree::Tree;
+use std::alloc::{AllocError, Global};
+use std::mem;
+
+#[derive(Drop)]
+pub(crate) struct Script {
+    alloc: Global,
+    tree: Tree,
+    /// Another tree, for a while.
+    other: Tree,
+    /// The words of the level from which changes are read.
+    level: Vec<Arg>,
+    stage: Stage,
+    machine: Machine,
+}
+
+/// A line with a number in place of each `%`.
+fn with_number(alloc: Global, line: &str, number: u64) -> Result<String, Fault> {
+    let mut text = String::new(alloc);
+    for (place, piece) in line.split('%').enumerate() {
+        if place > 0 {
+            write!(text, "{number}")?;
+        }
+        text.push_str(piece)?;
+    }
+    Ok(text)
+}
+
+/// An answer that came so often, one time behind the other.
+fn add_times(out: &mut String, answer: &str, times: u64) -> Result<(), Fault> {
+    if !answer.is_empty() {
+        writeln!(out, "= {times} times")?;
+        out.push_str(answer)?;
+    }
+    Ok(())
+}
+
+impl Script {
+    pub(crate) fn new(alloc: Global) -> Result<Script, AllocError> {
+        Ok(Script {
+            alloc,
+            tree: Tree::empty(alloc),
+            other: Tree::empty(alloc),
+            level: Vec::new(alloc),
+            stage: Stage::new(alloc),
+            machine: Machine::new(alloc).map_err(|_| AllocError)?,
+        })
+    }
+
+    /// Answers a call that has all that it is asked about in its arguments.
+    fn call(&mut self, name: &str, args: &[Arg], out: &mut String) -> Result<bool, Fault> {
+        match name {
+            "resolve" => ask_resolve(self.alloc, args, out)?,
+            "is_plain" => ask_plain(args, out)?,
+            _ => {
+                return Ok(
+                    base_calls::ask(self.alloc, name, args, out)?
+                        || value_calls::ask(self.alloc, name, args, out)?
+                        || profile_calls::ask(self.alloc, name, args, out)?
+                        || record_calls::ask(self.alloc, name, args, out)?,
+                );
+            }
+        }
+        Ok(true)
+    }
+
+    /// Answers a call of what the script keeps.
+    fn call_kept(&mut self, name: &str, args: &[Arg], out: &mut String) -> Result<bool, Fault> {
+        if input_calls::is_call(name) {
+            let stage = mem::replace(&mut self.stage, Stage::new(self.alloc));
+            input_calls::ask(self.alloc, stage, name, args, out)?;
+            return Ok(true);
+        }
+        if let Some(op) = op_of(name, words_of(self.alloc, args)?) {
+            let level = level_of(self.alloc, &self.level)?;
+            change(self.alloc, &mut self.tree, &level, &op, out)?;
+            return Ok(true);
+        }
+        Ok(
+            puts::ask(self.alloc, &mut self.tree, name, args, out)?
+                || look(self.alloc, &self.tree, name, args, out)?
+                || self.machine.look(name, args, out)?,
+        )
+    }
+
+    fn swap_trees(&mut self) {
+        let tree = mem::replace(&mut self.tree, Tree::empty(self.alloc));
+        self.tree = mem::replace(&mut self.other, tree);
+    }
+
+    /// Takes a line that answers nothing, or compares the two trees, and tells whether it is one.
+    fn keep(&mut self, name: &str, args: &[Arg], out: &mut String) -> Result<bool, Fault> {
+        match (name, args) {
+            ("clear", []) => self.tree = Tree::empty(self.alloc),
+            ("copy", []) => self.other = self.tree.copy()?,
+            ("swap", []) => self.swap_trees(),
+            ("same", []) => say_flag(out, self.tree.same(&self.other))?,
+            ("machine", []) => self.machine = Machine::new(self.alloc)?,
+            _ => return self.stage.take(self.alloc, name, args),
+        }
+        Ok(true)
+    }
+
+    /// A line that is cut into words.
+    fn answer_words(&mut self, name: &str, args: Vec<Arg>, out: &mut String) -> Result<(), Fault> {
+        if name == "level" {
+            self.level = args;
+            return Ok(());
+        }
+        if self.keep(name, &args, out)? {
+            return Ok(());
+        }
+        if self.call(name, &args, out)? || self.call_kept(name, &args, out)? {
+            return Ok(());
+        }
+        Err(Fault::Script("no such call, or not with as many words"))
+    }
+
+    /// What a line answers that is no `each`.
+    fn answer_once(&mut self, line: &str) -> Result<String, Fault> {
+        let mut out = String::new(self.alloc);
+        let (name, rest) = first_and_rest(line);
+        match name {
+            "line" => self.stage.add_line(bytes_of(self.alloc, rest)?)?,
+            "piece" => self.stage.add_piece(bytes_of(self.alloc, rest)?)?,
+            "read_line" => ask_line(self.alloc, rest, &mut out)?,
+            "step" => ask_step(self.alloc, &mut self.machine, rest, &mut out)?,
+            _ => self.answer_words(name, args_of(self.alloc, rest)?, &mut out)?,
+        }
+        Ok(out)
+    }
+
+    /// each FROM TO LINE: the line for each number, and how often each answer came
+    fn each(&mut self, text: &str) -> Result<String, Fault> {
+        let (from, text) = first_and_rest(text);
+        let (to, line) = first_and_rest(text);
+        let mut out = String::new(self.alloc);
+        let mut last = String::new(self.alloc);
+        let mut times: u64 = 0;
+        for value in number(from.as_bytes())?..=number(to.as_bytes())? {
+            let answer = self.answer_once(with_number(self.alloc, line, value)?.as_str())?;
+            if answer != last {
+                add_times(&mut out, last.as_str(), times)?;
+                last = answer;
+                times = 0;
+            }
+            times = times.saturating_add(1);
+        }
+        add_times(&mut out, last.as_str(), times)?;
+        Ok(out)
+    }
+
+    /// What a line answers.
+    pub(crate) fn answer(&mut self, line: &str) -> Result<String, Fault> {
+        match first_and_rest(line) {
+            ("each", rest) => self.each(rest),
+            _ => self.answer_once(line),
+        }
+    }
+}
