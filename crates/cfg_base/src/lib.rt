@@ -39,6 +39,3 @@ pub use value::Value;
 pub use word::{MAX_BYTES, Word, WordFault};
 pub use word_list::{WordList, WordsLeft};
 pub use words::Words;
-
-#[cfg(test)]
-mod tests;

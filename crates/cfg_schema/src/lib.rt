@@ -23,6 +23,3 @@ pub use list::rows_below;
 pub use lookup::{child, fixed_name, head, row};
 pub use place::Place;
 pub use rows::{Row, RowId};
-
-#[cfg(test)]
-mod tests;

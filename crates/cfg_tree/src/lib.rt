@@ -36,8 +36,3 @@ pub use steps::Steps;
 pub use target::{Target, WordsFault};
 pub use tree::Tree;
 pub use walk::Walk;
-
-#[cfg(test)]
-mod change_tests;
-#[cfg(test)]
-mod tests;

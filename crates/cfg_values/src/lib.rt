@@ -22,6 +22,3 @@ pub use fault::ValueFault;
 pub use laws::spellings_stand_for_one_value;
 pub use pattern::is_pattern;
 pub use value::read_value;
-
-#[cfg(test)]
-mod tests;

@@ -31,6 +31,3 @@ pub use ledger::{Ledger, MAX_ENTRIES, limits_are_stated};
 pub use position::Position;
 pub use prepared::Prepared;
 pub use reply::{Refusal, Reply};
-
-#[cfg(test)]
-mod tests;

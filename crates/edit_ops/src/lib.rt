@@ -18,6 +18,3 @@ mod words;
 pub use applying::apply;
 pub use fault::EditFault;
 pub use laws::changes_have_one_answer;
-
-#[cfg(test)]
-mod tests;

@@ -15,6 +15,3 @@ mod verb;
 
 pub use plain::is_plain;
 pub use reader::{ReadFault, read_line};
-
-#[cfg(test)]
-mod tests;
