@@ -4,6 +4,8 @@ use crate::expanding::expanded;
 use crate::fault::Fault;
 use crate::script::Script;
 use std::alloc::{AllocError, Global};
+use std::sync::Wait;
+use std::thread::Threads;
 use std::{io, str};
 
 /// What came of a script.
@@ -65,7 +67,7 @@ impl Report {
     }
 
     /// Prints each difference and the counts.
-    pub(crate) fn print(&self, rt: &HostRuntime) -> io::Result<()> {
+    pub(crate) fn print(&self, rt: &impl Print) -> io::Result<()> {
         let text = self.text.as_str();
         let name = self.name.as_str();
         let questions = self.questions;
@@ -130,14 +132,15 @@ impl Question {
 }
 
 /// Asks what a line asks. What it answers is the question from now on.
-fn ask(
+fn ask<R: Threads + Wait + Sync>(
+    rt: &R,
     alloc: Global,
     script: &mut Script,
     report: &mut Report,
     line: &str,
 ) -> Result<Question, AllocError> {
     let mut question = Question::none(alloc);
-    match script.answer(line) {
+    match script.answer(rt, line) {
         Ok(answer) => question.answers = lines_of(alloc, answer.as_str())?,
         Err(Fault::NoMemory) => return Err(AllocError),
         Err(Fault::Script(why)) => {
@@ -151,7 +154,8 @@ fn ask(
     Ok(question)
 }
 
-fn take(
+fn take<R: Threads + Wait + Sync>(
+    rt: &R,
     alloc: Global,
     script: &mut Script,
     report: &mut Report,
@@ -165,7 +169,7 @@ fn take(
         Ok(text) if text.as_str().starts_with("=") => question.expect(report, text.as_str()),
         Ok(text) => {
             question.close(report)?;
-            *question = ask(alloc, script, report, text.as_str())?;
+            *question = ask(rt, alloc, script, report, text.as_str())?;
             Ok(())
         }
         Err(Fault::NoMemory) => Err(AllocError),
@@ -174,14 +178,19 @@ fn take(
 }
 
 /// Answers a script, and reports what isn't as the script expects.
-pub(crate) fn check(alloc: Global, name: &str, bytes: &[u8]) -> Result<Report, AllocError> {
+pub(crate) fn check<R: Threads + Wait + Sync>(
+    rt: &R,
+    alloc: Global,
+    name: &str,
+    bytes: &[u8],
+) -> Result<Report, AllocError> {
     let mut report = Report::new(alloc, name)?;
     let mut script = Script::new(alloc)?;
     let mut question = Question::none(alloc);
     for line in bytes.split(|byte| *byte == b'\n') {
         report.line = report.line.saturating_add(1);
         match str::from_utf8(line) {
-            Ok(text) => take(alloc, &mut script, &mut report, &mut question, text)?,
+            Ok(text) => take(rt, alloc, &mut script, &mut report, &mut question, text)?,
             Err(_) => report.wrong("the line is no UTF-8")?,
         }
     }

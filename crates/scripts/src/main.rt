@@ -7,7 +7,9 @@
 use checking::{Report, check};
 use std::alloc::{AllocError, Global};
 use std::process::ExitCode;
-use std::rt::Env;
+use std::rt::{Env, Files};
+use std::sync::Wait;
+use std::thread::Threads;
 use std::{env, fs, io};
 
 mod answers;
@@ -24,6 +26,7 @@ mod line_calls;
 mod profile_calls;
 mod puts;
 mod record_calls;
+mod runs;
 mod script;
 mod stage;
 mod steps;
@@ -37,16 +40,22 @@ fn unread(alloc: Global, name: &str) -> Result<Report, AllocError> {
     Ok(report)
 }
 
-fn check_file(rt: &HostRuntime, name: &str) -> Result<Report, AllocError> {
+fn check_file<R>(rt: &R, name: &str) -> Result<Report, AllocError>
+where
+    R: Files + AllocGlobal + Threads + Wait + Sync,
+{
     let alloc = rt.alloc();
     match fs::read(rt, name) {
-        Ok(bytes) => check(alloc, name, &bytes),
+        Ok(bytes) => check(rt, alloc, name, &bytes),
         Err(_) => unread(alloc, name),
     }
 }
 
 /// Checks the files that the command line names, prints the reports, and tells whether all is as expected.
-fn check_all(rt: &HostRuntime) -> io::Result<bool> {
+fn check_all<R>(rt: &R) -> io::Result<bool>
+where
+    R: Env + Files + Print + AllocGlobal + Threads + Wait + Sync,
+{
     let mut right = true;
     for name in env::args(rt)?.skip(1) {
         let report = check_file(rt, name.as_str())?;

@@ -5,6 +5,7 @@ use crate::changes::{change, look, op_of};
 use crate::fault::Fault;
 use crate::level::{ask_resolve, level_of};
 use crate::line_calls::{ask_line, ask_plain};
+use crate::runs::{ask_output, ask_run};
 use crate::stage::Stage;
 use crate::steps::{Machine, ask_step};
 use crate::words::{Arg, args_of, bytes_of, first_and_rest, number, words_of};
@@ -12,6 +13,8 @@ use crate::{base_calls, input_calls, profile_calls, puts, record_calls, value_ca
 use cfg_tree::Tree;
 use std::alloc::{AllocError, Global};
 use std::mem;
+use std::sync::Wait;
+use std::thread::Threads;
 
 #[derive(Drop)]
 pub(crate) struct Script {
@@ -75,10 +78,15 @@ impl Script {
         Ok(true)
     }
 
+    /// The stage, in whose place stands one with nothing on it.
+    fn taken_stage(&mut self) -> Stage {
+        mem::replace(&mut self.stage, Stage::new(self.alloc))
+    }
+
     /// Answers a call of what the script keeps.
     fn call_kept(&mut self, name: &str, args: &[Arg], out: &mut String) -> Result<bool, Fault> {
         if input_calls::is_call(name) {
-            let stage = mem::replace(&mut self.stage, Stage::new(self.alloc));
+            let stage = self.taken_stage();
             input_calls::ask(self.alloc, stage, name, args, out)?;
             return Ok(true);
         }
@@ -127,14 +135,36 @@ impl Script {
         Err(Fault::Script("no such call, or not with as many words"))
     }
 
+    /// run WORDS.. and run_output WORDS..
+    fn run<R: Threads + Wait + Sync>(
+        &mut self,
+        rt: &R,
+        name: &str,
+        words: &str,
+        out: &mut String,
+    ) -> Result<(), Fault> {
+        let stage = self.taken_stage();
+        let args = args_of(self.alloc, words)?;
+        if name == "run" {
+            ask_run(rt, self.alloc, stage, &args, out)
+        } else {
+            ask_output(rt, self.alloc, stage, &args, out)
+        }
+    }
+
     /// What a line answers that is no `each`.
-    fn answer_once(&mut self, line: &str) -> Result<String, Fault> {
+    fn answer_once<R: Threads + Wait + Sync>(
+        &mut self,
+        rt: &R,
+        line: &str,
+    ) -> Result<String, Fault> {
         let mut out = String::new(self.alloc);
         let (name, rest) = first_and_rest(line);
         match name {
             "line" => self.stage.add_line(bytes_of(self.alloc, rest)?)?,
             "piece" => self.stage.add_piece(bytes_of(self.alloc, rest)?)?,
             "read_line" => ask_line(self.alloc, rest, &mut out)?,
+            "run" | "run_output" => self.run(rt, name, rest, &mut out)?,
             "step" => ask_step(self.alloc, &mut self.machine, rest, &mut out)?,
             _ => self.answer_words(name, args_of(self.alloc, rest)?, &mut out)?,
         }
@@ -142,14 +172,14 @@ impl Script {
     }
 
     /// each FROM TO LINE: the line for each number, and how often each answer came
-    fn each(&mut self, text: &str) -> Result<String, Fault> {
+    fn each<R: Threads + Wait + Sync>(&mut self, rt: &R, text: &str) -> Result<String, Fault> {
         let (from, text) = first_and_rest(text);
         let (to, line) = first_and_rest(text);
         let mut out = String::new(self.alloc);
         let mut last = String::new(self.alloc);
         let mut times: u64 = 0;
         for value in number(from.as_bytes())?..=number(to.as_bytes())? {
-            let answer = self.answer_once(with_number(self.alloc, line, value)?.as_str())?;
+            let answer = self.answer_once(rt, with_number(self.alloc, line, value)?.as_str())?;
             if answer != last {
                 add_times(&mut out, last.as_str(), times)?;
                 last = answer;
@@ -162,10 +192,14 @@ impl Script {
     }
 
     /// What a line answers.
-    pub(crate) fn answer(&mut self, line: &str) -> Result<String, Fault> {
+    pub(crate) fn answer<R: Threads + Wait + Sync>(
+        &mut self,
+        rt: &R,
+        line: &str,
+    ) -> Result<String, Fault> {
         match first_and_rest(line) {
-            ("each", rest) => self.each(rest),
-            _ => self.answer_once(line),
+            ("each", rest) => self.each(rt, rest),
+            _ => self.answer_once(rt, line),
         }
     }
 }

@@ -7,6 +7,8 @@ use std::alloc::Global;
 
 #[derive(Drop)]
 pub(crate) struct Stage {
+    /// The user's name; without bytes it is root's.
+    pub user: Arg,
     /// What is read: no read takes bytes of two pieces.
     pub pieces: Vec<Bytes>,
     pub failing_reads: Vec<u64>,
@@ -22,6 +24,7 @@ const ROOM: u64 = 65_536;
 impl Stage {
     pub(crate) fn new(alloc: Global) -> Stage {
         Stage {
+            user: Vec::new(alloc),
             pieces: Vec::new(alloc),
             failing_reads: Vec::new(alloc),
             room: ROOM,
@@ -46,6 +49,7 @@ impl Stage {
     /// Takes a line that says what the ends are, and tells whether it is one.
     pub(crate) fn take(&mut self, alloc: Global, name: &str, args: &[Arg]) -> Result<bool, Fault> {
         match name {
+            "user" => self.user = user_of(alloc, args)?,
             "reads-fail" => self.failing_reads = numbers(alloc, args)?,
             "writes-fail" => self.failing_writes = numbers(alloc, args)?,
             "room" => self.room = room_of(args)?,
@@ -54,6 +58,13 @@ impl Stage {
             _ => return Ok(false),
         }
         Ok(true)
+    }
+}
+
+fn user_of(alloc: Global, args: &[Arg]) -> Result<Arg, Fault> {
+    match args {
+        [name] => Ok(Vec::from_slice(alloc, name)?),
+        _ => Err(Fault::Script("user NAME")),
     }
 }
 
