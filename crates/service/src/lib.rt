@@ -9,8 +9,6 @@
 mod book;
 mod serving;
 mod session;
-#[cfg(test)]
-mod tests;
 mod writing;
 
 pub use serving::{
