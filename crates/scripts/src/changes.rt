@@ -2,11 +2,11 @@
 
 ghost use Rattle.cfg_tree.specs.Resolve.{IsLevelPath};
 
-use crate::answers::{put_bytes, put_path, put_words, say, say_number, say_path};
+use crate::answers::{put_bytes, put_path, say, say_number, say_path};
 use crate::fault::Fault;
 use crate::level::resolved;
 use crate::words::{Arg, words_of};
-use cfg_base::{Op, Path, Value, Words};
+use cfg_base::{Op, Path, Value, WordList, Words};
 use cfg_tree::Tree;
 use edit_ops::{EditFault, apply};
 use std::alloc::Global;
@@ -54,6 +54,14 @@ pub(crate) fn change(
     }
 }
 
+fn put_word_list(out: &mut String, words: &WordList) -> Result<(), Fault> {
+    let mut left = words.iter();
+    while let Some(word) = left.next() {
+        put_bytes(out, word.as_bytes())?;
+    }
+    Ok(())
+}
+
 /// A statement: its marks, its path, and its words behind `--`.
 fn say_statement(out: &mut String, path: &Path, value: &Value) -> Result<(), Fault> {
     out.push_str("=")?;
@@ -64,10 +72,10 @@ fn say_statement(out: &mut String, path: &Path, value: &Value) -> Result<(), Fau
         out.push_str(" protect:")?;
     }
     put_path(out, path)?;
-    if !value.words.as_slice().is_empty() {
+    if !value.words.is_empty() {
         out.push_str(" --")?;
-        put_words(out, value.words.as_slice())?;
     }
+    put_word_list(out, &value.words)?;
     out.push('\n')?;
     Ok(())
 }

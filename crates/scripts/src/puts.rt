@@ -17,7 +17,7 @@ use crate::answers::{say, say_number};
 use crate::fault::Fault;
 use crate::level::resolved;
 use crate::words::{Arg, words_of};
-use cfg_base::{NoMemory, Path, Shape, Value, Words};
+use cfg_base::{NoMemory, Path, Shape, Value, WordList, Words};
 use cfg_schema::{Place, row};
 use cfg_tree::{Target, Tree, TreeFault};
 use std::alloc::Global;
@@ -74,13 +74,13 @@ fn is_counted(path: &Path, words: &Words) -> bool
     }
 }
 
-fn order_there(alloc: Global, tree: &Tree, path: &Path) -> Result<Words, NoMemory>
+fn order_there(alloc: Global, tree: &Tree, path: &Path) -> Result<WordList, NoMemory>
     ensures order { IfOk result (λ order. order ≡ order_in (map.get tree.now path.now)) }
     ensures tree { IsTree tree.now }
 {
     match tree.at(path) {
         Some(value) => Ok(value.order.clone()?),
-        None => Ok(Words::new(alloc)),
+        None => Ok(WordList::new(alloc)),
     }
 }
 
@@ -96,7 +96,7 @@ fn ready_value(alloc: Global, tree: &Tree, target: &Target) -> Result<Option<Val
         return Ok(None);
     }
     let order = order_there(alloc, tree, &target.path)?;
-    let words = target.words.clone()?;
+    let words = WordList::of(alloc, target.words.as_slice())?;
     Ok(Some(Value {
         inactive: false,
         protected: false,

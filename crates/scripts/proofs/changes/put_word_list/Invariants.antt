@@ -1,5 +1,5 @@
 use Rattle.std.proofs.Common.{length}
-use Rattle.edit_ops.proofs.tests.value_text.Given as goal
+use Rattle.scripts.proofs.changes.put_word_list.Given as goal
 
 abbrev pub invariant-loop-word : goal.invariant-loop-word
 invariant-loop-word l = Unit {0}
