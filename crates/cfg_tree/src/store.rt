@@ -19,7 +19,7 @@ pub type Entries = cfg_entries::Entries<Value>;
 pub fn is_below(above: &Path, path: &Path) -> bool
     ensures { result ≡ is_below above.now path.now }
 {
-    path.steps().starts_with(above.steps())
+    path.is_below(above)
 }
 
 /// Puts a value at a path.
