@@ -9,6 +9,7 @@ ghost use Rattle.cfg_tree.specs.Tree.{step_of};
 ghost use Rattle.cfg_tree.specs.Children.{order_in, row_steps, children_of};
 
 use crate::below::steps_below;
+use crate::reading::copied;
 use crate::store::Entries;
 use cfg_base::{NoMemory, Path, Step, Word, WordList};
 use cfg_schema::{Place, RowId, head, row, rows_below};
@@ -23,20 +24,11 @@ fn order_at(alloc: Global, entries: &Entries, path: &Path) -> Result<WordList, N
     }
 }
 
-fn word_of(alloc: Global, bytes: &[u8]) -> Result<Word, NoMemory>
-    ensures { IfOk result (λ word. word ≡ bytes.now) }
-{
-    match Word::of(alloc, bytes) {
-        Ok(word) => Ok(word),
-        Err(_) => Err(NoMemory),
-    }
-}
-
 fn named_step(alloc: Global, head: &[u8], name: &Word) -> Result<Step, NoMemory>
     ensures { IfOk result (λ step. step ≡ step_of head.now name.now) }
 {
     Ok(Step {
-        head: word_of(alloc, head)?,
+        head: copied(alloc, head)?,
         name: name.clone()?,
     })
 }

@@ -20,7 +20,8 @@ use cfg_schema::{Child, Place, Row, RowId, child, row};
 use cfg_values::{ValueFault, is_pattern, read_value};
 use std::alloc::Global;
 
-fn copied(alloc: Global, bytes: &[u8]) -> Result<Word, NoMemory>
+/// The word of bytes that are part of a word.
+pub(crate) fn copied(alloc: Global, bytes: &[u8]) -> Result<Word, NoMemory>
     ensures { IfOk result (λ word. word ≡ bytes.now) }
 {
     match Word::of(alloc, bytes) {
