@@ -1,24 +1,15 @@
 //! The kinds whose spellings are kept as they are read.
 ghost use Rattle.std.specs.Prelude.{◌≡◌, ◌≤◌, ◌↔◌, length, IsTrue, IfOk};
 ghost use Rattle.std.specs.List.{list_all};
-ghost use Rattle.cfg_base.specs.Kind.{IsName, IsHost, is_name_byte, is_host_byte};
+ghost use Rattle.cfg_base.specs.Kind.{IsHost, is_host_byte};
 ghost use Rattle.cfg_values.specs.Spelling.{IsText, is_text_byte, IsSpelling, IsCanonical, IsAnswer};
 
 use crate::fault::ValueFault;
-use cfg_base::{Kind, Word, WordFault};
+use cfg_base::{Kind, NoMemory, Word};
 use std::alloc::{AllocError, Global};
-
-/// The most bytes that a name has.
-const MAX_NAME: usize = 64;
 
 /// The most bytes that a host and a text have.
 const MAX_TEXT: usize = 255;
-
-fn is_name_byte(byte: u8) -> bool
-    ensures { result ≡ is_name_byte byte }
-{
-    byte.is_ascii_alphanumeric() || matches!(byte, b'.' | b'_' | b'-' | b':' | b'/' | b'+' | b'@')
-}
 
 fn is_host_byte(byte: u8) -> bool
     ensures { result ≡ is_host_byte byte }
@@ -30,19 +21,6 @@ fn is_text_byte(byte: u8) -> bool
     ensures { result ≡ is_text_byte byte }
 {
     matches!(byte, b' '..=b'~')
-}
-
-fn all_name_bytes(bytes: &[u8]) -> bool
-    ensures { result ≡ list_all is_name_byte bytes.now }
-{
-    bytes.iter().all(|&byte| is_name_byte(byte))
-}
-
-/// Whether the bytes are the name of a user, a group or a policy.
-pub fn is_name(bytes: &[u8]) -> bool
-    ensures { IsTrue result ↔ IsName bytes.now }
-{
-    !bytes.is_empty() && bytes.len() <= MAX_NAME && all_name_bytes(bytes)
 }
 
 fn all_host_bytes(bytes: &[u8]) -> bool
@@ -76,10 +54,9 @@ pub fn word_of(alloc: Global, bytes: &[u8]) -> Result<Word, AllocError>
     requires { length bytes.now ≤ 255 }
     ensures { IfOk result (λ word. word ≡ bytes.now) }
 {
-    match Word::of(alloc, bytes) {
+    match Word::short(alloc, bytes) {
         Ok(word) => Ok(word),
-        Err(WordFault::LongWord) => unreachable!(),
-        Err(WordFault::NoMemory) => Err(AllocError),
+        Err(NoMemory) => Err(AllocError),
     }
 }
 

@@ -6,8 +6,8 @@ use crate::choice::is_choice;
 use crate::fault::ValueFault;
 use crate::interface::{is_interface, read_units};
 use crate::number::read_number;
-use crate::plain::{as_read, is_host, is_name, is_text};
-use cfg_base::{Kind, Word};
+use crate::plain::{as_read, is_host, is_text};
+use cfg_base::{Kind, Word, is_name};
 use std::alloc::Global;
 
 fn read(alloc: Global, kind: Kind, bytes: &[u8]) -> Result<Word, ValueFault>

@@ -23,9 +23,13 @@ edit_fault (words.Incomplete path) = Incomplete path
 edit_fault (words.Extra path) = Extra path
 edit_fault words.NoMemory = NoMemory
 
+-- a Leaf or Many has a word at least
+abbrev pub IsEnough : Target → Type 0
+IsEnough target = has_words_at target.path ≡ true → 0 < length target.words
+
 -- what more a change asks of the words: one at least to set of a Leaf or Many; none behind a statement whose mark changes
 abbrev pub IsWhole : Op → Target → Type 0
-IsWhole (Set _) target = has_words_at target.path ≡ true → 0 < length target.words
+IsWhole (Set _) target = IsEnough target
 IsWhole (Delete _) target = Unit {0}
 IsWhole (Activate _) target = target.words ≡ []
 IsWhole (Deactivate _) target = target.words ≡ []

@@ -18,7 +18,7 @@ use Rattle.cfg_tree.specs.Resolve.{AreGiven, IsLevelPath}
 pub use Rattle.cfg_tree.specs.Change.{Fits, IsOther}
 use Rattle.edit_ops.specs.declared.fault.EditFault.{EditFault}
 use Rattle.edit_ops.specs.declared.fault.EditFault.TheVariants.{Unknown, BadValue, NotThere, Protected, TooMany, NoMemory}
-use Rattle.edit_ops.specs.Value.{has_words_at}
+pub use Rattle.edit_ops.specs.Answer.{IsEnough}
 use Rattle.edit_ops.specs.Change.{with_levels}
 use Rattle.edit_ops.specs.Block.{IsProtected, IsFree, IsBlockedBy}
 
@@ -105,10 +105,6 @@ pub record IsNewStatement (m : Statements) (path : List Step) (value : Value) : 
   pub none : map.get m path ≡ None
   pub order : value.order ≡ []
   pub fits : Fits path value
-
--- a Leaf or Many has a word at least
-abbrev pub IsEnough : Target → Type 0
-IsEnough target = has_words_at target.path ≡ true → 0 < length target.words
 
 -- what is left of the words of a statement that is there: none, or words that fit
 pub record IsPart (m : Statements) (path : List Step) (value : Value) (left : List (List ℕ)) : Type 0 where

@@ -8,6 +8,7 @@ use Rattle.cfg_schema.specs.declared.place.Place.{Place}
 use Rattle.cfg_schema.specs.Profile.{row_of}
 use Rattle.cfg_schema.specs.Place.{place_of}
 pub use Rattle.cfg_base.specs.Words.{joined, words_without}
+pub use Rattle.cfg_tree.specs.Gather.{is_many}
 
 -- a value without marks, names and words
 abbrev pub no_value : Value
@@ -27,15 +28,6 @@ has_words Bare = false
 has_words Leaf = true
 has_words Flag = false
 has_words Many = true
-
-abbrev pub is_many : Shape → Bool
-is_many Container = false
-is_many Fixed = false
-is_many Keyed = false
-is_many Bare = false
-is_many Leaf = false
-is_many Flag = false
-is_many Many = true
 
 -- what is asked of the row that a path follows; it isn't so of a path that follows none
 abbrev pub at_row : (Shape → Bool) → Option Place → Bool

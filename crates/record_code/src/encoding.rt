@@ -1,5 +1,5 @@
 ghost use Rattle.std.specs.Prelude.{◌≡◌, ◌≤◌, [], ◌∷◌, length, IfOk};
-ghost use Rattle.record_code.specs.declared.encoding.TheConstants.{MAX_PAYLOAD};
+ghost use Rattle.record_code.specs.Record.{most_payload};
 
 use crate::encoded::Encoded;
 use crate::readers::digest_of;
@@ -17,7 +17,7 @@ const OVERHEAD: usize = 39;
 
 /// One record of that kind with that payload.
 pub fn encode(alloc: Global, kind: u8, payload: &Bytes) -> Result<Encoded, NoMemory>
-    requires { length payload.now ≤ MAX_PAYLOAD }
+    requires { length payload.now ≤ most_payload }
     ensures { IfOk result (λ e. e ≡ record { kind = kind; payload = payload.now } ∷ []) }
 {
     let payload = payload.as_slice();
