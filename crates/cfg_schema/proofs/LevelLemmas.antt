@@ -237,3 +237,25 @@ short path (Some there) h = (path_most path there h).2
 -- a path that follows rows has at most 9 steps
 pub shallow : (path : List Step) → IfSome (place_of path) (λ _. length path ≤ 9)
 shallow path = short path _ refl
+
+-- a row stands at a level, and the words are its head and, where it is Fixed, its name
+pub record StartsWith (level : Level) (word next : List ℕ) (id : ℕ) : Type 0 where
+  pub within : id < length profile
+  pub stood : stands level (line_at profile id) ≡ true
+  pub head : spelled (line_at profile id).head ≡ word
+  pub name : is_fixed (line_at profile id).shape ≡ true → spelled (line_at profile id).name ≡ next
+
+start_not_before : (level : Level) (word next : List ℕ) (i j : ℕ) → StartsWith level word next i → StartsWith level word next j → i < j → ⊥
+start_not_before level word next i j one two before =
+    let met = meeting level (line_at profile i) (line_at profile j) one.stood two.stood
+    in let clashing = alike (line_at profile i) (line_at profile j) (one.head ∙ sym two.head) (λ e f. one.name e ∙ sym (two.name f))
+    in let apart_there = apart_at profile i j profile_apart before two.within
+    in let together = both_true _ _ met clashing
+    in cc
+
+-- at a level at most one row starts with these words
+pub starts_once : (level : Level) (word next : List ℕ) (i j : ℕ) → StartsWith level word next i → StartsWith level word next j → i ≡ j
+starts_once level word next i j one two =
+    let before : i < j → ⊥ = start_not_before level word next i j one two
+    in let after : j < i → ⊥ = start_not_before level word next j i two one
+    in omega arith

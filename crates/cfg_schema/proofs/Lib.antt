@@ -3,3 +3,4 @@ pub mod TestLemmas
 pub mod ChildLemmas
 pub mod PlaceLemmas
 pub mod LevelLemmas
+pub mod BegunLemmas

@@ -24,6 +24,7 @@ pub mod UniqueLemmas
 pub mod OnceLemmas
 pub mod PutAnswerLemmas
 pub mod OtherLemmas
+pub mod OwnLemmas
 mod CanonicalLemmas
 mod LevelLemmas
 mod GatherLemmas

@@ -181,3 +181,38 @@ name_no_head id parent in_group bytes word within is_bare_row (inr h) none = sub
 name_no_head id parent in_group bytes word within is_bare_row (inl h) none =
     canonical_no_head (row_of id).name_kind parent in_group bytes word
     (kind_of_bare (is_bare (line_at profile id).shape) _ (all_at has_bare_kind profile id no_line profile_bare_kinds within) (bare_is _ is_bare_row)) h none
+
+-- the kinds of names: no row's name is a text or a choice
+abbrev is_name_kind : Kind → Bool
+is_name_kind Text = false
+is_name_kind (OneOf choice) = false
+is_name_kind _ = true
+
+abbrev has_name_kind : Line → Bool
+has_name_kind line = is_name_kind line.name_kind
+
+profile_name_kinds : list_all has_name_kind profile ≡ true
+unfolding profile
+profile_name_kinds = refl
+
+spelled_some : (kind : Kind) (bytes word : List ℕ) → is_name_kind kind ≡ true → IsCanonicalOf kind bytes word → 0 < length bytes
+spelled_some Name bytes word e h = h.spells.0.0
+spelled_some Host bytes word e h = h.spells.0.0
+spelled_some IfName bytes word e h = h.spells.0.some
+spelled_some Address bytes word e h = (address_begins bytes h.value h.spells).0
+spelled_some Prefix bytes word e h = (prefix_begins bytes h.value h.spells).0
+spelled_some Area bytes word e h = by_area h.spells
+  where
+    by_area : IsArea bytes h.value → 0 < length bytes
+    by_area (inl a) = (address_begins bytes h.value a).0
+    by_area (inr n) = (number_begins _ _ bytes _ n.read).0
+spelled_some IfUnit bytes word e h = (units_begin bytes h.value h.spells).0
+spelled_some (Number from to) bytes word e h = (number_begins from to bytes h.value h.spells).0
+spelled_some Text bytes word e h = cc
+spelled_some (OneOf choice) bytes word e h = cc
+
+-- no name is empty
+pub name_some : (id : ℕ) (in_group : Bool) (name : List ℕ) → id < length profile → IsName in_group (row_of id).name_kind name → 0 < length name
+name_some id in_group name within (inl h) =
+    spelled_some (row_of id).name_kind name name (all_at has_name_kind profile id no_line profile_name_kinds within) h
+name_some id in_group name within (inr h) = subst (λ (b : List ℕ). 0 < length b) (sym h.0.2.spelled) (omega arith)

@@ -88,7 +88,7 @@ headless Flag head name step h e = cc
 headless Many head name step h e = cc
 
 -- a step that follows a bare row has no head
-bare_step : (here next : Place) (step : Step) → place_after here step ≡ Some next → (row_of next.row).shape ≡ Bare → step.head ≡ []
+pub bare_step : (here next : Place) (step : Step) → place_after here step ≡ Some next → (row_of next.row).shape ≡ Bare → step.head ≡ []
 bare_step here next step e bare = headless (row_of next.row).shape _ _ step (led_to here next step e).words bare
 
 module _ (path : List Step) (value : Value) (almost : IsAlmostFit path value) where

@@ -7,4 +7,5 @@ pub mod Gather
 pub mod Children
 pub mod After
 pub mod Resolve
+pub mod OwnWords
 pub mod Renaming

@@ -29,7 +29,9 @@ mod walk;
 
 pub use fault::TreeFault;
 pub use gather::GatherFault;
-pub use laws::{limits_are_stated, puts_have_one_answer, words_have_one_answer};
+pub use laws::{
+    limits_are_stated, own_words_name_their_statement, puts_have_one_answer, words_have_one_answer,
+};
 pub use limit::MAX_STATEMENTS;
 pub use reading::resolve;
 pub use steps::Steps;
