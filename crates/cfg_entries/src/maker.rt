@@ -131,21 +131,8 @@ impl<'a, V> Model for Maker<'a, V> {
 }
 
 impl<'a, V: Same + Drop> Maker<'a, V> {
-    /// No entries, and no older map.
-    pub fn new(alloc: Global) -> Maker<'a, V>
-        ensures { result ≡ [] }
-    {
-        Maker::over(alloc, Rest::of(&[], &[], &[]))
-    }
-
     /// No entries, beside an older map.
     pub fn beside(alloc: Global, older: &'a Entries<V>) -> Maker<'a, V>
-        ensures { result ≡ [] }
-    {
-        Maker::over(alloc, older.iter())
-    }
-
-    fn over(alloc: Global, older: Rest<'a, V>) -> Maker<'a, V>
         ensures { result ≡ [] }
     {
         Maker {
@@ -154,7 +141,7 @@ impl<'a, V: Same + Drop> Maker<'a, V> {
             blocks: Vec::new(alloc),
             entries: Vec::new(alloc),
             len: 0,
-            rest: older,
+            rest: older.iter(),
             last: None,
             begun: None,
         }

@@ -83,12 +83,13 @@ fn pushed<'a>(
 }
 
 impl<'a> Gatherer<'a> {
-    fn new(alloc: Global) -> Gatherer<'a>
+    /// No statements, beside an older map.
+    fn beside(alloc: Global, older: &'a Entries) -> Gatherer<'a>
         ensures { result ≡ [] }
     {
         Gatherer {
             alloc,
-            maker: Maker::new(alloc),
+            maker: Maker::beside(alloc, older),
             last: None,
         }
     }
@@ -136,23 +137,27 @@ impl<'a> Gatherer<'a> {
     }
 }
 
-/// The map of statements whose paths don't fall.
-fn of_sorted(alloc: Global, items: Vec<(Path, Value)>) -> Result<Entries, NoMemory>
+/// The map of statements whose paths don't fall, beside an older map.
+fn of_sorted(alloc: Global, older: &Entries, items: Vec<(Path, Value)>) -> Result<Entries, NoMemory>
     requires { Climbs items.items }
     ensures { IfOk result (λ made. made.entries ≡ grown [] items.items) }
 {
-    let mut gatherer = Gatherer::new(alloc);
+    let mut gatherer = Gatherer::beside(alloc, older);
     for (path, value) in items {
         gatherer = gatherer.push(path, value)?;
     }
     gatherer.finish()
 }
 
-/// The map of statements put in turn, those of one path joined.
-pub fn gathered_in(alloc: Global, items: Vec<(Path, Value)>) -> Result<Entries, NoMemory>
+/// The map of statements put in turn, those of one path joined. What an older map has too is shared with it.
+pub fn gathered_in(
+    alloc: Global,
+    older: &Entries,
+    items: Vec<(Path, Value)>,
+) -> Result<Entries, NoMemory>
     ensures { IfOk result (λ made. shown made ≡ gathered_from_none items.items) }
 {
     let mut sorted = items;
     sorted.sort_by(|one, other| one.0.cmp(&other.0))?;
-    of_sorted(alloc, sorted)
+    of_sorted(alloc, older, sorted)
 }

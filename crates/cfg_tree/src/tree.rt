@@ -58,8 +58,12 @@ impl Tree {
 
     /// The tree of statements in the order in which they are met, each joined to what its path has. An
     /// item's order is what it adds to that of its children: a child of an ordered row is two items, its own,
-    /// and one of its parent with this name.
-    pub fn gathered(alloc: Global, items: Vec<(Path, Value)>) -> Result<Tree, GatherFault>
+    /// and one of its parent with this name. Statements that the older tree has too are shared with it.
+    pub fn gathered(
+        alloc: Global,
+        older: &Tree,
+        items: Vec<(Path, Value)>,
+    ) -> Result<Tree, GatherFault>
         requires statements { IsStatementMap (gathered_from_none items.items) }
         requires typed { IsTyped (gathered_from_none items.items) }
         ensures ok { IfOk result (λ tree. tree ≡ gathered_from_none items.items) }
@@ -68,7 +72,7 @@ impl Tree {
         if let Some(at) = excess(alloc, &items)? {
             return Err(GatherFault::TooMany(at));
         }
-        let statements = gathered_in(alloc, items)?;
+        let statements = gathered_in(alloc, &older.statements, items)?;
         Ok(Tree { alloc, statements })
     }
 
