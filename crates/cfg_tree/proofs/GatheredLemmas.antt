@@ -1,8 +1,8 @@
 -- Entries put in turn: what a look-up tells, and that a stable sort changes nothing of it.
-use Rattle.std.proofs.Common.{◌≡◌, true, false, Bool, not, ◌&&◌, cond, List, [], ◌∷◌, filter, refl, sym, ap, ◌∙◌, Some, Option, Less, Equal, Greater, Ordering, is_lt, is_le, is_eq, if◌then◌else◌, ℕ, zero, suc, ◌<◌, length, get_or, arith}
+use Rattle.std.proofs.Common.{◌≡◌, true, false, Bool, T, not, ◌&&◌, cond, List, [], ◌∷◌, filter, refl, sym, ap, subst, ◌∙◌, None, Some, Option, Less, Equal, Greater, Ordering, is_lt, is_le, is_eq, if◌then◌else◌, ℕ, zero, suc, ◌<◌, length, get_or, arith}
 use Rattle.std.specs.FinMap as map
 use Rattle.std.specs.FinMap.{put}
-use Rattle.std.specs.FinMap.Entries.{find, find-put}
+use Rattle.std.specs.FinMap.Entries.{find, find-put, is_sorted, below_all}
 use Rattle.std.specs.Ordering.{eq_by_cmp, ordering_reverse}
 use Rattle.std.specs.List.Sorted.{IsStableBy, ties}
 use Rattle.std.specs.List.{AllByRecursion}
@@ -114,3 +114,42 @@ climbs (e ∷ es) h = (
   all_read (λ r. is_le (path_cmp e.0 r.0) ≡ true) es (λ i d l. not_behind e.0 (get_or es i d).0 (h zero (suc i) d (omega arith) (omega (arith, l)))),
   climbs es (λ i j d l m. h (suc i) (suc j) d (omega (arith, l)) (omega (arith, m))),
 )
+
+front : (a b : Bool) → T (a && b) → T a
+front true b h = tt
+front false b h = h
+
+back : (a b : Bool) → T (a && b) → T b
+back true b h = h
+back false b h = absurd h
+
+not_tied : (o : Ordering) → T (is_lt o) → is_eq o ≡ false
+not_tied Less h = refl
+not_tied Equal h = absurd h
+not_tied Greater h = refl
+
+-- nothing behind a path is joined to what is there
+told_behind : (k : List Step) (v : Value) (es : List (Pair Value)) → T (below_all path_cmp k es) → told k (Some v) es ≡ Some v
+told_behind k v [] h = refl
+told_behind k v (e ∷ es) h =
+    ap (λ (b : Bool). told k (if b then Some (joined_at e.0 (Some v) e.1) else Some v) es) (not_tied (path_cmp k e.0) (front _ _ h))
+    ∙ told_behind k v es (back _ _ h)
+
+-- entries in order tell what is found among them
+told_found : (q : List Step) (es : List (Pair Value)) → T (is_sorted path_cmp es) → told q None es ≡ find path_cmp q es
+told_found q [] h = refl
+told_found q (e ∷ es) h = by_tie (eq_by_cmp path_cmp q e.0) refl (told_found q es (back _ _ h))
+  where
+    by_tie : (b : Bool) → eq_by_cmp path_cmp q e.0 ≡ b → told q None es ≡ find path_cmp q es
+        → told q (if b then Some (joined_at e.0 None e.1) else None) es ≡ cond b (Some e.1) (find path_cmp q es)
+    by_tie true t go =
+        told_behind q e.1 es (subst (λ (k : List Step). T (below_all path_cmp k es)) (sym (path_same q e.0 (tied _ t))) (front _ _ h))
+    by_tie false t go = go
+
+-- the entries of a map, put in turn, make it again
+pub gathered_again : (m : map.FinMap path_cmp Value) → gathered map.empty (map.entries m) ≡ m
+gathered_again m = map.same_map paths_total path_same (gathered map.empty (map.entries m)) m (λ q.
+    get_gathered (map.entries m) map.empty q
+    ∙ ap (λ (o : Option Value). told q o (map.entries m)) (map.get-empty path_cmp q)
+    ∙ told_found q (map.entries m) (map.entries_sorted m)
+    ∙ sym (map.get-entries m q))

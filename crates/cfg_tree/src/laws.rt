@@ -1,4 +1,4 @@
-//! Words and puts have one answer each, and a statement's own words name it.
+//! Words and puts have one answer each, a statement's own words name it, and a walk gathers its tree.
 
 ghost use Rattle.std.specs.Prelude.{◌≡◌, ◌≢◌, ◌++◌, ℕ, List, [], Ok, Err, Result, Some};
 ghost use Rattle.std.specs.FinMap as map;
@@ -15,6 +15,7 @@ ghost use Rattle.cfg_tree.specs.declared.fault.TreeFault.{TreeFault};
 ghost use Rattle.cfg_tree.specs.declared.fault.TreeFault.TheVariants as put;
 ghost use Rattle.cfg_tree.specs.Statements.{Statements};
 ghost use Rattle.cfg_tree.specs.Change.{IsPut, IsPutFault};
+ghost use Rattle.cfg_tree.specs.Gather.{gathered_from_none};
 
 /// The limit that the clauses of this crate cite, by its number.
 pub fn limits_are_stated()
@@ -43,4 +44,9 @@ pub fn puts_have_one_answer()
         → IsPutFault m path value other → one ≢ put.NoMemory → other ≢ put.NoMemory → one ≡ other }
     ensures apart { (m n : Statements) (path : List Step) (value : Value) (fault : TreeFault) → IsPut m n path value
         → IsPutFault m path value fault → fault ≡ put.NoMemory }
+{}
+
+/// What a walk over a tree gives, gathered, is that tree.
+pub fn walks_gather_their_tree()
+    ensures { (m : Statements) → gathered_from_none (map.entries m) ≡ m }
 {}

@@ -30,7 +30,8 @@ mod walk;
 pub use fault::TreeFault;
 pub use gather::GatherFault;
 pub use laws::{
-    limits_are_stated, own_words_name_their_statement, puts_have_one_answer, words_have_one_answer,
+    limits_are_stated, own_words_name_their_statement, puts_have_one_answer,
+    walks_gather_their_tree, words_have_one_answer,
 };
 pub use limit::MAX_STATEMENTS;
 pub use reading::resolve;
