@@ -20,6 +20,7 @@ mod commands;
 mod expanding;
 mod fault;
 mod input_calls;
+mod kept;
 mod kinds;
 mod level;
 mod line_calls;

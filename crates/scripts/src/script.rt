@@ -9,7 +9,7 @@ use crate::runs::{ask_output, ask_run};
 use crate::stage::Stage;
 use crate::steps::{Machine, ask_step};
 use crate::words::{Arg, args_of, bytes_of, first_and_rest, number, words_of};
-use crate::{base_calls, input_calls, profile_calls, puts, record_calls, value_calls};
+use crate::{base_calls, input_calls, kept, profile_calls, puts, record_calls, value_calls};
 use cfg_tree::Tree;
 use std::alloc::{AllocError, Global};
 use std::mem;
@@ -22,6 +22,8 @@ pub(crate) struct Script {
     tree: Tree,
     /// Another tree, for a while.
     other: Tree,
+    /// Trees that were made anew, the last one last.
+    kept: Vec<Tree>,
     /// The words of the level from which changes are read.
     level: Vec<Arg>,
     stage: Stage,
@@ -55,6 +57,7 @@ impl Script {
             alloc,
             tree: Tree::empty(alloc),
             other: Tree::empty(alloc),
+            kept: Vec::new(alloc),
             level: Vec::new(alloc),
             stage: Stage::new(alloc),
             machine: Machine::new(alloc).map_err(|_| AllocError)?,
@@ -102,17 +105,23 @@ impl Script {
         )
     }
 
+    fn clear(&mut self) {
+        self.tree = Tree::empty(self.alloc);
+        self.kept = Vec::new(self.alloc);
+    }
+
     fn swap_trees(&mut self) {
         let tree = mem::replace(&mut self.tree, Tree::empty(self.alloc));
         self.tree = mem::replace(&mut self.other, tree);
     }
 
-    /// Takes a line that answers nothing, or compares the two trees, and tells whether it is one.
+    /// Takes a line that answers nothing, compares the two trees or keeps one, and tells whether it is one.
     fn keep(&mut self, name: &str, args: &[Arg], out: &mut String) -> Result<bool, Fault> {
         match (name, args) {
-            ("clear", []) => self.tree = Tree::empty(self.alloc),
+            ("clear", []) => self.clear(),
             ("copy", []) => self.other = self.tree.copy()?,
             ("swap", []) => self.swap_trees(),
+            ("keep", []) => kept::keep(self.alloc, &mut self.kept, &self.tree, out)?,
             ("same", []) => say_flag(out, self.tree.same(&self.other))?,
             ("machine", []) => self.machine = Machine::new(self.alloc)?,
             _ => return self.stage.take(self.alloc, name, args),
