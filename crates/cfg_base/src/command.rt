@@ -8,6 +8,15 @@ pub enum Mode {
     Shared,
 }
 
+/// How statements are printed.
+#[derive(Clone, Copy, Debug, PartialEq, Eq)]
+pub enum Form {
+    /// As curly text, a level in braces.
+    Curly,
+    /// As the `set` lines that make them.
+    SetLines,
+}
+
 /// A change of the candidate. The words name a statement from the level on, and then the words of its value.
 #[derive(Clone, Debug, Drop, PartialEq, Eq)]
 pub enum Op {
@@ -30,8 +39,8 @@ pub enum Op {
 pub enum Command {
     /// Enters configuration mode.
     Configure(Mode),
-    /// Prints the active configuration.
-    ShowActive,
+    /// Prints the active configuration below what the words name; without words all of it.
+    ShowActive { words: Words, form: Form },
     /// Ends the session.
     Logout,
     /// Moves to the level that the words name from the level on, and remembers the one it leaves.
@@ -44,6 +53,8 @@ pub enum Command {
     Exit,
     /// Leaves configuration mode from any level.
     ExitAll,
+    /// Prints the candidate below what the words name from the level on; without words below the level.
+    Show { words: Words, form: Form },
     /// Changes the candidate.
     Change(Op),
     /// Makes the candidate the active configuration.

@@ -26,7 +26,7 @@ mod words;
 
 pub use bytes::Bytes;
 pub use calls::Calls;
-pub use command::{Command, Mode, Op};
+pub use command::{Command, Form, Mode, Op};
 pub use fault::NoMemory;
 pub use joining::joined_is_the_union;
 pub use kind::{Choice, Kind, Shape};
