@@ -9,3 +9,4 @@ pub mod After
 pub mod Resolve
 pub mod OwnWords
 pub mod Renaming
+pub mod Stated
