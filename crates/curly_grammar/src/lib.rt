@@ -1,0 +1,6 @@
+//! What a curly text says: its grammar, and the reader of such texts.
+//!
+//! Guarantees: a text that the grammar derives is read as the statements that it says, and any other has its leftmost fault.
+//! Leaves to others: the tokens (`cfg_lex`), how statements are printed (`curly_text`), and what a load makes of them (`load_ops`).
+#![tactic(auto)]
+
