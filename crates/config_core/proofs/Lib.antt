@@ -1,4 +1,3 @@
 pub mod LevelLemmas
-pub mod WalkLemmas
 pub mod StepLemmas
 pub mod OutcomeLemmas

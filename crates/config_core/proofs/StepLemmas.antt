@@ -9,7 +9,6 @@ use Rattle.config_core.specs.declared.effect.Effect.TheVariants.{Edit}
 use Rattle.config_core.specs.declared.reply.Reply.TheVariants.{Done}
 use Rattle.config_core.specs.Plan.{Plan}
 use Rattle.config_core.specs.State.{State}
-use Rattle.config_core.specs.Printed.{AllPrinted}
 use Rattle.config_core.specs.Machine.{IsCaller, Turned, Serves, later, level_of, is_configuring, committed}
 use Rattle.config_core.specs.Prepared.{Prepares}
 
@@ -32,11 +31,3 @@ prepares_change s caller moment op next told plan is_caller configuring change i
       follows = record { is_caller = is_caller; fits = tt };
       steps = served (is_configuring s caller) _ _ configuring (inl record { next = next; told = told; change = change; is = refl });
     }
-
--- a commit of a candidate that can be printed
-pub prepares_commit : {E : Type 0} (s : State) (caller moment : ℕ) (answer : Result Plan E) → is_configuring s caller ≡ true → AllPrinted s.candidate
-    → IfOk answer (Prepares s (λ turned. turned ≡ committed (later s moment) caller))
-    → IfOk answer (Prepares s (Serves (later s moment) caller Commit))
-prepares_commit s caller moment answer configuring printed =
-    prepares_more s (λ turned. turned ≡ committed (later s moment) caller) (Serves (later s moment) caller Commit) answer
-    (λ turned e. served (is_configuring s caller) _ _ configuring (inr record { printable = printed; is = e }))

@@ -1,4 +1,3 @@
-pub mod Printed
 pub mod Kept
 pub mod State
 pub mod Levels

@@ -1,16 +1,20 @@
 -- One step of the machine: what an event makes of the state, and the reply to it.
 -- Junos OS CLI User Guide, on entering and leaving configuration mode, on moves through levels, on changes of the candidate,
--- on commit and on show configuration.
-use Rattle.std.specs.Prelude.{◌≡◌, ◌⊎◌, ℕ, ◌+◌, ◌-◌, ◌≤◌, ◌<◌, nat_lt, List, [], length, Bool, if◌then◌else◌, MatchBool, Option, None, Some, is_some, slice_get, slice_set, Ok, Err}
+-- on commit, on show and on display set.
+use Rattle.std.specs.Prelude.{◌≡◌, ◌⊎◌, ℕ, ◌+◌, ◌-◌, ◌≤◌, ◌<◌, nat_lt, List, [], length, Bool, ◌==◌, if◌then◌else◌, MatchBool, Option, None, Some, is_some, slice_get, slice_set, Ok, Err}
 use Rattle.cfg_base.specs.declared.command.Mode.{Mode}
+use Rattle.cfg_base.specs.declared.command.Form.{Form}
+use Rattle.cfg_base.specs.declared.command.Form.TheVariants.{Curly, SetLines}
 use Rattle.cfg_base.specs.declared.command.Op.{Op}
 use Rattle.cfg_base.specs.declared.command.Command.{Command}
-use Rattle.cfg_base.specs.declared.command.Command.TheVariants.{Configure, ShowActive, Logout, Edit, Up, Top, Exit, ExitAll, Change, Commit as CommitOf}
+use Rattle.cfg_base.specs.declared.command.Command.TheVariants.{Configure, ShowActive, Logout, Edit, Up, Top, Exit, ExitAll, Show, Change, Commit as CommitOf}
 use Rattle.cfg_base.specs.declared.path.Step.{Step}
 use Rattle.cfg_tree.specs.declared.target.Target.{Target}
 use Rattle.cfg_tree.specs.declared.target.WordsFault.{WordsFault}
 use Rattle.cfg_tree.specs.Statements.{Statements}
 use Rattle.cfg_tree.specs.Resolve.{ResolvesTo}
+use Rattle.curly_text.specs.Printed.{printed}
+use Rattle.set_text.specs.Printed.{printed_set}
 use Rattle.edit_ops.specs.declared.fault.EditFault.{EditFault}
 use Rattle.edit_ops.specs.declared.fault.EditFault.TheVariants as edit
 use Rattle.edit_ops.specs.Answer.{edit_fault, IsChange, IsEditFault}
@@ -20,10 +24,9 @@ use Rattle.config_core.specs.declared.event.Event.{Event}
 use Rattle.config_core.specs.declared.event.Event.TheVariants.{Command as CommandOf}
 use Rattle.config_core.specs.declared.ledger.TheConstants.{MAX_ENTRIES}
 use Rattle.config_core.specs.declared.reply.Refusal.{Refusal}
-use Rattle.config_core.specs.declared.reply.Refusal.TheVariants.{WrongMode, Unknown, BadValue, Incomplete, Extra, NotThere, NotALevel, Protected, TooMany, Unprinted, Exhausted}
+use Rattle.config_core.specs.declared.reply.Refusal.TheVariants.{WrongMode, Unknown, BadValue, Incomplete, Extra, NotThere, NotALevel, Protected, TooMany, Exhausted}
 use Rattle.config_core.specs.declared.reply.Reply.{Reply}
 use Rattle.config_core.specs.declared.reply.Reply.TheVariants.{Done, LoggedOut, Text, Entered, Left, Committed, Refused}
-use Rattle.config_core.specs.Printed.{printed, IsUnprinted, AllPrinted}
 use Rattle.config_core.specs.Kept.{append_entry, active_of}
 use Rattle.config_core.specs.declared.caller.Caller.{Caller}
 use Rattle.config_core.specs.State.{State, operational}
@@ -116,13 +119,34 @@ pub record Moves (s : State) (caller : ℕ) (asked : List (List ℕ)) (turned : 
   pub names : ResolvesTo (level_of s caller) asked (Ok target)
   pub is : turned ≡ edited s caller target.path
 
--- or its words are refused
-pub record IsLost (s : State) (caller : ℕ) (asked : List (List ℕ)) (turned : Turned) : Type 0 where
+-- words that name no statement from a level on are refused
+pub record IsLost (s : State) (level : List Step) (asked : List (List ℕ)) (turned : Turned) : Type 0 where
   pub why : WordsFault
   pub refusal : Refusal
-  pub names : ResolvesTo (level_of s caller) asked (Err why)
+  pub names : ResolvesTo level asked (Err why)
   pub told : refusal_of (edit_fault why) ≡ Some refusal
   pub is : turned ≡ refused s refusal
+
+-- the text of the statements below a path in a form
+abbrev pub text_as : Form → Statements → List Step → List ℕ
+text_as Curly m path = printed m path
+text_as SetLines m path = printed_set m path
+
+-- the text of what words name is shown, and words behind its path are refused
+abbrev pub shown_of : State → Statements → Form → Target → Turned
+shown_of s m form target =
+    if length target.words == 0 then answered s (Text (text_as form m target.path)) else refused s (Extra target.path)
+
+pub record ShowsNamed (s : State) (m : Statements) (level : List Step) (asked : List (List ℕ)) (form : Form) (turned : Turned) : Type 0 where
+  pub target : Target
+  pub names : ResolvesTo level asked (Ok target)
+  pub is : turned ≡ shown_of s m form target
+
+-- a show of statements from a level on: without words of what stands below the level
+abbrev pub Shows : State → Statements → List Step → List (List ℕ) → Form → Turned → Type 0
+Shows s m level asked form turned =
+    MatchBool (length asked == 0) (turned ≡ answered s (Text (text_as form m level)))
+    (ShowsNamed s m level asked form turned ⊎ IsLost s level asked turned)
 
 -- a change makes another candidate of the candidate
 pub record Changes (s : State) (caller : ℕ) (op : Op) (turned : Turned) : Type 0 where
@@ -139,16 +163,6 @@ pub record IsUnchanged (s : State) (caller : ℕ) (op : Op) (turned : Turned) : 
   pub told : refusal_of fault ≡ Some refusal
   pub is : turned ≡ refused s refusal
 
--- a commit of a map that can't be printed is refused with the least statement of those
-pub record IsUnprintable (s : State) (turned : Turned) : Type 0 where
-  pub path : List Step
-  pub unprinted : IsUnprinted s.candidate path
-  pub is : turned ≡ refused s (Unprinted path)
-
-pub record Commits (s : State) (caller : ℕ) (turned : Turned) : Type 0 where
-  pub printable : AllPrinted s.candidate
-  pub is : turned ≡ committed s caller
-
 -- a command of operational mode, and one of configuration mode, is refused in the other
 abbrev pub Operational : State → ℕ → Turned → Type 0 → Type 0
 Operational s caller turned Served = MatchBool (is_configuring s caller) (turned ≡ refused s WrongMode) Served
@@ -160,16 +174,17 @@ Configuring s caller turned Served = MatchBool (is_configuring s caller) Served 
 abbrev pub Serves : State → ℕ → Command → Turned → Type 0
 Serves s caller (Configure mode) turned =
     Operational s caller turned (turned ≡ answered (with_caller s caller (Some mode) at_top) (Entered mode))
-Serves s caller ShowActive turned = Operational s caller turned (turned ≡ answered s (Text (printed (active_of s.kept))))
+Serves s caller (ShowActive asked form) turned = Operational s caller turned (Shows s (active_of s.kept) [] asked form turned)
 Serves s caller Logout turned = turned ≡ answered (without_mode s caller) LoggedOut
-Serves s caller (Edit asked) turned = Configuring s caller turned (Moves s caller asked turned ⊎ IsLost s caller asked turned)
+Serves s caller (Edit asked) turned = Configuring s caller turned (Moves s caller asked turned ⊎ IsLost s (level_of s caller) asked turned)
 Serves s caller (Up count) turned =
     Configuring s caller turned (turned ≡ answered (with_position s caller (moved_up (position_of s caller) count)) Done)
 Serves s caller Top turned = Configuring s caller turned (turned ≡ answered (with_position s caller at_top) Done)
 Serves s caller Exit turned = Configuring s caller turned (turned ≡ exited s caller (moved_back (position_of s caller)))
 Serves s caller ExitAll turned = Configuring s caller turned (turned ≡ answered (without_mode s caller) Left)
+Serves s caller (Show asked form) turned = Configuring s caller turned (Shows s s.candidate (level_of s caller) asked form turned)
 Serves s caller (Change op) turned = Configuring s caller turned (Changes s caller op turned ⊎ IsUnchanged s caller op turned)
-Serves s caller CommitOf turned = Configuring s caller turned (IsUnprintable s turned ⊎ Commits s caller turned)
+Serves s caller CommitOf turned = Configuring s caller turned (turned ≡ committed s caller)
 
 -- the state at a later moment
 abbrev pub later : State → ℕ → State

@@ -1,9 +1,11 @@
-ghost use Rattle.std.specs.Prelude.{◌≡◌, ◌<◌, map, IfOk};
+ghost use Rattle.std.specs.Prelude.{◌≡◌, ◌<◌, ℕ, List, map, Err, IfOk};
+ghost use Rattle.cfg_base.specs.declared.path.Step.{Step};
+ghost use Rattle.cfg_tree.specs.Resolve.{IsLevelPath, ResolvesTo};
 ghost use Rattle.cfg_tree.specs.Typed.{IsTypedPath};
 ghost use Rattle.config_core.specs.declared.effect.Effect.TheVariants.{Stay};
 ghost use Rattle.config_core.specs.declared.reply.Reply.TheVariants.{Refused};
 ghost use Rattle.config_core.specs.State.{opening_of, operational};
-ghost use Rattle.config_core.specs.Machine.{Fits, IsCaller, Steps, Serves, later, caller_of, level_of, is_configuring, with_caller, edited, commit_of, committed};
+ghost use Rattle.config_core.specs.Machine.{Fits, IsCaller, Steps, Serves, later, caller_of, level_of, is_configuring, with_caller, edited, commit_of, committed, shown_of, IsLost, Shows};
 ghost use Rattle.config_core.specs.Prepared.{applied, Follows, Prepares};
 
 use crate::caller::Caller;
@@ -13,12 +15,11 @@ use crate::event::{Event, Outcome};
 use crate::ledger::{Ledger, MAX_ENTRIES};
 use crate::position::Position;
 use crate::prepared::Prepared;
-use crate::printing::text_of;
 use crate::refusing::{is_level_at, refusal_of};
 use crate::reply::{Refusal, Reply};
-use crate::unprinted::least_unprinted;
-use cfg_base::{Command, Mode, Moment, NoMemory, Op, Path, UserName, Users, Words};
-use cfg_tree::{Tree, resolve};
+use crate::showing::text_as;
+use cfg_base::{Command, Form, Mode, Moment, NoMemory, Op, Path, UserName, Users, Words};
+use cfg_tree::{Target, Tree, WordsFault, resolve};
 use edit_ops::{EditFault, apply};
 use std::alloc::Global;
 use std::marker::Model;
@@ -130,13 +131,16 @@ impl Core {
         let Event::Command(command) = event;
         match command {
             Command::Configure(mode) => Ok(self.prepare_configure(caller, moment, *mode)),
-            Command::ShowActive => self.prepare_show(caller, moment),
+            Command::ShowActive { words, form } => {
+                self.prepare_show_active(caller, moment, words, *form)
+            }
             Command::Logout => Ok(self.prepare_logout(caller, moment)),
             Command::Edit(words) => self.prepare_edit(caller, moment, words),
             Command::Up(count) => self.prepare_up(caller, moment, *count),
             Command::Top => Ok(self.prepare_top(caller, moment)),
             Command::Exit => self.prepare_exit(caller, moment),
             Command::ExitAll => Ok(self.prepare_exit_all(caller, moment)),
+            Command::Show { words, form } => self.prepare_show(caller, moment, words, *form),
             Command::Change(op) => self.prepare_change(caller, moment, op),
             Command::Commit => self.prepare_commit(caller, moment),
         }
@@ -166,15 +170,92 @@ impl Core {
         step(caller, moment, Effect::Enter(mode), Reply::Entered(mode))
     }
 
-    fn prepare_show(&self, caller: u32, moment: Moment) -> Result<Prepared, NoMemory>
+    // The text of what words name, or the refusal of words behind it.
+    fn shown(
+        &self,
+        caller: u32,
+        moment: Moment,
+        tree: &Tree,
+        form: Form,
+        target: Target,
+    ) -> Result<Prepared, NoMemory>
         requires { IsCaller self.now caller }
-        ensures { IfOk result (Prepares self.now (Serves (later self.now moment) caller Command.ShowActive)) }
+        ensures { IfOk result (Prepares self.now (λ turned. turned ≡ shown_of (later self.now moment) tree.now form target)) }
+    {
+        if !target.words.as_slice().is_empty() {
+            return Ok(refused(caller, moment, Refusal::Extra(target.path)));
+        }
+        let text = text_as(self.alloc, form, tree, &target.path)?;
+        Ok(step(caller, moment, Effect::Stay, Reply::Text(text)))
+    }
+
+    // The refusal of words that name no statement.
+    fn lost(&self, caller: u32, moment: Moment, why: WordsFault) -> Result<Prepared, NoMemory>
+        requires { IsCaller self.now caller }
+        ensures { IfOk result (Prepares self.now (λ turned. (level : List Step) (asked : List (List ℕ)) → ResolvesTo level asked (Err why)
+            → IsLost (later self.now moment) level asked turned)) }
+    {
+        let refusal = refusal_of(EditFault::from(why)).ok_or(NoMemory)?;
+        Ok(refused(caller, moment, refusal))
+    }
+
+    // A show of statements from a level on.
+    fn shows(
+        &self,
+        caller: u32,
+        moment: Moment,
+        tree: &Tree,
+        level: &Path,
+        words: &Words,
+        form: Form,
+    ) -> Result<Prepared, NoMemory>
+        requires caller { IsCaller self.now caller }
+        requires level { IsLevelPath level.now }
+        ensures { IfOk result (Prepares self.now (Shows (later self.now moment) tree.now level.now words.now form)) }
+    {
+        if words.as_slice().is_empty() {
+            let text = text_as(self.alloc, form, tree, level)?;
+            return Ok(step(caller, moment, Effect::Stay, Reply::Text(text)));
+        }
+        match resolve(self.alloc, level, words) {
+            Ok(target) => self.shown(caller, moment, tree, form, target),
+            Err(why) => self.lost(caller, moment, why),
+        }
+    }
+
+    fn prepare_show_active(
+        &self,
+        caller: u32,
+        moment: Moment,
+        words: &Words,
+        form: Form,
+    ) -> Result<Prepared, NoMemory>
+        requires { IsCaller self.now caller }
+        ensures { IfOk result (Prepares self.now (Serves (later self.now moment) caller (Command.ShowActive words.now form))) }
     {
         if self.is_configuring(caller) {
             return Ok(refused(caller, moment, Refusal::WrongMode));
         }
-        let text = text_of(self.alloc, &self.ledger.last().tree)?;
-        Ok(step(caller, moment, Effect::Stay, Reply::Text(text)))
+        let top = Position::top(self.alloc);
+        let active = &self.ledger.last().tree;
+        self.shows(caller, moment, active, top.level(), words, form)
+    }
+
+    fn prepare_show(
+        &self,
+        caller: u32,
+        moment: Moment,
+        words: &Words,
+        form: Form,
+    ) -> Result<Prepared, NoMemory>
+        requires { IsCaller self.now caller }
+        ensures { IfOk result (Prepares self.now (Serves (later self.now moment) caller (Command.Show words.now form))) }
+    {
+        if !self.is_configuring(caller) {
+            return Ok(refused(caller, moment, Refusal::WrongMode));
+        }
+        let level = self.session(caller).position.level();
+        self.shows(caller, moment, &self.candidate, level, words, form)
     }
 
     fn prepare_logout(&self, caller: u32, moment: Moment) -> Prepared
@@ -206,10 +287,7 @@ impl Core {
         }
         match resolve(self.alloc, self.session(caller).position.level(), words) {
             Ok(target) => self.edited(caller, moment, target.path),
-            Err(why) => {
-                let refusal = refusal_of(EditFault::from(why)).ok_or(NoMemory)?;
-                Ok(refused(caller, moment, refusal))
-            }
+            Err(why) => self.lost(caller, moment, why),
         }
     }
 
@@ -291,17 +369,6 @@ impl Core {
         if !self.is_configuring(caller) {
             return Ok(refused(caller, moment, Refusal::WrongMode));
         }
-        match least_unprinted(self.alloc, &self.candidate)? {
-            Some(path) => Ok(refused(caller, moment, Refusal::Unprinted(path))),
-            None => self.committed(caller, moment),
-        }
-    }
-
-    // A commit of a candidate that can be printed.
-    fn committed(&self, caller: u32, moment: Moment) -> Result<Prepared, NoMemory>
-        requires { IsCaller self.now caller }
-        ensures { IfOk result (Prepares self.now (λ turned. turned ≡ committed (later self.now moment) caller)) }
-    {
         if self.ledger.count() >= MAX_ENTRIES {
             return Ok(refused(caller, moment, Refusal::Exhausted));
         }

@@ -2,8 +2,8 @@
 //!
 //! Guarantees: `prepare` then `accept` is exactly one step of the machine (specs/Machine.antt);
 //! `prepare` changes nothing and takes all memory, `accept` can't fail and takes none.
-//! Leaves to others: which statement words name (`cfg_tree`), what a change makes of the statements (`edit_ops`), where
-//! events come from and what is kept of them (`session_history`, `service`), and how a reply is written.
+//! Leaves to others: which statement words name (`cfg_tree`), what a change makes of the statements (`edit_ops`), how they
+//! are printed (`curly_text`, `set_text`), where events come from and what is kept of them (`session_history`, `service`), and how a reply is written.
 #![tactic(auto)]
 
 mod caller;
@@ -15,11 +15,9 @@ mod laws;
 mod ledger;
 mod position;
 mod prepared;
-mod printing;
 mod refusing;
 mod reply;
-mod shown;
-mod unprinted;
+mod showing;
 
 pub use caller::Caller;
 pub use commit::{Commit, Via};

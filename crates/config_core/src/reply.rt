@@ -21,8 +21,6 @@ pub enum Refusal {
     Protected(Path),
     /// There would be more than 16384 statements.
     TooMany,
-    /// The candidate has this statement, which can't be printed so far.
-    Unprinted(Path),
     /// The list of entries is full.
     Exhausted,
 }

@@ -2,13 +2,15 @@
 
 ghost use Rattle.cfg_tree.specs.Resolve.{IsLevelPath};
 
-use crate::answers::{put_bytes, put_path, say, say_number, say_path};
+use crate::answers::{put_bytes, put_path, say, say_number, say_path, say_text};
 use crate::fault::Fault;
 use crate::level::resolved;
 use crate::words::{Arg, words_of};
-use cfg_base::{Op, Path, Value, WordList, Words};
+use cfg_base::{Form, Op, Path, Value, WordList, Words};
 use cfg_tree::Tree;
+use curly_text::print;
 use edit_ops::{EditFault, apply};
+use set_text::print_lines;
 use std::alloc::Global;
 
 /// The change of that name.
@@ -138,6 +140,23 @@ fn ask_next(alloc: Global, tree: &Tree, args: &[Arg], out: &mut String) -> Resul
     }
 }
 
+/// print WORDS.., print_lines WORDS..: the text below what the words name
+fn ask_print(
+    alloc: Global,
+    tree: &Tree,
+    form: Form,
+    args: &[Arg],
+    out: &mut String,
+) -> Result<(), Fault> {
+    let path = path_named(alloc, args)?;
+    let text = match form {
+        Form::Curly => print(alloc, tree, &path)?,
+        Form::SetLines => print_lines(alloc, tree, &path)?,
+    };
+    say_text(out, text.as_slice())?;
+    say(out, "end")
+}
+
 /// Answers a look at the tree, and tells whether the call is one.
 pub(crate) fn look(
     alloc: Global,
@@ -152,6 +171,8 @@ pub(crate) fn look(
         "value" => ask_value(alloc, tree, args, out)?,
         "children" => ask_children(alloc, tree, args, out)?,
         "next" => ask_next(alloc, tree, args, out)?,
+        "print" => ask_print(alloc, tree, Form::Curly, args, out)?,
+        "print_lines" => ask_print(alloc, tree, Form::SetLines, args, out)?,
         _ => return Ok(false),
     }
     Ok(true)

@@ -4,7 +4,7 @@ use crate::answers::{say, say_number, say_words};
 use crate::fault::Fault;
 use cfg_base::{Command, Mode, Op};
 
-fn say_change(out: &mut String, op: &Op) -> Result<(), Fault> {
+pub(crate) fn say_change(out: &mut String, op: &Op) -> Result<(), Fault> {
     match op {
         Op::Set(words) => say_words(out, "set", words.as_slice()),
         Op::Delete(words) => say_words(out, "delete", words.as_slice()),

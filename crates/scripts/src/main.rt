@@ -31,6 +31,7 @@ mod runs;
 mod script;
 mod stage;
 mod steps;
+mod text_calls;
 mod value_calls;
 mod words;
 

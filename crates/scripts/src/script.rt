@@ -9,7 +9,9 @@ use crate::runs::{ask_output, ask_run};
 use crate::stage::Stage;
 use crate::steps::{Machine, ask_step};
 use crate::words::{Arg, args_of, bytes_of, first_and_rest, number, words_of};
-use crate::{base_calls, input_calls, kept, profile_calls, puts, record_calls, value_calls};
+use crate::{
+    base_calls, input_calls, kept, profile_calls, puts, record_calls, text_calls, value_calls,
+};
 use cfg_tree::Tree;
 use std::alloc::{AllocError, Global};
 use std::mem;
@@ -26,6 +28,8 @@ pub(crate) struct Script {
     kept: Vec<Tree>,
     /// The words of the level from which changes are read.
     level: Vec<Arg>,
+    /// The text that is read by calls that have none.
+    text: Vec<u8>,
     stage: Stage,
     machine: Machine,
 }
@@ -59,6 +63,7 @@ impl Script {
             other: Tree::empty(alloc),
             kept: Vec::new(alloc),
             level: Vec::new(alloc),
+            text: Vec::new(alloc),
             stage: Stage::new(alloc),
             machine: Machine::new(alloc).map_err(|_| AllocError)?,
         })
@@ -88,6 +93,10 @@ impl Script {
 
     /// Answers a call of what the script keeps.
     fn call_kept(&mut self, name: &str, args: &[Arg], out: &mut String) -> Result<bool, Fault> {
+        if name == "parse_front" {
+            text_calls::ask_front(self.alloc, &mut self.tree, &self.text, args, out)?;
+            return Ok(true);
+        }
         if input_calls::is_call(name) {
             let stage = self.taken_stage();
             input_calls::ask(self.alloc, stage, name, args, out)?;
@@ -161,6 +170,24 @@ impl Script {
         }
     }
 
+    /// text LINE and text_part LINE: more of the text, with an LF behind it or without
+    fn add_text(&mut self, line: &str, end: &[u8]) -> Result<(), Fault> {
+        let bytes = bytes_of(self.alloc, line)?;
+        self.text.extend_from_slice(&bytes)?;
+        self.text.extend_from_slice(end)?;
+        Ok(())
+    }
+
+    /// A call that reads a text: the one behind it, or the one that is kept, in whose place stands none.
+    fn read_text(&mut self, name: &str, rest: &str, out: &mut String) -> Result<(), Fault> {
+        let text = if rest.is_empty() {
+            mem::replace(&mut self.text, Vec::new(self.alloc))
+        } else {
+            bytes_of(self.alloc, rest)?
+        };
+        text_calls::ask(self.alloc, &mut self.tree, name, &text, out)
+    }
+
     /// What a line answers that is no `each`.
     fn answer_once<R: Threads + Wait + Sync>(
         &mut self,
@@ -172,6 +199,9 @@ impl Script {
         match name {
             "line" => self.stage.add_line(bytes_of(self.alloc, rest)?)?,
             "piece" => self.stage.add_piece(bytes_of(self.alloc, rest)?)?,
+            "text" => self.add_text(rest, b"\n")?,
+            "text_part" => self.add_text(rest, b"")?,
+            "tokens" | "parse" | "parse_lines" => self.read_text(name, rest, &mut out)?,
             "read_line" => ask_line(self.alloc, rest, &mut out)?,
             "run" | "run_output" => self.run(rt, name, rest, &mut out)?,
             "step" => ask_step(self.alloc, &mut self.machine, rest, &mut out)?,
