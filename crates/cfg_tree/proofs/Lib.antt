@@ -31,3 +31,6 @@ mod GatherLemmas
 mod GatheredLemmas
 mod JoinLemmas
 mod ExcessLemmas
+mod NamingLemmas
+pub mod LimitLemmas
+pub mod StatedLemmas

@@ -1,5 +1,5 @@
 -- A put keeps what holds of a tree's statements.
-use Rattle.std.proofs.Common.{◌≡◌, ◌≢◌, ℕ, ◌≤◌, Bool, true, false, ◌&&◌, ◌||◌, List, [], ◌∷◌, ◌++◌, length, refl, sym, ap, subst, ◌∙◌, Option, Some, None, is_some, is_none, option_map, arith, if◌then◌else◌}
+use Rattle.std.proofs.Common.{◌≡◌, ◌≢◌, ℕ, Bool, true, false, ◌&&◌, ◌||◌, List, [], ◌∷◌, ◌++◌, length, refl, sym, ap, subst, ◌∙◌, Option, Some, None, is_some, is_none, option_map, arith, if◌then◌else◌}
 use Rattle.std.specs.Prelude.{IsSome}
 use Rattle.std.specs.FinMap as map
 use Rattle.std.specs.Cmp.{IsEquivalence, nat_eq_equiv}
@@ -11,10 +11,9 @@ use Rattle.cfg_schema.specs.declared.place.Place.{Place}
 use Rattle.cfg_schema.specs.Profile.{same_word}
 use Rattle.cfg_schema.specs.Place.{place_of}
 use Rattle.cfg_schema.proofs.TestLemmas.{both, same, same_is}
-use Rattle.cfg_tree.specs.declared.limit.TheConstants.{MAX_STATEMENTS}
-use Rattle.cfg_tree.specs.Statements.{Statements, size_of, parent_of, last_of, HasParent}
+use Rattle.cfg_tree.specs.Statements.{Statements, parent_of, last_of, HasParent}
 use Rattle.cfg_tree.specs.Typed.{IsTypedPath, AreWordsOf}
-use Rattle.cfg_tree.specs.Tree.{ordered_head, step_of, lists, IsOrderBy, IsOrderOf, IsTree}
+use Rattle.cfg_tree.specs.Tree.{ordered_head, step_of, lists, IsOrderBy, IsOrderOf, IsStatementMap, IsTyped}
 use Rattle.cfg_tree.specs.Change.{has_head, is_ordered, put_last, IsReady, Fits}
 use Rattle.cfg_tree.proofs.PathLemmas.{split, same_ends, child_differs, same_or_not, renamed}
 
@@ -48,10 +47,9 @@ pub record Puts (m n : Statements) (path : List Step) (value : Value) (adds : Bo
   pub here : map.get n path ≡ Some value
   pub others : (q : List Step) → q ≢ path → q ≢ parent_of path → map.get n q ≡ map.get m q
   pub parent : map.get n (parent_of path) ≡ option_map (renamed (if adds then put_last (last_of path).name else (λ names. names))) (map.get m (parent_of path))
-  pub size : size_of n ≤ MAX_STATEMENTS
 
 module _ (m n : Statements) (path : List Step) (value : Value) (adds : Bool)
-    (tree : IsTree m) (ready : IsReady m path value) (fits : Fits path value) (put : Puts m n path value adds)
+    (statements : IsStatementMap m) (typed : IsTyped m) (ready : IsReady m path value) (fits : Fits path value) (put : Puts m n path value adds)
     (adds_is : adds ≡ (is_none (map.get m path) && is_ordered path)) where
   path_is : path ≡ parent_of path ++ last_of path ∷ []
   path_is = split path ready.parent.steps
@@ -87,7 +85,7 @@ module _ (m n : Statements) (path : List Step) (value : Value) (adds : Bool)
       same_or_not q path (HasParent n q)
       (λ e. subst (λ (x : List Step). HasParent n x) (sym e)
       record { steps = ready.parent.steps; parent = λ long. stays _ (ready.parent.parent long) })
-      (λ differs. let old = tree.statements.parents q (was q differs h)
+      (λ differs. let old = statements.parents q (was q differs h)
       in record { steps = old.steps; parent = λ long. stays _ (old.parent long) })
 
   top_differs : [] ≢ path
@@ -98,7 +96,7 @@ module _ (m n : Statements) (path : List Step) (value : Value) (adds : Bool)
   nothing (Some v) e = cc
 
   top : map.get n [] ≡ None
-  top = nothing _ (there [] top_differs ∙ ap is_some tree.statements.top)
+  top = nothing _ (there [] top_differs ∙ ap is_some statements.top)
 
   -- the children of another path than the parent are there where they were
   others_children : (q : List Step) (s : Step) → q ≢ parent_of path → is_some (map.get n (q ++ s ∷ [])) ≡ is_some (map.get m (q ++ s ∷ []))
@@ -133,7 +131,7 @@ module _ (m n : Statements) (path : List Step) (value : Value) (adds : Bool)
   -- the names of the parent's ordered children, where the path is no new one of them
   kept_names : (w : Value) → adds ≡ false → map.get m (parent_of path) ≡ Some w → IsOrderOf n (parent_of path) w.order
   kept_names w no_more e =
-      order_same m n (parent_of path) (ordered_head (place_of (parent_of path))) w.order (kept_child no_more) (tree.statements.orders _ w e)
+      order_same m n (parent_of path) (ordered_head (place_of (parent_of path))) w.order (kept_child no_more) (statements.orders _ w e)
 
   or_true : (a b : Bool) → b ≡ true → (a || b) ≡ true
   or_true true b h = refl
@@ -180,7 +178,7 @@ module _ (m n : Statements) (path : List Step) (value : Value) (adds : Bool)
   more_names : (w : Value) → adds ≡ true → map.get m (parent_of path) ≡ Some w → IsOrderOf n (parent_of path) (put_last (last_of path).name w.order)
   more_names w more e =
       let parts = both (is_none (map.get m path)) _ (sym adds_is ∙ more)
-      in more_by w _ refl parts.0 parts.1 (tree.statements.orders _ w e)
+      in more_by w _ refl parts.0 parts.1 (statements.orders _ w e)
 
   same_some : (v w : Value) → Some v ≡ Some w → v ≡ w
   same_some v w e = cc
@@ -207,20 +205,20 @@ module _ (m n : Statements) (path : List Step) (value : Value) (adds : Bool)
       (λ is_parent. subst (λ (x : List Step). IsOrderOf n x v.order) (sym is_parent) (order_parent v (subst (λ (x : List Step). map.get n x ≡ Some v) is_parent e)))
       (λ not_parent. order_same m n q (ordered_head (place_of q)) v.order
       (λ name h _. others_children q (step_of h name) not_parent)
-      (tree.statements.orders q v (sym (put.others q differs not_parent) ∙ e))))
+      (statements.orders q v (sym (put.others q differs not_parent) ∙ e))))
 
   paths : (q : List Step) → IsSome (map.get n q) → IsTypedPath q
   paths q h =
       same_or_not q path (IsTypedPath q)
       (λ e. subst (λ (x : List Step). IsTypedPath x) (sym e) fits.typed)
-      (λ differs. tree.typed.paths q (was q differs h))
+      (λ differs. typed.paths q (was q differs h))
 
   words_by : (v : Value) (o : Option Value) (here : Place) → map.get m (parent_of path) ≡ o
       → option_map (renamed (if adds then put_last (last_of path).name else (λ names. names))) o ≡ Some v
       → place_of (parent_of path) ≡ Some here → AreWordsOf here.row v.words
   words_by v None here e g placed = cc
   words_by v (Some w) here e g placed =
-      subst (λ (x : Value). AreWordsOf here.row x.words) (same_some _ _ g) (tree.typed.words (parent_of path) w here e placed)
+      subst (λ (x : Value). AreWordsOf here.row x.words) (same_some _ _ g) (typed.words (parent_of path) w here e placed)
 
   words : (q : List Step) (v : Value) (here : Place) → map.get n q ≡ Some v → place_of q ≡ Some here → AreWordsOf here.row v.words
   words q v here e placed =
@@ -233,11 +231,10 @@ module _ (m n : Statements) (path : List Step) (value : Value) (adds : Bool)
       (λ is_parent. words_by v _ here refl
       (sym put.parent ∙ ap (λ (x : List Step). map.get n x) (sym is_parent) ∙ e)
       (ap (λ (x : List Step). place_of x) (sym is_parent) ∙ placed))
-      (λ not_parent. tree.typed.words q v here (sym (put.others q differs not_parent) ∙ e) placed))
+      (λ not_parent. typed.words q v here (sym (put.others q differs not_parent) ∙ e) placed))
 
-  pub put_keeps : IsTree n
-  put_keeps = record {
-    statements = record { top = top; parents = parents; orders = orders };
-    typed = record { paths = paths; words = words };
-    few = put.size;
-  }
+  pub put_statements : IsStatementMap n
+  put_statements = record { top = top; parents = parents; orders = orders }
+
+  pub put_typed : IsTyped n
+  put_typed = record { paths = paths; words = words }

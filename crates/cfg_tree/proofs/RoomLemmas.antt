@@ -1,5 +1,5 @@
 -- Whether there is room, and that a tree stays one.
-use Rattle.std.proofs.Common.{◌≡◌, ℕ, zero, suc, ◌+◌, ◌-◌, ◌<◌, ◌≤◌, nat_le, Bool, true, false, not, List, length, refl, sym, ap, subst, ◌∙◌, Option, Some, None, is_some, is_none, arith, rules, Fits, w32, take}
+use Rattle.std.proofs.Common.{◌≡◌, ℕ, zero, suc, ◌+◌, ◌-◌, ◌<◌, ◌≤◌, nat_le, Bool, true, false, not, ◌&&◌, List, length, refl, sym, ap, subst, ◌∙◌, Option, Some, None, is_some, is_none, arith, rules, Fits, w32, take}
 use Rattle.std.specs.FinMap as map
 use Rattle.cfg_entries.specs.EntryMap.{EntryMap, IsOrdered, is_at}
 use Rattle.std.specs.Map.{lookup}
@@ -11,12 +11,12 @@ use Rattle.cfg_tree.specs.Statements.{Statements, size_of, parent_of}
 use Rattle.cfg_tree.specs.Shown.{shown}
 use Rattle.cfg_tree.specs.Typed.{IsTypedPath}
 use Rattle.cfg_tree.specs.Tree.{IsTree}
-use Rattle.cfg_tree.specs.Change.{put_at, cleared, removed, IsReady, IsAlmostFit, IsPut}
+use Rattle.cfg_tree.specs.Change.{put_at, is_ordered, cleared, removed, IsReady, IsAlmostFit, IsPut}
 use Rattle.cfg_tree.specs.Change as change
 use Rattle.cfg_tree.proofs.MapLemmas.{get_is, len_is}
-use Rattle.cfg_tree.proofs.PutLemmas.{put_keeps}
+use Rattle.cfg_tree.proofs.PutLemmas.{Puts, put_statements, put_typed}
 use Rattle.cfg_tree.proofs.RemoveLemmas.{remove_keeps}
-use Rattle.cfg_tree.proofs.StepLemmas.{puts, removes, size-removed}
+use Rattle.cfg_tree.proofs.StepLemmas.{puts, put_few, removes, size-removed}
 
 none_some : (o : Option Value) → not (is_some o) ≡ is_none o
 none_some None = refl
@@ -57,8 +57,14 @@ almost m path value tree ready = record {
 pub put_tree : (m n : Statements) (path : List Step) (value : Value) → IsTree m → IsReady m path value → change.Fits path value
     → (map.get m path ≡ None → size_of m < MAX_STATEMENTS) → n ≡ put_at m path value → IsTree n
 put_tree m n path value tree ready fits room e =
-    subst (λ (x : Statements). IsTree x) (sym e)
-    (put_keeps m (put_at m path value) path value _ tree ready fits (puts m path value ready.parent.steps tree room) refl)
+    subst (λ (x : Statements). IsTree x) (sym e) record {
+      statements = put_statements m (put_at m path value) path value _ tree.statements tree.typed ready fits left refl;
+      typed = put_typed m (put_at m path value) path value _ tree.statements tree.typed ready fits left refl;
+      few = put_few m path value tree.few room;
+    }
+  where
+    left : Puts m (put_at m path value) path value (is_none (map.get m path) && is_ordered path)
+    left = puts m path value ready.parent.steps
 
 pub removed_tree : (m n : Statements) (path : List Step) (count : ℕ) → IsTree m → n ≡ removed m path → count + size_of n ≡ size_of m → IsTree n
 removed_tree m n path count tree e counted =

@@ -9,7 +9,6 @@ use Rattle.cfg_tree.specs.declared.reorder.Change.{Change}
 use Rattle.cfg_tree.specs.declared.reorder.Change.TheVariants.{Last, Without}
 use Rattle.cfg_tree.specs.declared.reorder.Reorder.{Reorder}
 use Rattle.cfg_tree.specs.Statements.{Statements, size_of, parent_of, last_of, is_below}
-use Rattle.cfg_tree.specs.Tree.{IsTree}
 use Rattle.cfg_tree.specs.Change.{with_order, with_order_of, is_ordered, put_last, without, listed, put_at, cleared, removed}
 use Rattle.cfg_tree.specs.Renaming.{changed, IsReorderBy, IsListing, reordered_by}
 use Rattle.cfg_tree.proofs.MapLemmas.{path_same}
@@ -35,36 +34,43 @@ unchanged : (o : Option Value) → o ≡ option_map (renamed (λ names. names)) 
 unchanged None = refl
 unchanged (Some v) = refl
 
-put_size : (m : Statements) (path : List Step) (v : Value) → size_of m ≤ MAX_STATEMENTS → (map.get m path ≡ None → size_of m < MAX_STATEMENTS)
-    → size_of (map.insert m path v) ≤ MAX_STATEMENTS
-put_size m path v few room =
-    subst (λ (k : ℕ). k ≤ MAX_STATEMENTS) (sym (map.len-insert paths_total m path v)) (by_value _ refl)
-  where
-    by_value : (o : Option Value) → map.get m path ≡ o → cond (is_some o) (map.len m) (map.len m + 1) ≤ MAX_STATEMENTS
-    by_value None e = let below = room e in omega (arith, below)
-    by_value (Some w) e = few
-
-put_by : (m : Statements) (path : List Step) (value : Value) → 0 < length path → IsTree m → (map.get m path ≡ None → size_of m < MAX_STATEMENTS)
+put_by : (m : Statements) (path : List Step) (value : Value) → 0 < length path
     → (b : Bool) → Puts m (if b then with_order (map.insert m path value) (parent_of path) (put_last (last_of path).name) else map.insert m path value) path value b
-put_by m path value long tree room true = record {
+put_by m path value long true = record {
   here = order_other _ (parent_of path) path _ (differs_from_parent path long) ∙ get_here m path value;
   others = λ q d e. order_other _ (parent_of path) q _ e ∙ get_other m path q value d;
   parent =
       order_at _ (parent_of path) _
       ∙ ap (option_map (renamed (put_last (last_of path).name))) (get_other m path (parent_of path) value (λ e. differs_from_parent path long (sym e)));
-  size = subst (λ (k : ℕ). k ≤ MAX_STATEMENTS) (sym (size-order _ (parent_of path) _)) (put_size m path value tree.few room);
 }
-put_by m path value long tree room false = record {
+put_by m path value long false = record {
   here = get_here m path value;
   others = λ q d e. get_other m path q value d;
   parent = get_other m path (parent_of path) value (λ e. differs_from_parent path long (sym e)) ∙ unchanged (map.get m (parent_of path));
-  size = put_size m path value tree.few room;
 }
 
 -- what a put leaves
-pub puts : (m : Statements) (path : List Step) (value : Value) → 0 < length path → IsTree m → (map.get m path ≡ None → size_of m < MAX_STATEMENTS)
+pub puts : (m : Statements) (path : List Step) (value : Value) → 0 < length path
     → Puts m (put_at m path value) path value (is_none (map.get m path) && is_ordered path)
-puts m path value long tree room = put_by m path value long tree room (is_none (map.get m path) && is_ordered path)
+puts m path value long = put_by m path value long (is_none (map.get m path) && is_ordered path)
+
+-- a put of a new path adds a statement, and any other none
+pub size-put : (m : Statements) (path : List Step) (value : Value) → size_of (put_at m path value) ≡ cond (is_some (map.get m path)) (size_of m) (size_of m + 1)
+size-put m path value = by_order (is_none (map.get m path) && is_ordered path) ∙ map.len-insert paths_total m path value
+  where
+    by_order : (b : Bool)
+        → size_of (if b then with_order (map.insert m path value) (parent_of path) (put_last (last_of path).name) else map.insert m path value)
+        ≡ size_of (map.insert m path value)
+    by_order true = size-order (map.insert m path value) (parent_of path) _
+    by_order false = refl
+
+pub put_few : (m : Statements) (path : List Step) (value : Value) → size_of m ≤ MAX_STATEMENTS → (map.get m path ≡ None → size_of m < MAX_STATEMENTS)
+    → size_of (put_at m path value) ≤ MAX_STATEMENTS
+put_few m path value few room = subst (λ (k : ℕ). k ≤ MAX_STATEMENTS) (sym (size-put m path value)) (by_value _ refl)
+  where
+    by_value : (o : Option Value) → map.get m path ≡ o → cond (is_some o) (map.len m) (map.len m + 1) ≤ MAX_STATEMENTS
+    by_value None e = let below = room e in omega (arith, below)
+    by_value (Some w) e = few
 
 -- a change of the parent's order that was made of the map before is one of the map after
 reorder_some : (n : Statements) (parent : List Step) (f : List (List ℕ) → List (List ℕ)) (v : Value) (names : List (List ℕ))

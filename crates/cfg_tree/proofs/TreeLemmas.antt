@@ -17,7 +17,7 @@ nothing_there q h = let e = map.get-empty {X = Value} path_cmp q in let k = subs
 nothing_at : (q : List Step) (v : Value) → map.get (map.empty {X = Value} {R = path_cmp}) q ≡ Some v → ⊥
 nothing_at q v h = let e = map.get-empty {X = Value} path_cmp q in cc
 
-nothing_is : IsTree (map.empty {X = Value} {R = path_cmp})
+pub nothing_is : IsTree (map.empty {X = Value} {R = path_cmp})
 nothing_is = record {
   statements = record {
     top = map.get-empty {X = Value} path_cmp [];

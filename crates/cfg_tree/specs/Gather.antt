@@ -1,5 +1,5 @@
 -- Statements in the order in which they are met, and the map that they make. Junos OS CLI User Guide, on load merge.
-use Rattle.std.specs.Prelude.{◌≡◌, ℕ, ◌+◌, true, false, Bool, ◌||◌, List, [], ◌∷◌, ◌++◌, take, drop, Option, Some, None, is_some, if◌then◌else◌}
+use Rattle.std.specs.Prelude.{◌≡◌, ℕ, true, false, Bool, ◌||◌, List, [], ◌∷◌, ◌++◌, Option, Some, None, if◌then◌else◌}
 use Rattle.std.specs.FinMap as map
 use Rattle.std.specs.FinMap.{put}
 use Rattle.std.specs.List.{AllByRecursion}
@@ -7,7 +7,6 @@ use Rattle.std.specs.Map.{lookup, keys_of}
 use Rattle.std.specs.List.Sorted.{IsStrictlySortedBy}
 use Rattle.std.specs.BTreeMap.{is_at}
 use Rattle.std.specs.Ordering.{is_le, eq_by_cmp}
-use Rattle.std.specs.BTreeSet.{BTreeSet, contains}
 use Rattle.cfg_base.specs.Order.{path_cmp}
 use Rattle.cfg_base.specs.Words.{joined}
 use Rattle.cfg_base.specs.declared.kind.Shape.{Shape}
@@ -20,12 +19,8 @@ use Rattle.cfg_schema.specs.Place.{place_of}
 use Rattle.cfg_entries.specs.EntryMap.{Pair}
 use Rattle.cfg_tree.specs.declared.gather.GatherFault.{GatherFault}
 use Rattle.cfg_tree.specs.declared.gather.GatherFault.TheVariants.{TooMany, NoMemory}
-use Rattle.cfg_tree.specs.declared.limit.TheConstants.{MAX_STATEMENTS}
-use Rattle.cfg_tree.specs.Statements.{Statements, size_of}
-
--- the set has exactly the paths of a map
-abbrev pub KnowsPaths : Statements → BTreeSet (List Step) → Type 0
-KnowsPaths m known = (path : List Step) → contains path_cmp known path ≡ is_some (map.get m path)
+use Rattle.cfg_tree.specs.Statements.{Statements}
+use Rattle.cfg_tree.specs.Limit.{paths_of, IsPathPast}
 
 abbrev pub is_many : Shape → Bool
 is_many Container = false
@@ -76,16 +71,9 @@ gathered m (item ∷ items) = gathered (gathered_one m item) items
 abbrev pub gathered_from_none : List (Pair Value) → Statements
 gathered_from_none items = gathered (map.empty {R = path_cmp}) items
 
--- the item at this place would be one statement more than a tree has
-pub record IsExcess (items : List (Pair Value)) (at : ℕ) : Type 0 where
-  pub item : Pair Value
-  pub here : drop at items ≡ item ∷ drop (at + 1) items
-  pub full : size_of (gathered_from_none (take at items)) ≡ MAX_STATEMENTS
-  pub new : map.get (gathered_from_none (take at items)) item.0 ≡ None
-
--- why the statements make no tree: they are too many
+-- why the statements make no tree: they have more paths than a tree has statements
 abbrev pub IsGatherFault : List (Pair Value) → GatherFault → Type 0
-IsGatherFault items (TooMany at) = IsExcess items at
+IsGatherFault items (TooMany at) = IsPathPast (paths_of items) at
 IsGatherFault items NoMemory = Unit {0}
 
 -- the same of a list of entries

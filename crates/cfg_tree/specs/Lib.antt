@@ -3,6 +3,7 @@ pub mod Shown
 pub mod Typed
 pub mod Tree
 pub mod Change
+pub mod Limit
 pub mod Gather
 pub mod Children
 pub mod After
@@ -10,3 +11,4 @@ pub mod Resolve
 pub mod OwnWords
 pub mod Renaming
 pub mod Stated
+pub mod Naming

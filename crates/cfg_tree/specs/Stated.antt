@@ -1,17 +1,14 @@
 -- Statements as a text says them, one after another, and the map that they make. Junos OS CLI User Guide, on configuration statements
 -- and on load.
-use Rattle.std.specs.Prelude.{◌≡◌, ◌<◌, ◌+◌, ℕ, List, [], ◌∷◌, length, map, take, if◌then◌else◌}
-use Rattle.std.specs.List.{list_any}
+use Rattle.std.specs.Prelude.{◌≡◌, List, [], ◌∷◌}
 use Rattle.std.specs.FinMap as finite
-use Rattle.std.specs.Ordering.{eq_by_cmp}
 use Rattle.cfg_base.specs.Order.{path_cmp}
-use Rattle.cfg_base.specs.declared.path.Step.{Step}
 use Rattle.cfg_base.specs.declared.value.Value.{Value}
 use Rattle.cfg_entries.specs.EntryMap.{Pair}
-use Rattle.cfg_tree.specs.declared.limit.TheConstants.{MAX_STATEMENTS}
 use Rattle.cfg_tree.specs.Statements.{Statements, HasParent}
 use Rattle.cfg_tree.specs.Change.{put_at, Fits}
 use Rattle.cfg_tree.specs.Gather.{joined_at}
+pub use Rattle.cfg_tree.specs.Limit.{paths_of, different, IsPathPast}
 
 -- the map with one more statement, joined to what its path has; the name of a new ordered child goes last
 abbrev pub stated_one : Statements → Pair Value → Statements
@@ -37,14 +34,3 @@ pub record IsSaid (m : Statements) (item : Pair Value) : Type 0 where
 abbrev pub AreSaid : Statements → List (Pair Value) → Type 0
 AreSaid m [] = Unit {0}
 AreSaid m (item ∷ items) = IsSaid m item × AreSaid (stated_one m item) items
-
--- how many different paths there are
-abbrev pub different : List (List Step) → ℕ
-different [] = 0
-different (path ∷ paths) = (if list_any (eq_by_cmp path_cmp path) paths then 0 else 1) + different paths
-
--- the path at this place would be the statement past the limit: there are as many different ones before it as a tree has, and it is another
-pub record IsPathPast (paths : List (List Step)) (at : ℕ) : Type 0 where
-  pub within : at < length paths
-  pub full : different (take at paths) ≡ MAX_STATEMENTS
-  pub new : different (take (at + 1) paths) ≡ MAX_STATEMENTS + 1

@@ -1,4 +1,4 @@
-//! Whether statements are more than a tree has.
+//! Whether statements have more paths than a tree has statements.
 
 ghost use Rattle.std.specs.Prelude.{◌≡◌, ◌≤◌, List, true, not, cond, IfOk, OnOk, MatchOption};
 ghost use Rattle.std.specs.BTreeSet as set;
@@ -6,8 +6,7 @@ ghost use Rattle.std.specs.Ordering.{eq_by_cmp};
 ghost use Rattle.cfg_base.specs.Order.{path_cmp};
 ghost use Rattle.cfg_base.specs.declared.path.Step.{Step};
 ghost use Rattle.cfg_tree.specs.declared.limit.TheConstants.{MAX_STATEMENTS};
-ghost use Rattle.cfg_tree.specs.Statements.{size_of};
-ghost use Rattle.cfg_tree.specs.Gather.{gathered_from_none, IsExcess};
+ghost use Rattle.cfg_tree.specs.Limit.{paths_of, different, IsPathPast};
 
 use crate::limit::MAX_STATEMENTS;
 use cfg_base::{NoMemory, Path, Value};
@@ -22,9 +21,12 @@ fn learn(known: &mut BTreeSet<Path>, path: &Path) -> Result<bool, NoMemory>
     Ok(known.insert(path.clone()?)?)
 }
 
-/// The place of the first item that is one statement more than a tree has.
-pub fn excess(alloc: Global, items: &[(Path, Value)]) -> Result<Option<usize>, NoMemory>
-    ensures { IfOk result (λ place. MatchOption place (size_of (gathered_from_none items.now) ≤ MAX_STATEMENTS) (λ at. IsExcess items.now at)) }
+/// The place of the first item that would be one statement more than a tree has, where there is one.
+pub fn statement_past_limit(
+    alloc: Global,
+    items: &[(Path, Value)],
+) -> Result<Option<usize>, NoMemory>
+    ensures { IfOk result (λ place. MatchOption place (different (paths_of items.now) ≤ MAX_STATEMENTS) (IsPathPast (paths_of items.now))) }
 {
     let mut known = BTreeSet::new(alloc);
     let mut count = 0;

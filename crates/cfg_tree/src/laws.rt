@@ -1,6 +1,7 @@
-//! Words and puts have one answer each, a statement's own words name it, and a walk gathers its tree.
+//! Words and puts have one answer each, a statement's own words name it, a walk gathers its tree, and
+//! statements in turn make one.
 
-ghost use Rattle.std.specs.Prelude.{◌≡◌, ◌≢◌, ◌++◌, ℕ, List, [], Ok, Err, Result, Some};
+ghost use Rattle.std.specs.Prelude.{◌≡◌, ◌≢◌, ◌<◌, ◌≤◌, ◌++◌, ℕ, List, [], Ok, Err, Result, Some};
 ghost use Rattle.std.specs.FinMap as map;
 ghost use Rattle.cfg_base.specs.declared.path.Step.{Step};
 ghost use Rattle.cfg_tree.specs.declared.target.Target.{Target};
@@ -13,9 +14,12 @@ ghost use Rattle.cfg_tree.specs.Tree.{IsTree};
 ghost use Rattle.cfg_base.specs.declared.value.Value.{Value};
 ghost use Rattle.cfg_tree.specs.declared.fault.TreeFault.{TreeFault};
 ghost use Rattle.cfg_tree.specs.declared.fault.TreeFault.TheVariants as put;
-ghost use Rattle.cfg_tree.specs.Statements.{Statements};
+ghost use Rattle.cfg_tree.specs.Statements.{Statements, size_of};
 ghost use Rattle.cfg_tree.specs.Change.{IsPut, IsPutFault};
 ghost use Rattle.cfg_tree.specs.Gather.{gathered_from_none};
+ghost use Rattle.cfg_tree.specs.Limit.{paths_of, different, IsPathPast};
+ghost use Rattle.cfg_tree.specs.Stated.{stated_from_none, AreSaid};
+ghost use Rattle.cfg_entries.specs.EntryMap.{Pair};
 
 /// The limit that the clauses of this crate cite, by its number.
 pub fn limits_are_stated()
@@ -49,4 +53,18 @@ pub fn puts_have_one_answer()
 /// What a walk over a tree gives, gathered, is that tree.
 pub fn walks_gather_their_tree()
     ensures { (m : Statements) → gathered_from_none (map.entries m) ≡ m }
+{}
+
+/// Statements that may be said one after another make a tree, with a statement for each path, where these aren't too
+/// many.
+pub fn statements_make_a_tree()
+    ensures tree { (items : List (Pair Value)) → AreSaid map.empty items → different (paths_of items) ≤ MAX_STATEMENTS
+        → IsTree (stated_from_none items) }
+    ensures size { (items : List (Pair Value)) → size_of (stated_from_none items) ≡ different (paths_of items) }
+{}
+
+/// At most one of the paths is past the limit, and only where they are too many.
+pub fn one_path_is_past_the_limit()
+    ensures one_place { (paths : List (List Step)) (one other : ℕ) → IsPathPast paths one → IsPathPast paths other → one ≡ other }
+    ensures too_many { (paths : List (List Step)) (at : ℕ) → IsPathPast paths at → MAX_STATEMENTS < different paths }
 {}

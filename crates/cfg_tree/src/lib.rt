@@ -17,6 +17,7 @@ mod front;
 mod gather;
 mod laws;
 mod limit;
+mod naming;
 mod pending;
 mod reading;
 mod reorder;
@@ -27,11 +28,12 @@ mod tree;
 mod typed;
 mod walk;
 
+pub use excess::statement_past_limit;
 pub use fault::TreeFault;
 pub use gather::GatherFault;
 pub use laws::{
-    limits_are_stated, own_words_name_their_statement, puts_have_one_answer,
-    walks_gather_their_tree, words_have_one_answer,
+    limits_are_stated, one_path_is_past_the_limit, own_words_name_their_statement,
+    puts_have_one_answer, statements_make_a_tree, walks_gather_their_tree, words_have_one_answer,
 };
 pub use limit::MAX_STATEMENTS;
 pub use reading::resolve;

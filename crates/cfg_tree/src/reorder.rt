@@ -43,7 +43,8 @@ fn has_ordered_head(above: &[Step], last: &Step) -> bool
     }
 }
 
-fn is_ordered(path: &Path) -> bool
+/// Whether a path is that of a child of an ordered row.
+pub fn is_ordered(path: &Path) -> bool
     ensures is { result ≡ is_ordered path.now }
     ensures steps { IsTrue result → 0 < length path.now }
 {

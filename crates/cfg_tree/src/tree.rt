@@ -1,4 +1,4 @@
-ghost use Rattle.std.specs.Prelude.{◌≡◌, ◌+◌, ◌↔◌, OnOk, OnErr, IfOk, IfErr, IsTrue, MatchOption, [], ◌∷◌, ◌++◌, filter, is_some};
+ghost use Rattle.std.specs.Prelude.{◌≡◌, ◌≤◌, ◌+◌, ◌↔◌, OnOk, OnErr, IfOk, IfErr, IsTrue, MatchOption, [], ◌∷◌, ◌++◌, filter, is_some};
 ghost use Rattle.std.specs.Ordering.{eq_by_cmp, is_le};
 ghost use Rattle.cfg_base.specs.Order.{path_cmp, step_cmp};
 ghost use Rattle.cfg_base.specs.declared.path.Step.{Step};
@@ -7,6 +7,9 @@ ghost use Rattle.std.specs.FinMap as map;
 ghost use Rattle.cfg_tree.specs.Statements.{Statements, size_of};
 ghost use Rattle.cfg_tree.specs.Tree.{IsTree, IsStatementMap, IsTyped};
 ghost use Rattle.cfg_tree.specs.Gather.{gathered_from_none, IsGatherFault};
+ghost use Rattle.cfg_tree.specs.Limit.{paths_of, different};
+ghost use Rattle.cfg_tree.specs.Stated.{stated_from_none, AreSaid};
+ghost use Rattle.cfg_tree.specs.declared.limit.TheConstants.{MAX_STATEMENTS};
 ghost use Rattle.cfg_tree.specs.After.{IsNext, IsLast};
 ghost use Rattle.cfg_tree.specs.Children.{step_if, children_of};
 ghost use Rattle.cfg_tree.specs.Change.{put_at, removed, IsReady, IsPut, IsPutFault, IsOther};
@@ -14,9 +17,10 @@ ghost use Rattle.cfg_tree.specs.Change.{put_at, removed, IsReady, IsPut, IsPutFa
 use crate::after::next_in;
 use crate::change::{put_in, remove_in, replace_in};
 use crate::children::children_in;
-use crate::excess::excess;
+use crate::excess::statement_past_limit;
 use crate::fault::TreeFault;
 use crate::gather::{GatherFault, gathered_in};
+use crate::naming::with_names;
 use crate::steps::Steps;
 use crate::store::Entries;
 use crate::walk::Walk;
@@ -69,9 +73,25 @@ impl Tree {
         ensures ok { IfOk result (λ tree. tree ≡ gathered_from_none items.items) }
         ensures err { IfErr result (λ fault. IsGatherFault items.items fault) }
     {
-        if let Some(at) = excess(alloc, &items)? {
+        if let Some(at) = statement_past_limit(alloc, &items)? {
             return Err(GatherFault::TooMany(at));
         }
+        let statements = gathered_in(alloc, &older.statements, items)?;
+        Ok(Tree { alloc, statements })
+    }
+
+    /// The tree of statements in the order in which a text says them, each joined to what its path has. The
+    /// name of a new ordered child goes last. Statements that the older tree has too are shared with it.
+    pub fn of_statements(
+        alloc: Global,
+        older: &Tree,
+        items: Vec<(Path, Value)>,
+    ) -> Result<Tree, NoMemory>
+        requires said { AreSaid map.empty items.items }
+        requires few { different (paths_of items.items) ≤ MAX_STATEMENTS }
+        ensures { IfOk result (λ tree. tree ≡ stated_from_none items.items) }
+    {
+        let items = with_names(alloc, items)?;
         let statements = gathered_in(alloc, &older.statements, items)?;
         Ok(Tree { alloc, statements })
     }
