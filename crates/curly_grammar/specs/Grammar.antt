@@ -29,6 +29,7 @@ use Rattle.cfg_tree.specs.Stated.{stated_from_none}
 use Rattle.cfg_tree.specs.Tree.{step_of}
 use Rattle.cfg_tree.specs.Typed.{IsNameOf}
 use Rattle.cfg_tree.specs.Resolve.{AllSpelled}
+pub use Rattle.curly_grammar.specs.declared.level.Level.{Level}
 
 -- a token, and the word that it means; of a sign the empty one
 pub record Lexed : Type 0 where
@@ -156,11 +157,7 @@ StandsFor Many name_kind value_kind in_group (Listed head values) step words =
     (step ≡ step_of head.word []) × AreValues value_kind (map word_of values) words
 StandsFor _ _ _ _ _ _ _ = ⊥
 
--- a level that a text stands in: its path, and its row
-pub record Level : Type 0 where
-  pub path : List Step
-  pub place : Place
-
+-- a level that a text stands in has its path, and its row
 abbrev pub top_level : Level
 top_level = record { path = []; place = top_place }
 

@@ -4,3 +4,10 @@
 //! Leaves to others: the tokens (`cfg_lex`), how statements are printed (`curly_text`), and what a load makes of them (`load_ops`).
 #![tactic(auto)]
 
+mod fault;
+mod level;
+mod marked;
+mod phase;
+
+pub use fault::TextFault;
+pub use marked::{Marked, Paths};
