@@ -1,15 +1,16 @@
 -- How statements are printed as curly text. Junos OS CLI User Guide, on displaying the configuration; the order of the statements and four spaces a
 -- level are this project's own.
-use Rattle.std.specs.Prelude.{ℕ, zero, suc, ◌+◌, List, [], ◌∷◌, ◌++◌, repeat, Bool, ◌||◌, Option, Some, None, codes, if◌then◌else◌}
+use Rattle.std.specs.Prelude.{ℕ, zero, suc, ◌+◌, List, [], ◌∷◌, ◌++◌, replicate, Option, Some, None, codes, if◌then◌else◌}
 use Rattle.std.specs.List.{flat_map, join_by}
 use Rattle.std.specs.FinMap as map
 use Rattle.cfg_base.specs.declared.path.Step.{Step}
+use Rattle.cfg_base.specs.declared.path.TheConstants.{MAX_STEPS}
 use Rattle.cfg_base.specs.declared.value.Value.{Value}
 use Rattle.cfg_lex.specs.Printed.{printed_word}
 use Rattle.cfg_schema.specs.declared.place.Place.{Place}
 use Rattle.cfg_schema.specs.Profile.{row_of, is_level}
 use Rattle.cfg_schema.specs.Place.{place_of}
-use Rattle.cfg_tree.specs.Statements.{Statements}
+use Rattle.cfg_tree.specs.Statements.{Statements, last_of}
 use Rattle.cfg_tree.specs.Children.{children_of}
 use Rattle.cfg_tree.specs.OwnWords.{own_words}
 
@@ -32,16 +33,19 @@ value_text (word ∷ next ∷ words) = codes " [ " ++ (words_line (word ∷ next
 abbrev pub line_of : Step → Value → List ℕ
 line_of step value = marks_of value ++ (words_line (own_words (step ∷ [])) ++ value_text value.words)
 
--- a statement ends in `;` where nothing stands in it, and else holds that in braces
-abbrev pub ended : List ℕ → List ℕ → List ℕ
-ended spaces [] = codes ";\n"
-ended spaces (byte ∷ body) = codes " {\n" ++ (byte ∷ body ++ (spaces ++ codes "}\n"))
+-- so many spaces
+abbrev pub spaces : ℕ → List ℕ
+spaces count = replicate count 32
+
+-- a statement behind so many spaces ends in `;` where nothing stands in it, and else holds that in braces
+abbrev pub ended : ℕ → List ℕ → List ℕ
+ended indent [] = codes ";\n"
+ended indent (byte ∷ body) = codes " {\n" ++ (byte ∷ body ++ (spaces indent ++ codes "}\n"))
 
 -- a statement behind so many spaces, with what stands in it
 abbrev pub statement_text : ℕ → Step → Option Value → List ℕ → List ℕ
 statement_text indent step None body = []
-statement_text indent step (Some value) body =
-    repeat 32 indent ++ (line_of step value ++ ended (repeat 32 indent) body)
+statement_text indent step (Some value) body = spaces indent ++ (line_of step value ++ ended indent body)
 
 -- the statements below a path in printing order, so many levels deep
 unfoldable pub text_below : ℕ → Statements → List Step → ℕ → List ℕ

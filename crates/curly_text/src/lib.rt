@@ -1,3 +1,10 @@
 //! Curly text both ways: how statements are printed, and that what is printed is read as these statements.
+//!
+//! Guarantees: `print` gives the text of the statements below a path, in printing order.
+//! Leaves to others: what a text says (`curly_grammar`), and the tokens (`cfg_lex`).
 #![tactic(auto)]
 
+mod line;
+mod printing;
+
+pub use printing::print;
