@@ -1,0 +1,85 @@
+//! The lines of statements, in three groups: `set` lines, and those of the two marks.
+
+ghost use Rattle.std.specs.Prelude.{◌≡◌, ◌++◌, ◌∷◌, [], ◌==◌, length, OnOk, IfOk};
+ghost use Rattle.std.specs.List.{flat_map};
+ghost use Rattle.cfg_tree.specs.Children.{children_of};
+ghost use Rattle.cfg_schema.specs.Place.{place_of};
+ghost use Rattle.set_text.specs.Printed.{printed_lines, sets_at};
+ghost use Rattle.set_text.specs.Groups.{IsPrinted};
+
+use crate::line::{push_bytes, push_own_line_if, push_sets};
+use crate::verb::Verb;
+use cfg_base::{NoMemory, Path, Value, WordList};
+use cfg_schema::{Place, row};
+use cfg_tree::Tree;
+use std::alloc::Global;
+
+/// The three groups, each as far as it is written.
+#[derive(Debug, Drop)]
+pub(crate) struct Groups {
+    pub sets: Vec<u8>,
+    pub deactivates: Vec<u8>,
+    pub protects: Vec<u8>,
+}
+
+fn push_sets_at(
+    text: &mut Vec<u8>,
+    path: &Path,
+    childless: bool,
+    words: &WordList,
+) -> Result<(), NoMemory>
+    ensures { OnOk result (text.new.items ≡ text.old.items ++ printed_lines (sets_at (place_of path.now) path.now childless words.now)) }
+{
+    match Place::of(path.steps()) {
+        None => Ok(()),
+        Some(here) => push_sets(text, row(here.row).shape, path, childless, words),
+    }
+}
+
+impl Groups {
+    pub(crate) fn new(alloc: Global) -> Groups
+        ensures sets { result.sets.items ≡ [] }
+        ensures deactivates { result.deactivates.items ≡ [] }
+        ensures protects { result.protects.items ≡ [] }
+    {
+        Groups {
+            sets: Vec::new(alloc),
+            deactivates: Vec::new(alloc),
+            protects: Vec::new(alloc),
+        }
+    }
+
+    /// The groups, one behind the other.
+    pub(crate) fn joined(self) -> Result<Vec<u8>, NoMemory>
+        ensures { IfOk result (λ text. text.items ≡ self.sets.items ++ (self.deactivates.items ++ self.protects.items)) }
+    {
+        let mut text = self.sets;
+        push_bytes(&mut text, &self.deactivates)?;
+        push_bytes(&mut text, &self.protects)?;
+        Ok(text)
+    }
+}
+
+/// Puts the lines of a statement at the end of each group.
+pub(crate) fn push_statement(
+    groups: &mut Groups,
+    tree: &Tree,
+    path: &Path,
+    childless: bool,
+) -> Result<(), NoMemory>
+    requires { childless ≡ (length (children_of tree.now path.now) == 0) }
+    ensures { OnOk result (IsPrinted tree.now (path.now ∷ []) groups.old groups.new) }
+{
+    let value = match tree.at(path) {
+        None => return Ok(()),
+        Some(value) => value,
+    };
+    push_sets_at(&mut groups.sets, path, childless, &value.words)?;
+    push_own_line_if(
+        &mut groups.deactivates,
+        Verb::Deactivate,
+        path,
+        value.inactive,
+    )?;
+    push_own_line_if(&mut groups.protects, Verb::Protect, path, value.protected)
+}
