@@ -2,7 +2,7 @@
 
 use crate::answers::{say, say_number, say_words};
 use crate::fault::Fault;
-use cfg_base::{Command, Mode, Op};
+use cfg_base::{Command, Form, Mode, Op};
 
 pub(crate) fn say_change(out: &mut String, op: &Op) -> Result<(), Fault> {
     match op {
@@ -15,10 +15,26 @@ pub(crate) fn say_change(out: &mut String, op: &Op) -> Result<(), Fault> {
     }
 }
 
+fn show_active_as(form: Form) -> &'static str {
+    match form {
+        Form::Curly => "show active curly",
+        Form::SetLines => "show active set",
+    }
+}
+
+fn show_as(form: Form) -> &'static str {
+    match form {
+        Form::Curly => "show curly",
+        Form::SetLines => "show set",
+    }
+}
+
 pub(crate) fn say_command(out: &mut String, command: &Command) -> Result<(), Fault> {
     match command {
         Command::Configure(Mode::Shared) => say(out, "configure"),
-        Command::ShowActive => say(out, "show active"),
+        Command::ShowActive { words, form } => {
+            say_words(out, show_active_as(*form), words.as_slice())
+        }
         Command::Logout => say(out, "log out"),
         Command::Edit(words) => say_words(out, "edit", words.as_slice()),
         Command::Up(levels) => {
@@ -28,6 +44,7 @@ pub(crate) fn say_command(out: &mut String, command: &Command) -> Result<(), Fau
         Command::Top => say(out, "top"),
         Command::Exit => say(out, "exit"),
         Command::ExitAll => say(out, "exit all"),
+        Command::Show { words, form } => say_words(out, show_as(*form), words.as_slice()),
         Command::Change(op) => say_change(out, op),
         Command::Commit => say(out, "commit"),
     }

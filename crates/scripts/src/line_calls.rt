@@ -4,7 +4,8 @@ use crate::answers::{say, say_flag};
 use crate::commands::say_command;
 use crate::fault::Fault;
 use crate::words::{Arg, bytes_of, first_and_rest};
-use shell_words::{ReadFault, is_plain, read_line};
+use cfg_lex::is_plain;
+use shell_words::{ReadFault, read_line};
 use std::alloc::Global;
 
 /// Whether the mode is configuration mode.

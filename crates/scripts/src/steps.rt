@@ -102,7 +102,6 @@ fn say_refusal(out: &mut String, refusal: &Refusal) -> Result<(), Fault> {
         Refusal::NotALevel(path) => say_path(out, "not a level", path),
         Refusal::Protected(path) => say_path(out, "protected", path),
         Refusal::TooMany => say(out, "too many"),
-        Refusal::Unprinted(path) => say_path(out, "unprinted", path),
         Refusal::Exhausted => say(out, "exhausted"),
     }
 }

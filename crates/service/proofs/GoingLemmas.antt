@@ -1,8 +1,9 @@
 -- A session that goes on line by line, and stops.
-use Rattle.std.proofs.Common.{◌≡◌, ℕ, ◌+◌, ◌<◌, ◌≤◌, ◌⊎◌, List, [], ◌∷◌, ◌++◌, length, take, Bool, true, false, refl, sym, ap, subst, ◌∙◌, arith, Option, None, Some, inl, inr}
+use Rattle.std.proofs.Common.{◌≡◌, ℕ, ◌+◌, ◌<◌, ◌≤◌, ◌⊎◌, List, [], ◌∷◌, ◌++◌, length, take, Bool, true, false, refl, sym, ap, subst, ◌∙◌, arith, Option, None, Some, Result, inl, inr}
 use Rattle.std.specs.List.{flat_map}
 use Rattle.std.proofs.lemmas.List.{append-nil}
 use Rattle.std.proofs.Math.Seq.{take-append_seam}
+use Rattle.cfg_base.specs.declared.command.Command.{Command}
 use Rattle.config_core.specs.State.{State}
 use Rattle.io_edge.specs.declared.lines.Line.{Line}
 use Rattle.io_edge.specs.Ends.{behind}
@@ -15,7 +16,8 @@ use Rattle.session_history.specs.declared.turn.Stance.{Stance}
 use Rattle.session_history.specs.declared.turn.Stance.TheVariants.{Operational, Configuring, Out}
 use Rattle.session_history.specs.Events.{places_of}
 use Rattle.session_history.specs.Told.{Told, Item, item_of, stance_after, text_of}
-use Rattle.session_history.specs.Items.{GoesOn, ReadsAs, item_at}
+use Rattle.session_history.specs.Items.{IsItem, IsRead, ReadsAs, item_read, is_configuring}
+use Rattle.shell_words.specs.Reading.{IsReading}
 use Rattle.session_history.specs.Session.{Sides, Served, TakesAnswers, Delivers, IsCut, IsInput, StopsBy}
 use Rattle.io_edge.specs.Wrote.{WrotePart}
 use Rattle.session_history.proofs.ServedLemmas.{Served-then}
@@ -40,21 +42,25 @@ Served-none opening caller old = record {
     unchanged None = tt
     unchanged (Some coming) = λ k. refl
 
+-- what a line of text asks is its item
+pub read_as : (stance : Stance) (text : List ℕ) (configuring : Bool) (answer : Result (Option Command) ℕ) → configuring ≡ is_configuring stance
+    → IsReading configuring text answer → IsRead stance text (item_read answer)
+read_as stance text configuring answer same reading =
+    record { answer = answer; reading = subst (λ b. IsReading b text answer) same reading; is = refl }
+
 -- a line that is an item of a session that goes on
-reads_item : (stance next : Stance) (line : Line) (item : Item) (told : Told) → (stance ≡ Out → ⊥) → item_at stance line ≡ Some item → item_of told ≡ item → next ≡ stance_after stance told → ReadsAs (line ∷ []) stance (told ∷ []) next
-reads_item Operational next line item told going asks is goes =
-    subst (λ i. GoesOn (λ after rest. ReadsAs [] after rest next) Operational i (told ∷ [])) (sym asks) (is, (refl, goes))
-reads_item Configuring next line item told going asks is goes =
-    subst (λ i. GoesOn (λ after rest. ReadsAs [] after rest next) Configuring i (told ∷ [])) (sym asks) (is, (refl, goes))
+reads_item : (stance next : Stance) (line : Line) (item : Item) (told : Told) → (stance ≡ Out → ⊥) → IsItem stance line (Some item) → item_of told ≡ item → next ≡ stance_after stance told → ReadsAs (line ∷ []) stance (told ∷ []) next
+reads_item Operational next line item told going asks is goes = record { item = Some item; is = asks; goes = (is, (refl, goes)) }
+reads_item Configuring next line item told going asks is goes = record { item = Some item; is = asks; goes = (is, (refl, goes)) }
 reads_item Out next line item told going asks is goes = absurd (going refl)
 
-reads_nothing : (stance next : Stance) (line : Line) → (stance ≡ Out → ⊥) → item_at stance line ≡ None → next ≡ stance → ReadsAs (line ∷ []) stance [] next
-reads_nothing Operational next line going asks goes = subst (λ i. GoesOn (λ after rest. ReadsAs [] after rest next) Operational i []) (sym asks) (refl, goes)
-reads_nothing Configuring next line going asks goes = subst (λ i. GoesOn (λ after rest. ReadsAs [] after rest next) Configuring i []) (sym asks) (refl, goes)
+reads_nothing : (stance next : Stance) (line : Line) → (stance ≡ Out → ⊥) → IsItem stance line None → next ≡ stance → ReadsAs (line ∷ []) stance [] next
+reads_nothing Operational next line going asks goes = record { item = None; is = asks; goes = (refl, goes) }
+reads_nothing Configuring next line going asks goes = record { item = None; is = asks; goes = (refl, goes) }
 reads_nothing Out next line going asks goes = absurd (going refl)
 
 -- a line that is an item was served
-pub ReadsLine-item : (opening : State) (caller : ℕ) (stance : Stance) (line : Line) (item : Item) (next : Next) (old new : Sides) → (stance ≡ Out → ⊥) → item_at stance line ≡ Some item → ServesItem opening caller stance item next old new → ReadsLine opening caller stance line next old new
+pub ReadsLine-item : (opening : State) (caller : ℕ) (stance : Stance) (line : Line) (item : Item) (next : Next) (old new : Sides) → (stance ≡ Out → ⊥) → IsItem stance line (Some item) → ServesItem opening caller stance item next old new → ReadsLine opening caller stance line next old new
 ReadsLine-item opening caller stance line item next old new going asks serves = record {
   told = serves.told ∷ [];
   whole = serves.whole;
@@ -70,7 +76,7 @@ going_on Configuring going = refl
 going_on Out going = absurd (going refl)
 
 -- a line that asks nothing
-pub ReadsLine-nothing : (opening : State) (caller : ℕ) (stance : Stance) (line : Line) (next : Next) (sides : Sides) → (stance ≡ Out → ⊥) → item_at stance line ≡ None → next.stance ≡ stance → next.how ≡ None → ReadsLine opening caller stance line next sides sides
+pub ReadsLine-nothing : (opening : State) (caller : ℕ) (stance : Stance) (line : Line) (next : Next) (sides : Sides) → (stance ≡ Out → ⊥) → IsItem stance line None → next.stance ≡ stance → next.how ≡ None → ReadsLine opening caller stance line next sides sides
 ReadsLine-nothing opening caller stance line next sides going asks same how = record {
   told = [];
   whole = true;

@@ -5,15 +5,17 @@ use Rattle.std.proofs.Math.Seq.{take-append_seam}
 use Rattle.std.proofs.Math.ListN.{length-set}
 use Rattle.cfg_base.specs.declared.command.Mode.{Mode}
 use Rattle.cfg_base.specs.declared.command.Command.{Command}
-use Rattle.cfg_base.specs.declared.command.Command.TheVariants.{Configure, ShowActive, Logout, Edit, Up, Top, Exit, ExitAll, Change, Commit}
+use Rattle.cfg_base.specs.declared.command.Command.TheVariants.{Configure, ShowActive, Logout, Edit, Up, Top, Exit, ExitAll, Show, Change, Commit}
 use Rattle.cfg_base.specs.declared.path.Step.{Step}
 use Rattle.config_core.specs.declared.event.Event.{Event}
 use Rattle.config_core.specs.declared.event.Event.TheVariants.{Command as CommandOf}
 use Rattle.config_core.specs.declared.reply.Reply.{Reply}
 use Rattle.config_core.specs.declared.ledger.TheConstants.{MAX_ENTRIES}
+use Rattle.config_core.specs.Kept.{active_of}
 use Rattle.config_core.specs.State.{State, opening_of, operational}
 use Rattle.config_core.specs.Levels.{Position, is_level_at}
-use Rattle.config_core.specs.Machine.{Fits, Turned, is_configuring, later, with_caller, committed, exited, edited, Moves, IsLost, Changes, IsUnchanged, IsUnprintable, Commits, Serves, Steps}
+use Rattle.config_core.specs.Machine.{Fits, Turned, is_configuring, later, with_caller, committed, exited, edited, Moves, IsLost, Changes, IsUnchanged, level_of, Serves, Steps}
+use Rattle.config_core.proofs.StepLemmas.{shows_stay}
 use Rattle.session_history.specs.declared.history.Happened.{Happened}
 use Rattle.session_history.specs.Events.{Leads, IsAt, asked_event}
 use Rattle.session_history.proofs.EventLemmas.{Leads-push, at_seam}
@@ -48,13 +50,14 @@ committed_keeps s caller = either s (nat_lt s.kept.count MAX_ENTRIES) _ _ refl r
 serves_keeps : (s : State) (caller : ℕ) (command : Command) (turned : Turned) → Serves s caller command turned → Keeps s turned
 serves_keeps s caller (Configure mode) turned serves =
     by_mode (is_configuring s caller) _ _ _ (λ is. kept_by s turned _ is refl) (λ is. kept_by s turned _ is (moved s caller _ _)) serves
-serves_keeps s caller ShowActive turned serves =
-    by_mode (is_configuring s caller) _ _ _ (λ is. kept_by s turned _ is refl) (λ is. kept_by s turned _ is refl) serves
+serves_keeps s caller (ShowActive asked form) turned serves =
+    by_mode (is_configuring s caller) _ _ _ (λ is. kept_by s turned _ is refl)
+    (λ shows. ap (λ x. length x.callers) (shows_stay s (active_of s.kept) [] asked form turned shows)) serves
 serves_keeps s caller Logout turned serves = kept_by s turned _ serves (moved s caller _ _)
 serves_keeps s caller (Edit asked) turned serves =
     by_mode (is_configuring s caller) _ _ _ either_way (λ is. kept_by s turned _ is refl) serves
   where
-    either_way : Moves s caller asked turned ⊎ IsLost s caller asked turned → Keeps s turned
+    either_way : Moves s caller asked turned ⊎ IsLost s (level_of s caller) asked turned → Keeps s turned
     either_way (inl moves) = kept_by s turned _ moves.is (edited_keeps s caller moves.target.path)
     either_way (inr lost) = kept_by s turned _ lost.is refl
 serves_keeps s caller (Up count) turned serves =
@@ -65,6 +68,9 @@ serves_keeps s caller Exit turned serves =
     by_mode (is_configuring s caller) _ _ _ (λ is. kept_by s turned _ is (exited_keeps s caller _)) (λ is. kept_by s turned _ is refl) serves
 serves_keeps s caller ExitAll turned serves =
     by_mode (is_configuring s caller) _ _ _ (λ is. kept_by s turned _ is (moved s caller _ _)) (λ is. kept_by s turned _ is refl) serves
+serves_keeps s caller (Show asked form) turned serves =
+    by_mode (is_configuring s caller) _ _ _ (λ shows. ap (λ x. length x.callers) (shows_stay s s.candidate (level_of s caller) asked form turned shows))
+    (λ is. kept_by s turned _ is refl) serves
 serves_keeps s caller (Change op) turned serves =
     by_mode (is_configuring s caller) _ _ _ either_way (λ is. kept_by s turned _ is refl) serves
   where
@@ -72,11 +78,7 @@ serves_keeps s caller (Change op) turned serves =
     either_way (inl changes) = kept_by s turned _ changes.is refl
     either_way (inr same) = kept_by s turned _ same.is refl
 serves_keeps s caller Commit turned serves =
-    by_mode (is_configuring s caller) _ _ _ either_way (λ is. kept_by s turned _ is refl) serves
-  where
-    either_way : IsUnprintable s turned ⊎ Commits s caller turned → Keeps s turned
-    either_way (inl unprintable) = kept_by s turned _ unprintable.is refl
-    either_way (inr commits) = kept_by s turned _ commits.is (committed_keeps s caller)
+    by_mode (is_configuring s caller) _ _ _ (λ is. kept_by s turned _ is (committed_keeps s caller)) (λ is. kept_by s turned _ is refl) serves
 
 steps_keep : (s : State) (caller moment : ℕ) (event : Event) (turned : Turned) → Steps s caller moment event turned → Keeps s turned
 steps_keep s caller moment (CommandOf command) turned steps = serves_keeps (later s moment) caller command turned steps

@@ -1,5 +1,5 @@
 -- Two sessions over the same bytes and the same clock that nothing disturbs are told the same.
-use Rattle.std.proofs.Common.{◌≡◌, ℕ, ◌+◌, ◌<◌, ◌⊎◌, List, [], ◌∷◌, ◌++◌, length, map, take, drop, max, cond, eqb, eq-eqb, Bool, true, false, refl, sym, ap, subst, ◌∙◌, append_assoc, arith, Option, None, Some, inl, inr}
+use Rattle.std.proofs.Common.{◌≡◌, ℕ, ◌+◌, ◌<◌, ◌⊎◌, List, [], ◌∷◌, ◌++◌, length, map, take, drop, max, cond, eqb, eq-eqb, Bool, true, false, refl, sym, ap, subst, ◌∙◌, append_assoc, arith, Option, None, Some, Result, inl, inr}
 use Rattle.std.specs.List.{flat_map, AllByRecursion}
 use Rattle.std.proofs.Math.Seq.{take-append_seam}
 use Rattle.std.proofs.lemmas.List.{append-nil, length-append, length-take, length-drop, take-append-drop}
@@ -7,6 +7,7 @@ use Rattle.cfg_base.specs.declared.command.Command.{Command}
 use Rattle.config_core.specs.declared.reply.Reply.{Reply}
 use Rattle.config_core.specs.State.{State}
 use Rattle.io_edge.specs.declared.lines.Line.{Line}
+use Rattle.io_edge.specs.declared.lines.Line.TheVariants.{Text, TooLong, End, Failed, InputFull as FullLine}
 use Rattle.io_edge.specs.Ends.{behind}
 use Rattle.io_edge.specs.Line.{HasNoLf, TellsBoth, IsEndedLine, IsLastLine, IsFull, line_of, last_line_of}
 use Rattle.io_edge.proofs.UniqueLemmas.{IsSame, two_lines, line_none, line_full}
@@ -18,7 +19,8 @@ use Rattle.session_history.specs.declared.turn.Stance.TheVariants.{Operational, 
 use Rattle.session_history.specs.declared.turn.Turn.TheVariants.{NoMemory}
 use Rattle.session_history.specs.Events.{Leads, IsAt, IsAsked, asked_event, places_from, places_of}
 use Rattle.session_history.specs.Told.{Told, Item, Answered, Refuses, Unanswered, item_of, turn_of, answer_of, text_of, places_told, stance_after, IsTrueOf}
-use Rattle.session_history.specs.Items.{GoesOn, ReadsAs, item_at}
+use Rattle.session_history.specs.Items.{GoesOn, IsItem, IsToldOf, ReadsAs, item_read, is_configuring}
+use Rattle.shell_words.specs.Reading.{IsReading}
 use Rattle.session_history.specs.Session.{Sides, Delivers, AnswersAre, TakesAnswers, ended, last_lines, IsCut, IsInput, StopsBy, LogsOut}
 use Rattle.session_history.specs.Undisturbed.{Undisturbed, RepliesAgree}
 use Rattle.session_history.proofs.EventLemmas.{at_seam}
@@ -112,10 +114,23 @@ no_more stance line lines bytes room rest rest' left left' going halts none some
         (subst (λ b. IsFull b room full.0 0) (sym here.0) (subst (λ r. IsFull rest r full.0 0) (sym here.1) full.1))
 
 -- a session that reads a line isn't logged out, and goes on by it
-reads_on : (line : Line) (lines : List Line) (stance last : Stance) (told : List Told) → ReadsAs (line ∷ lines) stance told last → (stance ≡ Out → ⊥) × GoesOn (λ next rest. ReadsAs lines next rest last) stance (item_at stance line) told
+reads_on : (line : Line) (lines : List Line) (stance last : Stance) (told : List Told) → ReadsAs (line ∷ lines) stance told last → (stance ≡ Out → ⊥) × IsToldOf (λ next rest. ReadsAs lines next rest last) stance line told
 reads_on line lines Operational last told reads = (λ e. cc, reads)
 reads_on line lines Configuring last told reads = (λ e. cc, reads)
 reads_on line lines Out last told reads = absurd reads
+
+-- a line asks one thing in a mode
+abbrev pub ReadOnce : Type 0
+ReadOnce = (configuring : Bool) (line : List ℕ) (one other : Result (Option Command) ℕ) → IsReading configuring line one → IsReading configuring line other → one ≡ other
+
+-- a line is one item, or none
+item_once : ReadOnce → (stance : Stance) (line : Line) (one other : Option Item) → IsItem stance line one → IsItem stance line other → one ≡ other
+item_once once stance (Text line) one other a b =
+    a.is ∙ ap item_read (once (is_configuring stance) line a.answer b.answer a.reading b.reading) ∙ sym b.is
+item_once once stance TooLong one other a b = a ∙ sym b
+item_once once stance End one other a b = a ∙ sym b
+item_once once stance Failed one other a b = a ∙ sym b
+item_once once stance FullLine one other a b = a ∙ sym b
 
 -- the lines of an input as lines of all the bytes that the source had
 cut_of : (lines : List Line) (stance : Stance) (how : How) (limit : ℕ) (before after : List ℕ) → (input : IsInput lines stance how limit before after) → IsCut lines before limit (input.rest ++ after) input.room
@@ -171,7 +186,7 @@ module _ (opening : State) (caller : ℕ) where
   tells_rest events coming first told tells = record { left = tells.left; answers = tells.answers.1; true_all = tells.true_all.1; calm = tells.calm.1 }
 
   -- the places of two sessions from one item on agree; the first of them are one, with one reply, and the others agree too
-  module _ (events events' : List Happened) (Agree : List ℕ → List ℕ → Type 0)
+  module _ (once : ReadOnce) (events events' : List Happened) (Agree : List ℕ → List ℕ → Type 0)
       (asks : (place place' answer : ℕ) (command : Command) (reply reply' : Reply) (places places' : List ℕ) → Agree (place ∷ places) (place' ∷ places')
       → IsAsked opening events place caller answer command reply → IsAsked opening events' place' caller answer command reply'
       → (place ≡ place') × (reply ≡ reply') × Agree places places') where
@@ -255,10 +270,14 @@ module _ (opening : State) (caller : ℕ) where
         let is : IsSame line line' one.mid other.mid one.mid_room other.mid_room = two_lines bytes room line line' one.mid other.mid one.mid_room other.mid_room one.first other.first in
         let others : IsCut lines' one.mid one.mid_room rest' left' =
         subst (λ m. IsCut lines' m one.mid_room rest' left') (sym is.lefts) (subst (λ r. IsCut lines' other.mid r rest' left') (sym is.rooms) other.others) in
+        let takes : IsToldOf (λ next t. ReadsAs lines next t last) stance line told = (reads_on line lines stance last told reads).1 in
+        let takes' : IsToldOf (λ next t. ReadsAs lines' next t last') stance line told' =
+        subst (λ l. IsToldOf (λ next t. ReadsAs lines' next t last') stance l told') (sym is.answers) (reads_on line' lines' stance last' told' reads').1 in
+        let one_item : takes'.item ≡ takes.item = item_once once stance line takes'.item takes.item takes'.is takes.is in
         same_item (λ next t. ReadsAs lines next t last) (λ next t. ReadsAs lines' next t last') final final'
         (λ next t t' c r r' x x' p. same_all lines lines' next last last' t t' final final' one.mid rest rest' one.mid_room left left' c r r' one.others others halts halts' out out' x x' p)
-        stance (item_at stance line) told told' coming (reads_on line lines stance last told reads).1
-        (subst (λ l. GoesOn (λ next t. ReadsAs lines' next t last') stance (item_at stance l) told') (sym is.answers) (reads_on line' lines' stance last' told' reads').1)
+        stance takes.item told told' coming takes.goes
+        (subst (λ i. GoesOn (λ next t. ReadsAs lines' next t last') stance i told') one_item takes'.goes)
         tells tells' alike
 
 -- a caller's own events, of which one stands first
@@ -376,7 +395,7 @@ all_written : (whole : Bool) → (whole ≡ false → ⊥) → whole ≡ true
 all_written true never = refl
 all_written false never = absurd (never refl)
 
-module _ (opening : State) (caller limit : ℕ) (bytes : List ℕ) (coming : ℕ → ℕ) where
+module _ (once : ReadOnce) (opening : State) (caller limit : ℕ) (bytes : List ℕ) (coming : ℕ → ℕ) where
   abbrev told_of : (new : Sides) → Undisturbed opening caller limit bytes coming new → List Told
   told_of new u = u.session.asked ++ u.session.final
 
@@ -417,7 +436,7 @@ module _ (opening : State) (caller limit : ℕ) (bytes : List ℕ) (coming : ℕ
       let t = second.session in
       let a = input_told s.lines s.stance first.how limit bytes first.source s.input in
       let b = input_told t.lines t.stance second.how limit bytes second.source t.input in
-      same_all opening caller one.events other.events Agree asks s.lines t.lines Operational s.stance t.stance s.asked t.asked s.final t.final
+      same_all opening caller once one.events other.events Agree asks s.lines t.lines Operational s.stance t.stance s.asked t.asked s.final t.final
       bytes (a.1.rest ++ a.0) (b.1.rest ++ b.0) limit a.1.room b.1.room coming s.reads t.reads
       (cut_of s.lines s.stance first.how limit bytes a.0 a.1) (cut_of t.lines t.stance second.how limit bytes b.0 b.1)
       (halts_of s.lines s.stance first.how limit bytes a.0 a.1 first.ended) (halts_of t.lines t.stance second.how limit bytes b.0 b.1 second.ended)

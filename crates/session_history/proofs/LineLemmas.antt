@@ -9,7 +9,7 @@ use Rattle.session_history.specs.declared.turn.How.TheVariants.{InputFull}
 use Rattle.session_history.specs.declared.turn.Stance.{Stance}
 use Rattle.session_history.specs.declared.turn.Stance.TheVariants.{Operational, Configuring, Out}
 use Rattle.session_history.specs.Told.{Item, Told, stance_after}
-use Rattle.session_history.specs.Items.{GoesOn, ReadsAs, item_at}
+use Rattle.session_history.specs.Items.{GoesOn, IsToldOf, ReadsAs}
 use Rattle.session_history.specs.Session.{ended, last_lines, IsCut, StopsBy, IsInput}
 use Rattle.session_history.proofs.ServedLemmas.{All-append, map_over_append, flat_map_over_append}
 
@@ -27,14 +27,19 @@ GoesOn-more R S more on stance None told goes = on stance told goes
 GoesOn-more R S more on stance (Some item) [] goes = absurd goes
 GoesOn-more R S more on stance (Some item) (first ∷ told) goes = (goes.0, on (stance_after stance first) told goes.1)
 
+-- the same of a line
+IsToldOf-more : (R S : Stance → List Told → Type 0) (more : List Told) → ((next : Stance) (rest : List Told) → R next rest → S next (rest ++ more)) → (stance : Stance) (line : Line) (told : List Told) → IsToldOf R stance line told → IsToldOf S stance line (told ++ more)
+IsToldOf-more R S more on stance line told takes =
+    record { item = takes.item; is = takes.is; goes = GoesOn-more R S more on stance takes.item told takes.goes }
+
 -- lines, and then more of them
 pub ReadsAs-append : (lines after : List Line) (stance mid last : Stance) (told more : List Told) → ReadsAs lines stance told mid → ReadsAs after mid more last → ReadsAs (lines ++ after) stance (told ++ more) last
 ReadsAs-append [] after stance mid last told more front back =
     subst (λ t. ReadsAs after stance (t ++ more) last) (sym front.0) (subst (λ s. ReadsAs after s more last) front.1 back)
 ReadsAs-append (line ∷ lines) after Operational mid last told more front back =
-    GoesOn-more (λ next rest. ReadsAs lines next rest mid) (λ next rest. ReadsAs (lines ++ after) next rest last) more (λ next rest reads. ReadsAs-append lines after next mid last rest more reads back) Operational (item_at Operational line) told front
+    IsToldOf-more (λ next rest. ReadsAs lines next rest mid) (λ next rest. ReadsAs (lines ++ after) next rest last) more (λ next rest reads. ReadsAs-append lines after next mid last rest more reads back) Operational line told front
 ReadsAs-append (line ∷ lines) after Configuring mid last told more front back =
-    GoesOn-more (λ next rest. ReadsAs lines next rest mid) (λ next rest. ReadsAs (lines ++ after) next rest last) more (λ next rest reads. ReadsAs-append lines after next mid last rest more reads back) Configuring (item_at Configuring line) told front
+    IsToldOf-more (λ next rest. ReadsAs lines next rest mid) (λ next rest. ReadsAs (lines ++ after) next rest last) more (λ next rest reads. ReadsAs-append lines after next mid last rest more reads back) Configuring line told front
 ReadsAs-append (line ∷ lines) after Out mid last told more front back = absurd front
 
 -- no line without its LF stands before bytes that are left

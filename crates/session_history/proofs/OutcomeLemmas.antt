@@ -2,10 +2,12 @@
 use Rattle.std.proofs.Common.{◌≡◌, ℕ, ◌-◌, ◌⊎◌, List, [], ◌∷◌, length, map, take, Bool, true, false, MatchBool, cond, refl, sym, ap, subst, ◌∙◌, zero, suc, nat_lt, Option, Some, inl, inr, slice_get, slice_set}
 use Rattle.std.specs.List.{All, AllByRecursion}
 use Rattle.std.proofs.lemmas.List.Elements.{All-nil, All-cons, All-head, All-tail}
+use Rattle.cfg_base.specs.declared.command.Form.{Form}
 use Rattle.cfg_base.specs.declared.command.Mode.{Mode}
 use Rattle.cfg_base.specs.declared.command.Command.{Command}
-use Rattle.cfg_base.specs.declared.command.Command.TheVariants.{Configure, ShowActive, Logout, Edit, Up, Top, Exit, ExitAll, Change, Commit}
+use Rattle.cfg_base.specs.declared.command.Command.TheVariants.{Configure, ShowActive, Logout, Edit, Up, Top, Exit, ExitAll, Show, Change, Commit}
 use Rattle.cfg_base.specs.declared.path.Step.{Step}
+use Rattle.cfg_tree.specs.Statements.{Statements}
 use Rattle.cfg_tree.specs.Typed.{IsTypedPath}
 use Rattle.cfg_tree.specs.Resolve.{IsLevelPath}
 use Rattle.cfg_tree.proofs.TargetLemmas.{resolved_target}
@@ -16,11 +18,12 @@ use Rattle.config_core.specs.declared.ledger.TheConstants.{MAX_ENTRIES}
 use Rattle.config_core.specs.declared.reply.Refusal.TheVariants.{NotALevel, Exhausted}
 use Rattle.config_core.specs.declared.reply.Reply.{Reply}
 use Rattle.config_core.specs.declared.reply.Reply.TheVariants.{Done, Committed}
-use Rattle.config_core.specs.Kept.{append_entry}
+use Rattle.config_core.specs.Kept.{active_of, append_entry}
 use Rattle.config_core.specs.Levels.{Position, AreLevels, at_top, is_level_place, is_level_at, moved_to, to_last}
 use Rattle.config_core.specs.State.{State, operational}
-use Rattle.config_core.specs.Machine.{Turned, answered, refused, caller_in, position_of, level_of, with_caller, with_position, is_configuring, commit_of, committed, exited, edited, Moves, IsLost, Changes, IsUnchanged, IsUnprintable, Commits, later, Serves, Steps}
+use Rattle.config_core.specs.Machine.{Turned, answered, refused, caller_in, position_of, level_of, with_caller, with_position, is_configuring, commit_of, committed, exited, edited, Moves, IsLost, Changes, IsUnchanged, Shows, later, Serves, Steps}
 use Rattle.config_core.proofs.LevelLemmas.{top_alone, level_front}
+use Rattle.config_core.proofs.StepLemmas.{shows_stay}
 use Rattle.session_history.specs.declared.history.Happened.{Happened}
 use Rattle.session_history.specs.Events.{Leads, IsAt}
 
@@ -87,16 +90,19 @@ committed_stands s caller stand = by_room (nat_lt s.kept.count MAX_ENTRIES)
     by_room true = stand
     by_room false = stand
 
+shows_stand : (s : State) (m : Statements) (level : List Step) (asked : List (List ℕ)) (form : Form) (turned : Turned) → Stand s.callers → Shows s m level asked form turned → Stands turned
+shows_stand s m level asked form turned stand shows = subst (λ x. Stand x.callers) (sym (shows_stay s m level asked form turned shows)) stand
+
 serves_stands : (s : State) (caller : ℕ) (command : Command) (turned : Turned) → Stand s.callers → Serves s caller command turned → Stands turned
 serves_stands s caller (Configure mode) turned stand serves =
     by_mode (is_configuring s caller) _ _ _ (λ is. stands_by turned _ is stand) (λ is. stands_by turned _ is (placed s caller _ _ stand top_levels)) serves
-serves_stands s caller ShowActive turned stand serves =
-    by_mode (is_configuring s caller) _ _ _ (λ is. stands_by turned _ is stand) (λ is. stands_by turned _ is stand) serves
+serves_stands s caller (ShowActive asked form) turned stand serves =
+    by_mode (is_configuring s caller) _ _ _ (λ is. stands_by turned _ is stand) (λ shows. shows_stand s (active_of s.kept) [] asked form turned stand shows) serves
 serves_stands s caller Logout turned stand serves = stands_by turned _ serves (placed s caller _ _ stand top_levels)
 serves_stands s caller (Edit asked) turned stand serves =
     by_mode (is_configuring s caller) _ _ _ either_way (λ is. stands_by turned _ is stand) serves
   where
-    either_way : Moves s caller asked turned ⊎ IsLost s caller asked turned → Stands turned
+    either_way : Moves s caller asked turned ⊎ IsLost s (level_of s caller) asked turned → Stands turned
     either_way (inl moves) =
         stands_by turned _ moves.is (edited_stands s caller moves.target.path stand
         (resolved_target (level_of s caller) asked moves.target (levels_of s caller stand).here moves.names).typed)
@@ -116,6 +122,8 @@ serves_stands s caller Exit turned stand serves =
     (λ is. stands_by turned _ is stand) serves
 serves_stands s caller ExitAll turned stand serves =
     by_mode (is_configuring s caller) _ _ _ (λ is. stands_by turned _ is (placed s caller _ _ stand top_levels)) (λ is. stands_by turned _ is stand) serves
+serves_stands s caller (Show asked form) turned stand serves =
+    by_mode (is_configuring s caller) _ _ _ (λ shows. shows_stand s s.candidate (level_of s caller) asked form turned stand shows) (λ is. stands_by turned _ is stand) serves
 serves_stands s caller (Change op) turned stand serves =
     by_mode (is_configuring s caller) _ _ _ either_way (λ is. stands_by turned _ is stand) serves
   where
@@ -123,11 +131,7 @@ serves_stands s caller (Change op) turned stand serves =
     either_way (inl changes) = stands_by turned _ changes.is stand
     either_way (inr same) = stands_by turned _ same.is stand
 serves_stands s caller Commit turned stand serves =
-    by_mode (is_configuring s caller) _ _ _ either_way (λ is. stands_by turned _ is stand) serves
-  where
-    either_way : IsUnprintable s turned ⊎ Commits s caller turned → Stands turned
-    either_way (inl unprintable) = stands_by turned _ unprintable.is stand
-    either_way (inr commits) = stands_by turned _ commits.is (committed_stands s caller stand)
+    by_mode (is_configuring s caller) _ _ _ (λ is. stands_by turned _ is (committed_stands s caller stand)) (λ is. stands_by turned _ is stand) serves
 
 steps_stand : (s : State) (caller moment : ℕ) (event : Event) (turned : Turned) → Stand s.callers → Steps s caller moment event turned → Stands turned
 steps_stand s caller moment (CommandOf command) turned stand steps = serves_stands (later s moment) caller command turned stand steps

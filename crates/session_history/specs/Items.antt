@@ -3,7 +3,7 @@ use Rattle.std.specs.Prelude.{◌≡◌, ℕ, List, [], ◌∷◌, Bool, true, f
 use Rattle.cfg_base.specs.declared.command.Command.{Command}
 use Rattle.io_edge.specs.declared.lines.Line.{Line}
 use Rattle.io_edge.specs.declared.lines.Line.TheVariants.{Text, TooLong, End, Failed, InputFull}
-use Rattle.shell_words.specs.Reading.{reading}
+use Rattle.shell_words.specs.Reading.{IsReading}
 use Rattle.session_history.specs.declared.turn.ShellFault.TheVariants.{Syntax, LineTooLong}
 use Rattle.session_history.specs.declared.turn.Stance.{Stance}
 use Rattle.session_history.specs.declared.turn.Stance.TheVariants.{Operational, Configuring, Out}
@@ -20,13 +20,19 @@ item_read (Ok None) = None
 item_read (Ok (Some command)) = Some (Ask command)
 item_read (Err place) = Some (Wrong (Syntax place))
 
--- the item that a line is for a session that stands so
-abbrev pub item_at : Stance → Line → Option Item
-item_at stance (Text line) = item_read (reading (is_configuring stance) line)
-item_at stance TooLong = Some (Wrong LineTooLong)
-item_at stance End = None
-item_at stance Failed = None
-item_at stance InputFull = None
+-- what a line of text is for a session that stands so: an item, or none
+pub record IsRead (stance : Stance) (line : List ℕ) (item : Option Item) : Type 0 where
+  pub answer : Result (Option Command) ℕ
+  pub reading : IsReading (is_configuring stance) line answer
+  pub is : item ≡ item_read answer
+
+-- what a line is for a session that stands so
+abbrev pub IsItem : Stance → Line → Option Item → Type 0
+IsItem stance (Text line) item = IsRead stance line item
+IsItem stance TooLong item = item ≡ Some (Wrong LineTooLong)
+IsItem stance End item = item ≡ None
+IsItem stance Failed item = item ≡ None
+IsItem stance InputFull item = item ≡ None
 
 -- a line that is an item came to the first of what is told, and the session goes on after it; one that is none came to nothing
 abbrev pub GoesOn : (Stance → List Told → Type 0) → Stance → Option Item → List Told → Type 0
@@ -34,10 +40,16 @@ GoesOn Rest stance None told = Rest stance told
 GoesOn Rest stance (Some item) [] = ⊥
 GoesOn Rest stance (Some item) (first ∷ told) = (item_of first ≡ item) × Rest (stance_after stance first) told
 
+-- what is told begins with what a line came to, where that is an item, and the session goes on after it
+pub record IsToldOf (Rest : Stance → List Told → Type 0) (stance : Stance) (line : Line) (told : List Told) : Type 0 where
+  pub item : Option Item
+  pub is : IsItem stance line item
+  pub goes : GoesOn Rest stance item told
+
 -- these lines are the items of what is told, in order, and lead a session from the first stance to the last; nothing is read
 -- after the `exit` that logs out
 abbrev pub ReadsAs : List Line → Stance → List Told → Stance → Type 0
 ReadsAs [] stance told last = (told ≡ []) × (last ≡ stance)
-ReadsAs (line ∷ lines) Operational told last = GoesOn (λ next rest. ReadsAs lines next rest last) Operational (item_at Operational line) told
-ReadsAs (line ∷ lines) Configuring told last = GoesOn (λ next rest. ReadsAs lines next rest last) Configuring (item_at Configuring line) told
+ReadsAs (line ∷ lines) Operational told last = IsToldOf (λ next rest. ReadsAs lines next rest last) Operational line told
+ReadsAs (line ∷ lines) Configuring told last = IsToldOf (λ next rest. ReadsAs lines next rest last) Configuring line told
 ReadsAs (line ∷ lines) Out told last = ⊥
