@@ -7,7 +7,7 @@ use Rattle.config_core.specs.State.{State}
 use Rattle.io_edge.specs.Ends.{TakesAnswer}
 use Rattle.io_edge.specs.Wrote.{Wrote}
 use Rattle.session_history.specs.declared.history.Happened.{Happened}
-use Rattle.session_history.specs.declared.turn.ShellFault.{ShellFault}
+use Rattle.reply_text.specs.declared.fault.ShellFault.{ShellFault}
 use Rattle.session_history.specs.declared.turn.Stance.{Stance}
 use Rattle.service.specs.declared.session.Next.{Next}
 use Rattle.session_history.specs.declared.turn.Turn.{Turn}

@@ -17,7 +17,7 @@ use Rattle.session_history.specs.declared.turn.Stance.{Stance}
 use Rattle.session_history.specs.declared.turn.Stance.TheVariants.{Operational, Configuring, Out}
 use Rattle.session_history.specs.declared.turn.Turn.{Turn}
 use Rattle.session_history.specs.Events.{places_of}
-use Rattle.session_history.specs.Texts.{text_of_reply, no_memory_text}
+use Rattle.reply_text.specs.Texts.{text_of_reply, no_memory_text}
 use Rattle.session_history.specs.Told.{Told, Item, Ask, item_of, turn_of, answer_of, text_of, places_told, stance_after, after_reply, IsTrueOf}
 use Rattle.session_history.specs.Items.{ReadsAs}
 use Rattle.session_history.specs.Session.{Sides, Served, CutsAnswer, IsCut, IsInput, LogsOut}

@@ -9,7 +9,6 @@
 mod book;
 mod serving;
 mod session;
-mod writing;
 
 pub use serving::{
     Closed, INPUT_LIMIT, JOURNAL_LIMIT, StartWhy0, Ticker, is_serve, limits_are_stated, run,

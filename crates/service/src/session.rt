@@ -12,11 +12,11 @@ ghost use Rattle.service.specs.Log.{opened};
 ghost use Rattle.service.specs.Steps.{Asks, Ends, Finishes, LastTurn, MovesOn, ReadsLine, ServesItem, Unread, after_answer, how_next, text_of_answer};
 
 use crate::book::Book;
-use crate::writing::{put_fault, put_no_memory, put_reply};
 use cfg_base::{Command, Limits, NoMemory, UserName};
 use config_core::Reply;
 use io_edge::{Clock, Line, Lines, PutFailed, Sink, Source};
-use session_history::{How, ShellFault, Stance, Turn};
+use reply_text::{ShellFault, put_fault, put_no_memory, put_reply};
+use session_history::{How, Stance, Turn};
 use shell_words::{ReadFault, read_line};
 use std::alloc::Global;
 

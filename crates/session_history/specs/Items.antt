@@ -4,7 +4,7 @@ use Rattle.cfg_base.specs.declared.command.Command.{Command}
 use Rattle.io_edge.specs.declared.lines.Line.{Line}
 use Rattle.io_edge.specs.declared.lines.Line.TheVariants.{Text, TooLong, End, Failed, InputFull}
 use Rattle.shell_words.specs.Reading.{IsReading}
-use Rattle.session_history.specs.declared.turn.ShellFault.TheVariants.{Syntax, LineTooLong}
+use Rattle.reply_text.specs.declared.fault.ShellFault.TheVariants.{Syntax, LineTooLong}
 use Rattle.session_history.specs.declared.turn.Stance.{Stance}
 use Rattle.session_history.specs.declared.turn.Stance.TheVariants.{Operational, Configuring, Out}
 use Rattle.session_history.specs.Told.{Item, Ask, Wrong, Told, item_of, stance_after}

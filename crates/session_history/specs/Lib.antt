@@ -1,5 +1,4 @@
 pub mod Events
-pub mod Texts
 pub mod Told
 pub mod Items
 pub mod Session

@@ -5,13 +5,13 @@ use Rattle.config_core.specs.declared.reply.Reply.{Reply}
 use Rattle.config_core.specs.declared.reply.Reply.TheVariants.{Done, LoggedOut, Text, Entered, Left, Committed, Refused}
 use Rattle.config_core.specs.State.{State}
 use Rattle.session_history.specs.declared.history.Happened.{Happened}
-use Rattle.session_history.specs.declared.turn.ShellFault.{ShellFault}
+use Rattle.reply_text.specs.declared.fault.ShellFault.{ShellFault}
 use Rattle.session_history.specs.declared.turn.Stance.{Stance}
 use Rattle.session_history.specs.declared.turn.Stance.TheVariants.{Operational, Configuring, Out}
 use Rattle.session_history.specs.declared.turn.Turn.{Turn}
 use Rattle.session_history.specs.declared.turn.Turn.TheVariants.{Kept, Local, NoMemory}
 use Rattle.session_history.specs.Events.{IsAsked}
-use Rattle.session_history.specs.Texts.{text_of_reply, text_of_fault, no_memory_text}
+use Rattle.reply_text.specs.Texts.{text_of_reply, text_of_fault, no_memory_text}
 
 -- an item: a command, or a line that is refused
 pub data Item : Type 0 where

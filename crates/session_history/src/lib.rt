@@ -2,7 +2,7 @@
 //!
 //! Guarantees: that a history has one outcome (src/laws.rt). Else it holds the types and the definitions that the theorem
 //! of a run is stated in.
-//! In order of reading: specs/Events.antt, specs/Texts.antt, specs/Told.antt, specs/Items.antt, specs/Session.antt.
+//! In order of reading: specs/Events.antt, specs/Told.antt, specs/Items.antt, specs/Session.antt.
 //! Leaves to others: that they hold of a run (`service`).
 #![tactic(auto)]
 
@@ -12,4 +12,4 @@ mod turn;
 
 pub use history::{Happened, History};
 pub use laws::{histories_have_one_outcome, sessions_have_one_text};
-pub use turn::{How, ShellFault, Stance, Turn, TurnList};
+pub use turn::{How, Stance, Turn, TurnList};

@@ -1,15 +1,7 @@
 ghost use Rattle.std.specs.Prelude.{◌≡◌};
 
+use reply_text::ShellFault;
 use std::marker::Model;
-
-/// Why a line was refused without a turn of the machine.
-#[derive(Clone, Copy, Debug, PartialEq, Eq)]
-pub enum ShellFault {
-    /// It is no command: its first token that doesn't fit stands at that byte, or it ends there too early.
-    Syntax(u32),
-    /// It has more than 4,096 bytes.
-    LineTooLong,
-}
 
 /// What one item of a session's input came to.
 #[derive(Clone, Copy, Debug, PartialEq, Eq)]

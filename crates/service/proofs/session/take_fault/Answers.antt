@@ -1,7 +1,7 @@
 use Rattle.std.proofs.Common.{refl, sym, ap, ◌∙◌, is_ok}
 use Rattle.service.specs.Log.{opened}
 use Rattle.session_history.specs.Told.{Wrong, Refuses}
-use Rattle.session_history.specs.Texts.{text_of_fault}
+use Rattle.reply_text.specs.Texts.{text_of_fault}
 use Rattle.service.specs.Steps.{how_next}
 use Rattle.service.proofs.StepLemmas.{ServesItem-of, takes_refusal}
 use Rattle.service.proofs.session.take_fault.Goals as goal

@@ -1,7 +1,7 @@
 use Rattle.std.proofs.Common.{◌≡◌, None, Some, Result, Ok, Err, Option, ℕ, refl, sym, subst, inl}
 use Rattle.cfg_base.specs.declared.command.Command.{Command}
 use Rattle.io_edge.specs.declared.lines.Line.TheVariants.{Text}
-use Rattle.session_history.specs.declared.turn.ShellFault.TheVariants.{Syntax}
+use Rattle.reply_text.specs.declared.fault.ShellFault.TheVariants.{Syntax}
 use Rattle.session_history.specs.Items.{IsRead, item_read}
 use Rattle.session_history.specs.Told.{Ask, Wrong}
 use Rattle.shell_words.specs.Reading.{IsReading}

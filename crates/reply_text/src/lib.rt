@@ -1,0 +1,12 @@
+//! The text of each reply, each refusal and each fault of a line, and how it is written.
+//!
+//! Guarantees: what is written of a reply is its text (specs/Texts.antt), piece by piece and without memory; a text is cut
+//! short only where the sink's count of faults rose.
+//! Leaves to others: when a text is written (`service`), and what a show prints (`curly_text`, `set_text`).
+#![tactic(auto)]
+
+mod fault;
+mod writing;
+
+pub use fault::ShellFault;
+pub use writing::{put_fault, put_no_memory, put_reply};
