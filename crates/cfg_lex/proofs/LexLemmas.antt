@@ -8,7 +8,7 @@ use Rattle.cfg_lex.specs.declared.fault.Cause.{Cause}
 use Rattle.cfg_lex.specs.declared.fault.LexFault.{LexFault}
 use Rattle.cfg_lex.specs.declared.front.Front.TheVariants.{Gap, Fault}
 use Rattle.cfg_lex.specs.Lexeme.{Lexeme, Space, LineComment, Comment, Sign, BareWord, AngleWord, QuotedWord, spelled, kind_of, IsShaped, Stands, BeginsWith}
-use Rattle.cfg_lex.specs.Tokens.{token_at, tokens_at, IsTokens, FaultAt, fault_at, IsLeftmostFault}
+use Rattle.cfg_lex.specs.Tokens.{token_at, tokens_at, IsTokens, FaultAt, fault_at, IsLeftmostFault, IsCut}
 use Rattle.cfg_lex.specs.Front.{front_of}
 use Rattle.cfg_lex.proofs.FrontLemmas.{Found, Wrong, found_front, front_found}
 
@@ -109,3 +109,13 @@ not_both text tokens fault a b =
     let same = agrees 0 a.lexemes b.lexemes text [] b.rest a.whole b.front end_of_text (end_at_fault b.rest b.cause b.offset b.wrong) in
     no_fault_of_nothing b.cause b.offset
     (ap front_of same.left ∙ front_found b.rest (Fault b.cause b.offset) (Wrong b.cause b.offset b.wrong))
+
+-- a text is cut in one way
+pub one_cut : (text : List ℕ) (one two : List Token) (fault other : Option LexFault) → IsCut text one fault → IsCut text two other → (one ≡ two) × (fault ≡ other)
+one_cut text one two None None a b = (one_list text one two a b, refl)
+one_cut text one two None (Some other) a b = absurd (not_both text one other a b.0)
+one_cut text one two (Some fault) None a b = absurd (not_both text two fault b a.0)
+one_cut text one two (Some fault) (Some other) a b =
+    let same = agrees 0 a.0.lexemes b.0.lexemes text a.0.rest b.0.rest a.0.front b.0.front
+    (end_at_fault a.0.rest a.0.cause a.0.offset a.0.wrong) (end_at_fault b.0.rest b.0.cause b.0.offset b.0.wrong) in
+    (a.1 ∙ same.listed ∙ sym b.1, ap Some (one_fault text fault other a.0 b.0))

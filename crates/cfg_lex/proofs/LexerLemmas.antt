@@ -2,7 +2,7 @@
 use Rattle.std.proofs.Common.{◌≡◌, ◌<◌, ◌≤◌, ◌+◌, ◌-◌, inl, inr, zero, suc, ℕ, List, [], ◌∷◌, ◌++◌, length, take, drop, Option, None, Some, refl, sym, ap, subst, ◌∙◌, arith, length-append}
 use Rattle.std.specs.Prelude.{All}
 use Rattle.std.specs.List.{flat_map}
-use Rattle.std.proofs.lemmas.List.{append_assoc, append-nil, take_rest, drop_at, drop-drop, length-drop, drop_all}
+use Rattle.std.proofs.lemmas.List.{append_assoc, append-nil, take_at, take_rest, drop_at, drop-drop, length-drop, drop_all}
 use Rattle.std.proofs.lemmas.Bool.{cases_lt}
 use Rattle.std.proofs.lemmas.List.Elements.{All-append, All-nil, All-cons}
 use Rattle.cfg_lex.specs.declared.token.TokenKind.{TokenKind}
@@ -12,10 +12,11 @@ use Rattle.cfg_lex.specs.declared.fault.Cause.TheVariants.{BadByte, OpenComment,
 use Rattle.cfg_lex.specs.declared.front.Front.{Front}
 use Rattle.cfg_lex.specs.declared.front.Front.TheVariants.{Gap, Fault}
 use Rattle.cfg_lex.specs.declared.front.Front.TheVariants as front
-use Rattle.cfg_lex.specs.Lexeme.{Lexeme, spelled, kind_of, Stands, BeginsWith}
-use Rattle.cfg_lex.specs.Tokens.{token_at, tokens_at, IsTokens, IsPlaced, FaultAt, fault_at, IsLeftmostFault, HasAnswer}
+use Rattle.cfg_lex.specs.Lexeme.{Lexeme, spelled, kind_of, word_of, Stands, BeginsWith}
+use Rattle.cfg_lex.specs.Tokens.{token_at, tokens_at, IsTokens, word_spelled, IsPlaced, FaultAt, fault_at, IsLeftmostFault, HasAnswer}
 use Rattle.cfg_lex.specs.Front.{front_of}
 use Rattle.cfg_lex.proofs.FrontLemmas.{IsFront, Found, Wrong, found_front, front_tells}
+use Rattle.cfg_lex.proofs.WordLemmas.{spelled_word}
 use Rattle.cfg_lex.proofs.LexLemmas.{spelled_some, same_found, same_fault, found_is_no_fault}
 
 -- a text is read up to a place, and these are the tokens so far
@@ -76,10 +77,14 @@ tokens_more place (y ∷ xs) x =
     ∙ sym (append_assoc own (tokens_at (place + length (spelled y)) xs) (token_at (kind_of x) (place + length (spelled y) + length (flat_map spelled xs)) (length (spelled x))))
     ∙ ap (λ p. (own ++ tokens_at (place + length (spelled y)) xs) ++ token_at (kind_of x) p (length (spelled x))) (omega (arith, length-append (spelled y) (flat_map spelled xs)))
 
-token_placed : (text : List ℕ) (kind : Option TokenKind) (place count : ℕ) → 0 < count → place + count ≤ length text → All (IsPlaced text) (token_at kind place count)
-token_placed text None place count some within = All-nil (IsPlaced text)
-token_placed text (Some kind) place count some within =
-    All-cons (IsPlaced text) (record { kind = kind; start = place; end = place + count }) [] (record { some = omega arith; within = within }) (All-nil (IsPlaced text))
+token_placed : (text : List ℕ) (kind : Option TokenKind) (place count : ℕ) → IsFound (drop place text) kind count → 0 < count → place + count ≤ length text → All (IsPlaced text) (token_at kind place count)
+token_placed text None place count here some within = All-nil (IsPlaced text)
+token_placed text (Some kind) place count here some within =
+    let size : place + count - place ≡ length (spelled here.lexeme) = omega (arith, here.taken) in
+    let bytes : take (place + count - place) (drop place text) ≡ spelled here.lexeme = ap (λ n. take n (drop place text)) size ∙ ap (take (length (spelled here.lexeme))) here.joined ∙ take_at (spelled here.lexeme) here.behind (length (spelled here.lexeme)) refl in
+    let word : word_of here.lexeme ≡ word_spelled kind (take (place + count - place) (drop place text)) = sym (ap (word_spelled kind) bytes ∙ spelled_word here.lexeme here.behind kind here.stands.shaped here.is) in
+    All-cons (IsPlaced text) (record { kind = kind; start = place; end = place + count }) []
+    (record { some = omega arith; within = within; short = subst (λ w. length w ≤ 255) word here.stands.short }) (All-nil (IsPlaced text))
 
 -- the text is read on over the lexeme that is found
 pub record Moves (text : List ℕ) (place : ℕ) (tokens : List Token) (kind : Option TokenKind) (count : ℕ) : Type 0 where
@@ -113,14 +118,15 @@ moves text place tokens kind count so_far more is =
             ∙ sym (tokens_more 0 so_far.lexemes here.lexeme);
         reached = omega (arith, spelled_more so_far.lexemes here.lexeme, so_far.reached, here.taken);
         within = fits;
-        placed = All-append (IsPlaced text) tokens (token_at kind place count) so_far.placed (token_placed text kind place count positive fits);
+        placed = All-append (IsPlaced text) tokens (token_at kind place count) so_far.placed (token_placed text kind place count here positive fits);
       };
     }
 
 -- the text stops at a fault
-pub record Stops (text : List ℕ) (place : ℕ) (cause : Cause) (offset : ℕ) : Type 0 where
+pub record Stops (text : List ℕ) (place : ℕ) (tokens : List Token) (cause : Cause) (offset : ℕ) : Type 0 where
   pub within : place + offset ≤ length text
   pub leftmost : IsLeftmostFault text (fault_at cause (place + offset))
+  pub listed : tokens ≡ tokens_at 0 leftmost.lexemes
 
 fault_within : (text : List ℕ) (cause : Cause) (offset : ℕ) → FaultAt text cause offset → offset ≤ length text
 fault_within text BadByte offset (inl here) = omega (arith, here.1)
@@ -130,7 +136,7 @@ fault_within text OpenComment offset fault = omega (arith, fault.1)
 fault_within text OpenQuote offset fault = omega (arith, fault.1)
 fault_within text LongWord offset fault = omega (arith, fault.1)
 
-pub stops : (text : List ℕ) (place : ℕ) (tokens : List Token) (cause : Cause) (offset : ℕ) → IsRead text place tokens → place < length text → Fault cause offset ≡ front_of (take (length text - place) (drop place text)) → Stops text place cause offset
+pub stops : (text : List ℕ) (place : ℕ) (tokens : List Token) (cause : Cause) (offset : ℕ) → IsRead text place tokens → place < length text → Fault cause offset ≡ front_of (take (length text - place) (drop place text)) → Stops text place tokens cause offset
 stops text place tokens cause offset so_far more is =
     let rest : List ℕ = drop place text in
     let found : front_of rest ≡ Fault cause offset = sym (is ∙ ap front_of (take_rest text place)) in
@@ -147,6 +153,7 @@ stops text place tokens cause offset so_far more is =
         wrong = wrong;
         told = ap (λ p. fault_at cause (p + offset)) (sym so_far.reached);
       };
+      listed = so_far.listed;
     }
 
 -- the whole text is read

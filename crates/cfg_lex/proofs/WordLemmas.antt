@@ -170,7 +170,7 @@ between_ends inside =
     take_at inside (34 ∷ []) (length (34 ∷ (inside ++ 34 ∷ [])) - 2) (omega (arith, length-append inside (34 ∷ [])))
 
 -- the word of a lexeme's bytes is the lexeme's
-spelled_word : (lexeme : Lexeme) (rest : List ℕ) (kind : TokenKind) → IsShaped lexeme rest → kind_of lexeme ≡ Some kind → word_spelled kind (spelled lexeme) ≡ word_of lexeme
+pub spelled_word : (lexeme : Lexeme) (rest : List ℕ) (kind : TokenKind) → IsShaped lexeme rest → kind_of lexeme ≡ Some kind → word_spelled kind (spelled lexeme) ≡ word_of lexeme
 spelled_word (Space byte) rest kind shaped e = absurd cc
 spelled_word (LineComment bytes) rest kind shaped e = absurd cc
 spelled_word (Comment bytes) rest kind shaped e = absurd cc

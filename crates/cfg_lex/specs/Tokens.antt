@@ -29,11 +29,6 @@ pub record IsTokens (text : List ℕ) (tokens : List Token) : Type 0 where
   pub whole : BeginsWith lexemes text []
   pub listed : tokens ≡ tokens_at 0 lexemes
 
--- a token stands in its text
-pub record IsPlaced (text : List ℕ) (token : Token) : Type 0 where
-  pub some : token.start < token.end
-  pub within : token.end ≤ length text
-
 -- the bytes that stand between the first and the last
 abbrev pub between : List ℕ → List ℕ
 between bytes = take (length bytes - 2) (drop 1 bytes)
@@ -55,6 +50,12 @@ bytes_in text token = take (token.end - token.start) (drop token.start text)
 -- the word of a token in its text
 abbrev pub word_in : List ℕ → Token → List ℕ
 word_in text token = word_spelled token.kind (bytes_in text token)
+
+-- a token stands in its text, and its word has at most 255 bytes
+pub record IsPlaced (text : List ℕ) (token : Token) : Type 0 where
+  pub some : token.start < token.end
+  pub within : token.end ≤ length text
+  pub short : length (word_in text token) ≤ 255
 
 -- the words of the tokens among lexemes, in their order
 abbrev pub word_at : Option TokenKind → List ℕ → List (List ℕ)
@@ -135,6 +136,11 @@ pub record IsLeftmostFault (text : List ℕ) (fault : LexFault) : Type 0 where
   pub front : BeginsWith lexemes text rest
   pub wrong : FaultAt rest cause offset
   pub told : fault ≡ fault_at cause (length (flat_map spelled lexemes) + offset)
+
+-- a text's tokens: up to its end, or up to its leftmost fault where it has one
+abbrev pub IsCut : List ℕ → List Token → Option LexFault → Type 0
+IsCut text tokens None = IsTokens text tokens
+IsCut text tokens (Some fault) = (leftmost : IsLeftmostFault text fault) × (tokens ≡ tokens_at 0 leftmost.lexemes)
 
 -- a text has its tokens, or its leftmost fault
 abbrev pub HasAnswer : List ℕ → Type 0

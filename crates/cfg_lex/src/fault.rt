@@ -2,7 +2,6 @@ ghost use Rattle.std.specs.Prelude.{◌≡◌, min};
 ghost use Rattle.cfg_lex.specs.Tokens.{fault_at};
 ghost use Rattle.cfg_lex.specs.declared.fault.LexFault.TheVariants.{NoMemory};
 
-use std::alloc::{AllocError, AllocFailed};
 use thiserror::Error;
 
 /// Why a text has no tokens, with the place of the leftmost fault. A place past 2^32 - 1 is told as 2^32 - 1.
@@ -20,18 +19,10 @@ pub enum LexFault {
     NoMemory,
 }
 
-impl From<AllocError> for LexFault {
+impl From<cfg_base::NoMemory> for LexFault {
     ghost from_gives = { λ _ fault. fault ≡ NoMemory };
 
-    fn from(_: AllocError) -> LexFault {
-        LexFault::NoMemory
-    }
-}
-
-impl<T: Drop> From<AllocFailed<T>> for LexFault {
-    ghost from_gives = { λ _ fault. fault ≡ NoMemory };
-
-    fn from(_: AllocFailed<T>) -> LexFault {
+    fn from(_: cfg_base::NoMemory) -> LexFault {
         LexFault::NoMemory
     }
 }

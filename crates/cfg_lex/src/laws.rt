@@ -1,10 +1,10 @@
-ghost use Rattle.std.specs.Prelude.{◌≡◌, [], ◌∷◌, ℕ, List, false, map};
+ghost use Rattle.std.specs.Prelude.{◌≡◌, [], ◌∷◌, ℕ, List, Option, false, map};
 ghost use Rattle.cfg_lex.specs.declared.token.Token.{Token};
 ghost use Rattle.cfg_lex.specs.declared.fault.LexFault.{LexFault};
 ghost use Rattle.cfg_lex.specs.Bytes.{goes_on};
 ghost use Rattle.cfg_lex.specs.Lexeme.{BeginsWith, Lexeme};
 ghost use Rattle.cfg_lex.specs.Printed.{IsPrintable, IsPrintedAs, printed_token, printed_word};
-ghost use Rattle.cfg_lex.specs.Tokens.{HasAnswer, IsLeftmostFault, IsTokens, tokens_at, word_in, words_of};
+ghost use Rattle.cfg_lex.specs.Tokens.{HasAnswer, IsCut, IsLeftmostFault, IsTokens, tokens_at, word_in, words_of};
 
 /// Each text has its tokens or its leftmost fault, not both, and one of them.
 pub fn texts_are_read_in_one_way()
@@ -12,6 +12,8 @@ pub fn texts_are_read_in_one_way()
     ensures one_list { (text : List ℕ) (one two : List Token) → IsTokens text one → IsTokens text two → one ≡ two }
     ensures one_fault { (text : List ℕ) (one two : LexFault) → IsLeftmostFault text one → IsLeftmostFault text two → one ≡ two }
     ensures not_both { (text : List ℕ) (tokens : List Token) (fault : LexFault) → IsTokens text tokens → IsLeftmostFault text fault → ⊥ }
+    ensures one_cut { (text : List ℕ) (one two : List Token) (fault other : Option LexFault) → IsCut text one fault → IsCut text two other
+        → (one ≡ two) × (fault ≡ other) }
 {}
 
 /// The words of a text's tokens are those that its lexemes mean.

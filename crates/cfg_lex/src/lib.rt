@@ -18,6 +18,6 @@ pub use fault::LexFault;
 pub use laws::{
     printed_words_are_read_back, texts_are_read_in_one_way, words_of_tokens_are_of_lexemes,
 };
-pub use lexer::tokens;
+pub use lexer::{cut_text, tokens};
 pub use printing::{is_plain, printed_len, push_word};
-pub use token::{Token, TokenKind, Tokens};
+pub use token::{Cut, Token, TokenKind, Tokens};

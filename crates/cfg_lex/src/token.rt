@@ -1,5 +1,6 @@
 ghost use Rattle.std.specs.Prelude.{◌≡◌};
 
+use crate::fault::LexFault;
 use std::marker::Model;
 
 /// What a token is. A word in angles is a bare one.
@@ -51,4 +52,11 @@ impl Tokens {
     {
         &self.tokens
     }
+}
+
+/// What a text is cut into: its tokens up to its end, or up to its leftmost fault.
+#[derive(Debug, Drop)]
+pub struct Cut {
+    pub tokens: Tokens,
+    pub fault: Option<LexFault>,
 }

@@ -10,7 +10,7 @@ ghost use Rattle.session_history.specs.Session.{Sides};
 ghost use Rattle.session_history.specs.Undisturbed.{Undisturbed, RepliesAgree};
 
 use config_core::steps_have_one_outcome;
-use shell_words::lines_have_one_reading;
+use shell_words::lines_are_read_in_one_way;
 
 /// The events of a run lead to one state, and what happened at a place of them is one event, with one reply.
 pub fn histories_have_one_outcome()
@@ -39,5 +39,5 @@ pub fn sessions_have_one_text()
         → (one.turns ≡ other.turns) × (one.held ≡ other.held) × (one.events ≡ other.events) }
 {
     histories_have_one_outcome();
-    lines_have_one_reading();
+    lines_are_read_in_one_way();
 }

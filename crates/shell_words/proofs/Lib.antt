@@ -1,3 +1,7 @@
-pub mod LineLemmas
-pub mod ListLemmas
 pub mod NumberLemmas
+pub mod FormTests
+pub mod FormFacts
+pub mod SymbolLemmas
+pub mod FitLemmas
+pub mod ApartLemmas
+pub mod ReadingLemmas

@@ -1,4 +1,6 @@
-pub mod Line
+pub mod Keyword
 pub mod Number
+pub mod Item
+pub mod Form
 pub mod Reading
-pub mod Printed
+pub mod Walk

@@ -1,5 +1,5 @@
--- The number of levels that a command names. Its range, and how many digits are read, are this project's own.
-use Rattle.std.specs.Prelude.{ℕ, List, length, Bool, ◌&&◌, if◌then◌else◌, Option, None, Some}
+-- The numbers that commands name. How many digits are read is this project's own.
+use Rattle.std.specs.Prelude.{ℕ, List, length, Bool, false, ◌&&◌, if◌then◌else◌, Option, None, Some, nat_le}
 use Rattle.std.specs.List.{list_all}
 use Rattle.std.specs.Int.{is_in_range}
 use Rattle.std.specs.Char.{is_ascii_digit}
@@ -9,7 +9,11 @@ use Rattle.std.specs.Str.Parse.{digits_value}
 abbrev pub is_number : List ℕ → Bool
 is_number word = is_in_range 1 10 (length word) && list_all is_ascii_digit word
 
--- the number that such digits write, where it is from 1 to 2 ^ 32 - 1
-abbrev pub levels_of : List ℕ → Option ℕ
-levels_of word =
-    if is_number word && is_in_range 1 4294967295 (digits_value 10 word) then Some (digits_value 10 word) else None
+-- the number that such digits write, where it is at most 2 ^ 32 - 1
+abbrev pub number_of : List ℕ → Option ℕ
+number_of word = if is_number word && nat_le (digits_value 10 word) 4294967295 then Some (digits_value 10 word) else None
+
+-- it is a number between these two or one of them
+abbrev pub is_between : ℕ → ℕ → Option ℕ → Bool
+is_between low high None = false
+is_between low high (Some number) = nat_le low number && nat_le number high

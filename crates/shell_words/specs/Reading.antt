@@ -1,190 +1,106 @@
 -- What a line asks, in operational and in configuration mode.
--- Junos OS CLI User Guide, on the commands of operational and of configuration mode.
-use Rattle.std.specs.Prelude.{◌≡◌, ℕ, List, [], ◌∷◌, length, map, min, Bool, true, false, ◌||◌, ◌&&◌, ◌==◌, if◌then◌else◌, Option, None, Some, is_some, is_none, unwrap_or, Result, Ok, Err, nat_eq, codes}
-use Rattle.std.specs.List.{list_any}
-use Rattle.std.specs.Cmp.Lexicographic.{pointwise}
+-- Junos OS CLI User Guide, on the commands of operational and of configuration mode; the places of faults are this project's own.
+use Rattle.std.specs.Prelude.{◌≡◌, ◌⊎◌, ◌<◌, ◌≤◌, ◌+◌, ℕ, List, [], ◌∷◌, length, map, min, take, drop, Bool, Option, None, Some, unwrap_or, Result, Ok, Err}
 use Rattle.cfg_base.specs.declared.command.Mode.TheVariants.{Shared}
-use Rattle.cfg_base.specs.declared.command.Op.TheVariants.{Set, Delete, Activate, Deactivate, Protect, Unprotect}
+use Rattle.cfg_base.specs.declared.command.Op.TheVariants as op
 use Rattle.cfg_base.specs.declared.command.Command.{Command}
-use Rattle.cfg_base.specs.declared.command.Command.TheVariants.{Configure, ShowActive, Logout, Edit, Up, Top, Exit, ExitAll, Change, Commit}
+use Rattle.cfg_base.specs.declared.command.Command.TheVariants as command
+use Rattle.cfg_lex.specs.declared.token.Token.{Token}
+use Rattle.cfg_lex.specs.declared.fault.LexFault.{LexFault}
+use Rattle.cfg_lex.specs.declared.fault.LexFault.TheVariants as lex
+use Rattle.cfg_lex.specs.Tokens.{IsCut}
+use Rattle.shell_words.specs.declared.form.Makes.{Makes}
+use Rattle.shell_words.specs.declared.form.Makes.TheVariants as makes
+use Rattle.shell_words.specs.declared.form.CommandForm.{CommandForm}
 use Rattle.shell_words.specs.declared.reader.ReadFault.{ReadFault}
 use Rattle.shell_words.specs.declared.reader.ReadFault.TheVariants.{Syntax, NoMemory}
-use Rattle.shell_words.specs.declared.token.Token.{Token}
-use Rattle.shell_words.specs.declared.verb.Verb.{Verb}
-use Rattle.shell_words.specs.declared.verb.Verb.TheVariants as verb
-use Rattle.shell_words.specs.Line.{tokens_of}
-use Rattle.shell_words.specs.Number.{levels_of}
+use Rattle.shell_words.specs.Item.{Item, item_in}
+use Rattle.shell_words.specs.Form.{IsIn, Begins}
+use Rattle.shell_words.specs.Number.{number_of}
 
--- the two words are the same bytes
-abbrev pub is_word : List ℕ → List ℕ → Bool
-is_word = pointwise nat_eq
+-- how many levels `up` goes: one, or as many as its word says
+abbrev pub levels_of : List (List ℕ) → ℕ
+levels_of [] = 1
+levels_of (word ∷ words) = unwrap_or (number_of word) 1
 
--- the word is one of these
-abbrev pub is_one_of : List ℕ → List (List ℕ) → Bool
-is_one_of word words = list_any (is_word word) words
+-- the command that a form makes of its words; none where it isn't served
+abbrev pub command_of : Makes → List (List ℕ) → Option Command
+command_of makes.Configure words = Some (command.Configure Shared)
+command_of (makes.ShowActive form) words = Some (command.ShowActive words form)
+command_of makes.Logout words = Some command.Logout
+command_of makes.Set words = Some (command.Change (op.Set words))
+command_of makes.Delete words = Some (command.Change (op.Delete words))
+command_of makes.Activate words = Some (command.Change (op.Activate words))
+command_of makes.Deactivate words = Some (command.Change (op.Deactivate words))
+command_of makes.Protect words = Some (command.Change (op.Protect words))
+command_of makes.Unprotect words = Some (command.Change (op.Unprotect words))
+command_of makes.Edit words = Some (command.Edit words)
+command_of makes.Up words = Some (command.Up (levels_of words))
+command_of makes.Top words = Some command.Top
+command_of makes.Exit words = Some command.Exit
+command_of makes.ExitAll words = Some command.ExitAll
+command_of (makes.Show form) words = Some (command.Show words form)
+command_of makes.Commit words = Some command.Commit
+command_of makes.Unserved words = None
 
--- the bytes of a token's word; none where it is no word
-abbrev pub bytes_of : Token → List ℕ
-bytes_of token = unwrap_or token.word []
+-- a line of a command that isn't served is refused whole, at its first byte
+abbrev pub asked : Option Command → Result (Option Command) ℕ
+asked None = Err 0
+asked (Some command) = Ok (Some command)
 
--- the bytes of the first word of the tokens; none where there is none
-abbrev pub first_of : List Token → List ℕ
-first_of [] = []
-first_of (token ∷ tokens) = bytes_of token
+-- the place of the first token, or else the end
+abbrev pub first_place : List Item → ℕ → ℕ
+first_place [] end = end
+first_place (item ∷ items) end = item.place
 
 -- a place as a fault gives it
 abbrev pub capped : ℕ → ℕ
 capped place = min place 4294967295
 
--- the command, where nothing follows it; else the place of what does
-abbrev pub alone : Command → List Token → Result Command ℕ
-alone command [] = Ok command
-alone command (token ∷ rest) = Err (capped token.place)
+-- a line of these tokens is in a form, and this is what it asks
+pub record Asks (configuring : Bool) (items : List Item) (answer : Result (Option Command) ℕ) : Type 0 where
+  pub form : CommandForm
+  pub words : List (List ℕ)
+  pub line : IsIn configuring items form words
+  pub is : answer ≡ asked (command_of form.makes words)
 
--- the command, where the token is this word and nothing follows it; else the place of what doesn't fit
-abbrev pub ends_in : List ℕ → Command → Token → List Token → Result Command ℕ
-ends_in word command token rest = if is_word (bytes_of token) word then alone command rest else Err (capped token.place)
+-- a line begins with so many of these tokens and with no more; the place told is that of the next token, or the end
+pub record IsMisfit (configuring : Bool) (items : List Item) (end : ℕ) (answer : Result (Option Command) ℕ) : Type 0 where
+  pub count : ℕ
+  pub within : count ≤ length items
+  pub begins : Begins configuring (take count items)
+  pub stops : count < length items → Begins configuring (take (count + 1) items) → ⊥
+  pub is : answer ≡ Err (capped (first_place (drop count items) end))
 
--- the place of the first token that is no word
-abbrev pub stray_of : List Token → Option ℕ
-stray_of [] = None
-stray_of (token ∷ tokens) = if is_none token.word then Some token.place else stray_of tokens
+-- what these tokens ask, which are all of a line: nothing, what their form makes, or the place where the line fits no form
+abbrev pub AnswersWhole : Bool → List Item → ℕ → Result (Option Command) ℕ → Type 0
+AnswersWhole configuring [] end answer = answer ≡ Ok None
+AnswersWhole configuring (item ∷ items) end answer =
+    Asks configuring (item ∷ items) answer
+    ⊎ (((form : CommandForm) (words : List (List ℕ)) → IsIn configuring (item ∷ items) form words → ⊥) × IsMisfit configuring (item ∷ items) end answer)
 
--- the words, unless there is such a place
-abbrev pub unless : Option ℕ → List (List ℕ) → Result (List (List ℕ)) ℕ
-unless None words = Ok words
-unless (Some place) words = Err (capped place)
+-- where a lexical fault stands; want of memory is none
+abbrev pub place_of : LexFault → ℕ
+place_of (lex.BadByte place) = place
+place_of (lex.OpenComment place) = place
+place_of (lex.OpenQuote place) = place
+place_of (lex.LongWord place) = place
+place_of lex.NoMemory = 0
 
--- the words that tokens are, one at least; else the place of the first that is none, or the line's end
-abbrev pub words_given : List Token → ℕ → Result (List (List ℕ)) ℕ
-words_given tokens end =
-    if length tokens == 0 then Err (capped end) else unless (stray_of tokens) (map bytes_of tokens)
-
--- the command that takes the words that were given
-abbrev pub taking : (List (List ℕ) → Command) → Result (List (List ℕ)) ℕ → Result Command ℕ
-taking command (Ok words) = Ok (command words)
-taking command (Err place) = Err place
-
--- `up` with a word that tells so many levels, and nothing behind it
-abbrev pub up_by : Option ℕ → ℕ → List Token → Result Command ℕ
-up_by (Some levels) place rest = alone (Up levels) rest
-up_by None place rest = Err (capped place)
-
--- `up`, which is one level, or `up` and how many
-abbrev pub read_up : List Token → Result Command ℕ
-read_up [] = Ok (Up 1)
-read_up (token ∷ rest) = up_by (levels_of (bytes_of token)) token.place rest
-
--- `exit`, or `exit configuration-mode`
-abbrev pub read_exit : List Token → Result Command ℕ
-read_exit [] = Ok Exit
-read_exit (token ∷ rest) = ends_in (codes "configuration-mode") ExitAll token rest
-
--- `show configuration`
-abbrev pub read_show : List Token → ℕ → Result Command ℕ
-read_show [] end = Err (capped end)
-read_show (token ∷ rest) end = ends_in (codes "configuration") ShowActive token rest
-
--- the command that begins with a word of operational mode at a place, with what follows it
-abbrev pub read_operational : ℕ → List ℕ → List Token → ℕ → Result Command ℕ
-read_operational place first rest end =
-    if is_word first (codes "configure")
-    then alone (Configure Shared) rest
-    else (if is_word first (codes "show")
-    then read_show rest end
-    else (if is_one_of first (codes "exit" ∷ codes "quit" ∷ []) then alone Logout rest else Err (capped place)))
-
--- what the first word of a line of configuration mode calls for
-abbrev pub verb_of : List ℕ → Option Verb
-verb_of first =
-    if is_word first (codes "set")
-    then Some verb.Set
-    else (if is_word first (codes "delete")
-    then Some verb.Delete
-    else (if is_word first (codes "activate")
-    then Some verb.Activate
-    else (if is_word first (codes "deactivate")
-    then Some verb.Deactivate
-    else (if is_word first (codes "protect")
-    then Some verb.Protect
-    else (if is_word first (codes "unprotect")
-    then Some verb.Unprotect
-    else (if is_word first (codes "edit")
-    then Some verb.Edit
-    else (if is_word first (codes "up")
-    then Some verb.Up
-    else (if is_word first (codes "top")
-    then Some verb.Top
-    else (if is_word first (codes "exit")
-    then Some verb.Exit
-    else (if is_word first (codes "quit")
-    then Some verb.Quit
-    else (if is_word first (codes "commit") then Some verb.Commit else None)))))))))))
-
--- the command that begins so at a place, with what follows it
-abbrev pub read_configuring : Option Verb → ℕ → List Token → ℕ → Result Command ℕ
-read_configuring (Some verb.Set) place rest end = taking (λ words. Change (Set words)) (words_given rest end)
-read_configuring (Some verb.Delete) place rest end = taking (λ words. Change (Delete words)) (words_given rest end)
-read_configuring (Some verb.Activate) place rest end = taking (λ words. Change (Activate words)) (words_given rest end)
-read_configuring (Some verb.Deactivate) place rest end = taking (λ words. Change (Deactivate words)) (words_given rest end)
-read_configuring (Some verb.Protect) place rest end = taking (λ words. Change (Protect words)) (words_given rest end)
-read_configuring (Some verb.Unprotect) place rest end = taking (λ words. Change (Unprotect words)) (words_given rest end)
-read_configuring (Some verb.Edit) place rest end = taking (λ words. Edit words) (words_given rest end)
-read_configuring (Some verb.Up) place rest end = read_up rest
-read_configuring (Some verb.Top) place rest end = alone Top rest
-read_configuring (Some verb.Exit) place rest end = read_exit rest
-read_configuring (Some verb.Quit) place rest end = alone Exit rest
-read_configuring (Some verb.Commit) place rest end = alone Commit rest
-read_configuring None place rest end = Err (capped place)
-
--- lines of commands that are not served are refused whole, at their first byte: these begin one in operational mode, by
--- their first word, their second, and whether a third follows
-abbrev pub is_unserved_operational : List ℕ → List ℕ → Bool → Bool
-is_unserved_operational first second third =
-    (is_one_of first (codes "configure" ∷ []) && is_one_of second (codes "private" ∷ codes "exclusive" ∷ []))
-    || (is_one_of first (codes "show" ∷ [])
-    && (is_one_of second (codes "system" ∷ []) || (is_one_of second (codes "configuration" ∷ []) && third)))
-
--- and these in configuration mode
-abbrev pub is_unserved_configuring : List ℕ → List ℕ → Bool
-is_unserved_configuring first second =
-    is_one_of first (codes "show" ∷ codes "rename" ∷ codes "copy" ∷ codes "insert" ∷ codes "load" ∷ codes "rollback" ∷ codes "update" ∷ codes "status" ∷ [])
-    || (is_one_of first (codes "commit" ∷ [])
-    && is_one_of second (codes "check" ∷ codes "confirmed" ∷ codes "comment" ∷ codes "and-quit" ∷ []))
-
--- whether a second of two tokens is a word
-abbrev pub has_second : List Token → Bool
-has_second [] = false
-has_second (token ∷ []) = false
-has_second (token ∷ second ∷ tokens) = is_some second.word
-
--- the command of a line's tokens, the first apart
-abbrev pub read_command : Bool → Token → List Token → ℕ → Result Command ℕ
-read_command true first rest end =
-    if is_unserved_configuring (bytes_of first) (first_of rest)
-    then Err 0
-    else read_configuring (verb_of (bytes_of first)) first.place rest end
-read_command false first rest end =
-    if is_unserved_operational (bytes_of first) (first_of rest) (has_second rest)
-    then Err 0
-    else read_operational first.place (bytes_of first) rest end
-
--- a line that has tokens asks for a command
-abbrev pub asked : Result Command ℕ → Result (Option Command) ℕ
-asked (Ok command) = Ok (Some command)
-asked (Err place) = Err place
-
--- what a line of these tokens asks; nothing where it has none
-abbrev pub read_tokens : Bool → List Token → ℕ → Result (Option Command) ℕ
-read_tokens configuring [] end = Ok None
-read_tokens configuring (first ∷ rest) end = asked (read_command configuring first rest end)
+-- what a line of these tokens asks. A lexical fault behind them is one token more, that fits no form, at its own place
+abbrev pub Answers : Bool → List Item → Option LexFault → ℕ → Result (Option Command) ℕ → Type 0
+Answers configuring items None end answer = AnswersWhole configuring items end answer
+Answers configuring items (Some fault) end answer = IsMisfit configuring items (place_of fault) answer
 
 -- what a line asks: a command, nothing, or the place of its syntax error
-unfoldable pub reading : Bool → List ℕ → Result (Option Command) ℕ
-reading configuring line = read_tokens configuring (tokens_of line) (length line)
+pub record IsReading (configuring : Bool) (line : List ℕ) (answer : Result (Option Command) ℕ) : Type 0 where
+  pub tokens : List Token
+  pub fault : Option LexFault
+  pub cut : IsCut line tokens fault
+  pub answers : Answers configuring (map (item_in line) tokens) fault (length line) answer
 
--- the answer of a reader is that one, unless memory is wanting
-abbrev pub Reads : {A : Type 0} → Result A ReadFault → Result A ℕ → Type 0
-Reads (Ok asked) right = right ≡ Ok asked
-Reads (Err (Syntax place)) right = right ≡ Err place
-Reads (Err NoMemory) right = Unit {0}
+-- what the reader answers is so, unless memory is wanting
+abbrev pub Gives : (Result (Option Command) ℕ → Type 0) → Result (Option Command) ReadFault → Type 0
+Gives Is (Ok command) = Is (Ok command)
+Gives Is (Err (Syntax place)) = Is (Err place)
+Gives Is (Err NoMemory) = Unit {0}

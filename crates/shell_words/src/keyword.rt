@@ -1,45 +1,99 @@
-//! What the tokens of a line begin with.
+//! The words of the commands, each in its one place.
+
 ghost use Rattle.std.specs.Prelude.{◌≡◌};
-ghost use Rattle.std.specs.List.{list_any};
-ghost use Rattle.shell_words.specs.Reading.{bytes_of, first_of, has_second, is_word};
+ghost use Rattle.shell_words.specs.Keyword.{spelled};
 
-use crate::token::Token;
-
-pub(crate) fn is_word(word: &[u8], keyword: &[u8]) -> bool
-    ensures { result ≡ is_word word.now keyword.now }
-{
-    word == keyword
+/// A word that a command is written with.
+#[derive(Clone, Copy, Debug, PartialEq, Eq)]
+pub(crate) enum Keyword {
+    Set,
+    Delete,
+    Activate,
+    Deactivate,
+    Protect,
+    Unprotect,
+    Edit,
+    Up,
+    Top,
+    Exit,
+    Quit,
+    ConfigurationMode,
+    Show,
+    Commit,
+    Configure,
+    Configuration,
+    Display,
+    Inheritance,
+    Private,
+    Exclusive,
+    System,
+    Rename,
+    Copy,
+    Insert,
+    To,
+    Before,
+    After,
+    Load,
+    Merge,
+    Override,
+    Replace,
+    Terminal,
+    Rollback,
+    Update,
+    Status,
+    Check,
+    Confirmed,
+    Comment,
+    AndQuit,
+    Pipe,
 }
 
-pub(crate) fn is_one_of(word: &[u8], keywords: &[&[u8]]) -> bool
-    ensures { result ≡ list_any (λ keyword. is_word word.now keyword.now) keywords.now }
-{
-    keywords.iter().any(|keyword| is_word(word, keyword))
-}
-
-pub(crate) fn bytes_of(token: &Token) -> &[u8]
-    ensures { result.now ≡ bytes_of token.now }
-{
-    match &token.word {
-        Some(word) => word.as_bytes(),
-        None => &[],
-    }
-}
-
-pub(crate) fn first_of(tokens: &[Token]) -> &[u8]
-    ensures { result.now ≡ first_of tokens.now }
-{
-    match tokens {
-        [] => &[],
-        [token, ..] => bytes_of(token),
-    }
-}
-
-pub(crate) fn has_second(tokens: &[Token]) -> bool
-    ensures { result ≡ has_second tokens.now }
-{
-    match tokens {
-        [_, second, ..] => second.word.is_some(),
-        _ => false,
+impl Keyword {
+    /// The bytes of the word.
+    pub(crate) fn bytes(self) -> &'static [u8]
+        ensures { result.now ≡ spelled self }
+    {
+        match self {
+            Keyword::Set => b"set",
+            Keyword::Delete => b"delete",
+            Keyword::Activate => b"activate",
+            Keyword::Deactivate => b"deactivate",
+            Keyword::Protect => b"protect",
+            Keyword::Unprotect => b"unprotect",
+            Keyword::Edit => b"edit",
+            Keyword::Up => b"up",
+            Keyword::Top => b"top",
+            Keyword::Exit => b"exit",
+            Keyword::Quit => b"quit",
+            Keyword::ConfigurationMode => b"configuration-mode",
+            Keyword::Show => b"show",
+            Keyword::Commit => b"commit",
+            Keyword::Configure => b"configure",
+            Keyword::Configuration => b"configuration",
+            Keyword::Display => b"display",
+            Keyword::Inheritance => b"inheritance",
+            Keyword::Private => b"private",
+            Keyword::Exclusive => b"exclusive",
+            Keyword::System => b"system",
+            Keyword::Rename => b"rename",
+            Keyword::Copy => b"copy",
+            Keyword::Insert => b"insert",
+            Keyword::To => b"to",
+            Keyword::Before => b"before",
+            Keyword::After => b"after",
+            Keyword::Load => b"load",
+            Keyword::Merge => b"merge",
+            Keyword::Override => b"override",
+            Keyword::Replace => b"replace",
+            Keyword::Terminal => b"terminal",
+            Keyword::Rollback => b"rollback",
+            Keyword::Update => b"update",
+            Keyword::Status => b"status",
+            Keyword::Check => b"check",
+            Keyword::Confirmed => b"confirmed",
+            Keyword::Comment => b"comment",
+            Keyword::AndQuit => b"and-quit",
+            Keyword::Pipe => b"|",
+        }
     }
 }

@@ -1,17 +1,18 @@
 //! From a line to a command: what a session's line asks, or the place where it isn't a command.
 //!
-//! Guarantees: a line is the one command that its words spell in that mode, or a syntax error at its first token
-//! that doesn't fit (specs/Line.antt, specs/Reading.antt); a line of blanks asks nothing.
-//! Leaves to others: how input is cut into lines (`io_edge`), and what a command does (`config_core`).
+//! Guarantees: a line is the one command that its form makes of its words in that mode, or a syntax error at its
+//! first token with which no form goes on (specs/Form.antt, specs/Reading.antt); a line without tokens asks nothing.
+//! Leaves to others: how input is cut into lines (`io_edge`), the tokens of a line (`cfg_lex`), and what a command
+//! does (`config_core`).
 #![tactic(auto)]
 
+mod form;
+mod item;
 mod keyword;
+mod laws;
 mod number;
-mod plain;
 mod reader;
-mod token;
-mod unserved;
-mod verb;
+mod walk;
 
-pub use plain::is_plain;
+pub use laws::lines_are_read_in_one_way;
 pub use reader::{ReadFault, read_line};

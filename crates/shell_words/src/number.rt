@@ -1,10 +1,10 @@
-//! The number of levels that a command names.
+//! The numbers that commands name.
 ghost use Rattle.std.specs.Prelude.{◌≡◌, length, IsTrue};
 ghost use Rattle.std.specs.Char.{is_ascii_digit};
 ghost use Rattle.std.specs.Int.{is_in_range};
 ghost use Rattle.std.specs.List.{list_all};
 ghost use Rattle.std.specs.Str.Parse.{digits_value};
-ghost use Rattle.shell_words.specs.Number.{is_number, levels_of};
+ghost use Rattle.shell_words.specs.Number.{is_number, number_of};
 
 /// The most digits that a number has.
 const MAX_DIGITS: usize = 10;
@@ -41,15 +41,15 @@ fn value_of(digits: &[u8]) -> u64
     number
 }
 
-/// 1 to 10 digits, of a number from 1 to the most that a `u32` holds.
-pub(crate) fn levels_of(word: &[u8]) -> Option<u32>
-    ensures { result ≡ levels_of word.now }
+/// The number that 1 to 10 digits write, where a `u32` holds it.
+pub(crate) fn number_of(word: &[u8]) -> Option<u32>
+    ensures { result ≡ number_of word.now }
 {
     if !is_number(word) {
         return None;
     }
     let number = value_of(word);
-    if 1 <= number && number <= u64::from(u32::MAX) {
+    if number <= u64::from(u32::MAX) {
         return Some(number as u32);
     }
     None

@@ -1,14 +1,18 @@
-ghost use Rattle.std.specs.Prelude.{◌≡◌};
-ghost use Rattle.shell_words.specs.declared.reader.ReadFault.TheVariants.{NoMemory};
-ghost use Rattle.shell_words.specs.Reading.{Reads, alone, bytes_of, capped, ends_in, read_command, read_configuring, read_exit, read_operational, read_show, read_up, reading, verb_of, words_given};
+//! From a line to the command that it asks for.
 
-use crate::keyword::{bytes_of, first_of, has_second, is_one_of, is_word};
-use crate::number::levels_of;
-use crate::token::{Token, tokens};
-use crate::unserved::{is_unserved_configuring, is_unserved_operational};
-use crate::verb::{Verb, verb_of};
+ghost use Rattle.std.specs.Prelude.{◌≡◌, IfOk, drop, length};
+ghost use Rattle.shell_words.specs.declared.reader.ReadFault.TheVariants.{NoMemory};
+ghost use Rattle.shell_words.specs.Form.{forms_of, parts_of};
+ghost use Rattle.shell_words.specs.Reading.{Answers, AnswersWhole, Gives, IsReading, asked, capped, command_of, first_place, levels_of, place_of};
+ghost use Rattle.shell_words.specs.Walk.{furthest, given};
+
+use crate::form::{CommandForm, Makes, forms_of};
+use crate::item::{Item, items};
+use crate::number::number_of;
+use crate::walk::{form_for, furthest, give};
 use cfg_base::{Command, Mode, NoMemory, Op, Words};
-use std::alloc::{AllocError, Global};
+use cfg_lex::{LexFault, cut_text};
+use std::alloc::Global;
 use thiserror::Error;
 
 /// Why a line is no command.
@@ -29,169 +33,143 @@ impl From<NoMemory> for ReadFault {
     }
 }
 
-impl From<AllocError> for ReadFault {
-    ghost from_gives = { λ _ fault. fault ≡ NoMemory };
+/// How many levels `up` goes.
+fn levels_of(words: &Words) -> u32
+    ensures { result ≡ levels_of words.now }
+{
+    match words.as_slice() {
+        [] => 1,
+        [word, ..] => number_of(word.as_bytes()).unwrap_or(1),
+    }
+}
 
-    fn from(_: AllocError) -> ReadFault {
-        ReadFault::NoMemory
+/// The command that a form makes of its words; none where it isn't served.
+fn command_of(makes: Makes, words: Words) -> Option<Command>
+    ensures { result ≡ command_of makes words }
+{
+    match makes {
+        Makes::Configure => Some(Command::Configure(Mode::Shared)),
+        Makes::ShowActive(form) => Some(Command::ShowActive { words, form }),
+        Makes::Logout => Some(Command::Logout),
+        Makes::Set => Some(Command::Change(Op::Set(words))),
+        Makes::Delete => Some(Command::Change(Op::Delete(words))),
+        Makes::Activate => Some(Command::Change(Op::Activate(words))),
+        Makes::Deactivate => Some(Command::Change(Op::Deactivate(words))),
+        Makes::Protect => Some(Command::Change(Op::Protect(words))),
+        Makes::Unprotect => Some(Command::Change(Op::Unprotect(words))),
+        Makes::Edit => Some(Command::Edit(words)),
+        Makes::Up => Some(Command::Up(levels_of(&words))),
+        Makes::Top => Some(Command::Top),
+        Makes::Exit => Some(Command::Exit),
+        Makes::ExitAll => Some(Command::ExitAll),
+        Makes::Show(form) => Some(Command::Show { words, form }),
+        Makes::Commit => Some(Command::Commit),
+        Makes::Unserved => None,
+    }
+}
+
+/// The words that the tokens give a form.
+fn words_of(alloc: Global, form: &CommandForm, items: &[Item<'_>]) -> Result<Words, NoMemory>
+    ensures { IfOk result (λ words. words ≡ given (parts_of form.now) items.now) }
+{
+    let mut words = Words::new(alloc);
+    give(alloc, &mut words, &form.parts(), items)?;
+    Ok(words)
+}
+
+/// The place of the first token, or else the end.
+fn first_place(items: &[Item<'_>], end: usize) -> usize
+    ensures { result ≡ first_place items.now end }
+{
+    match items {
+        [] => end,
+        [item, ..] => item.place(),
     }
 }
 
 fn syntax(place: usize) -> ReadFault
     ensures { result ≡ ReadFault.Syntax (capped place) }
 {
-    ReadFault::Syntax(place.min(u32::MAX as usize) as u32)
+    ReadFault::Syntax(u32::try_from(place).unwrap_or(u32::MAX))
 }
 
-fn alone(command: Command, rest: &[Token]) -> Result<Command, ReadFault>
-    ensures { Reads result (alone command rest.now) }
+/// Where a lexical fault stands.
+fn place_of(fault: LexFault) -> usize
+    ensures { result ≡ place_of fault }
 {
-    match rest {
-        [] => Ok(command),
-        [token, ..] => Err(syntax(token.place)),
+    match fault {
+        LexFault::BadByte(place)
+        | LexFault::OpenComment(place)
+        | LexFault::OpenQuote(place)
+        | LexFault::LongWord(place) => place as usize,
+        LexFault::NoMemory => 0,
     }
 }
 
-fn ends_in(
-    keyword: &[u8],
-    command: Command,
-    token: &Token,
-    rest: &[Token],
-) -> Result<Command, ReadFault>
-    ensures { Reads result (ends_in keyword.now command token.now rest.now) }
+/// The fault of a line that goes on with these tokens, of which no form goes on with all.
+fn misfit(configuring: bool, items: &[Item<'_>], end: usize) -> ReadFault
+    ensures { result ≡ ReadFault.Syntax (capped (first_place (drop (furthest (forms_of configuring) items.now) items.now) end)) }
 {
-    if is_word(bytes_of(token), keyword) {
-        return alone(command, rest);
-    }
-    Err(syntax(token.place))
+    let count = furthest(forms_of(configuring), items);
+    syntax(first_place(&items[count..], end))
 }
 
-/// The words that tokens are, moved out of them.
-fn words_of(alloc: Global, tokens: Vec<Token>, end: usize) -> Result<Words, ReadFault>
-    ensures { Reads result (words_given tokens.items end) }
+/// A command that isn't served is refused at the line's first byte.
+fn asked(command: Option<Command>) -> Result<Option<Command>, ReadFault>
+    ensures { Gives (λ answer. answer ≡ asked command) result }
 {
-    if tokens.is_empty() {
-        return Err(syntax(end));
+    match command {
+        Some(command) => Ok(Some(command)),
+        None => Err(ReadFault::Syntax(0)),
     }
-    let mut words = Words::new(alloc);
-    for token in tokens {
-        match token.word {
-            Some(word) => words.push(word)?,
-            None => return Err(syntax(token.place)),
-        }
-    }
-    Ok(words)
 }
 
-/// `up [N]`
-fn read_up(rest: &[Token]) -> Result<Command, ReadFault>
-    ensures { Reads result (read_up rest.now) }
+/// What these tokens ask, which are all of a line.
+fn read_whole(
+    alloc: Global,
+    configuring: bool,
+    items: &[Item<'_>],
+    end: usize,
+) -> Result<Option<Command>, ReadFault>
+    ensures { Gives (AnswersWhole configuring items.now end) result }
 {
-    match rest {
-        [] => Ok(Command::Up(1)),
-        [token, rest @ ..] => match levels_of(bytes_of(token)) {
-            Some(levels) => alone(Command::Up(levels), rest),
-            None => Err(syntax(token.place)),
+    if items.is_empty() {
+        return Ok(None);
+    }
+    match form_for(forms_of(configuring), items) {
+        None => Err(misfit(configuring, items, end)),
+        Some(form) => match words_of(alloc, &form, items) {
+            Ok(words) => asked(command_of(form.makes, words)),
+            Err(_) => Err(ReadFault::NoMemory),
         },
     }
 }
 
-/// `exit [configuration-mode]`
-fn read_exit(rest: &[Token]) -> Result<Command, ReadFault>
-    ensures { Reads result (read_exit rest.now) }
-{
-    match rest {
-        [] => Ok(Command::Exit),
-        [token, rest @ ..] => ends_in(b"configuration-mode", Command::ExitAll, token, rest),
-    }
-}
-
-/// `show configuration`
-fn read_show(rest: &[Token], end: usize) -> Result<Command, ReadFault>
-    ensures { Reads result (read_show rest.now end) }
-{
-    match rest {
-        [] => Err(syntax(end)),
-        [token, rest @ ..] => ends_in(b"configuration", Command::ShowActive, token, rest),
-    }
-}
-
-fn read_operational(token: &Token, rest: &[Token], end: usize) -> Result<Command, ReadFault>
-    ensures { Reads result (read_operational token.now.place (bytes_of token.now) rest.now end) }
-{
-    let first = bytes_of(token);
-    if is_word(first, b"configure") {
-        return alone(Command::Configure(Mode::Shared), rest);
-    }
-    if is_word(first, b"show") {
-        return read_show(rest, end);
-    }
-    if is_one_of(first, &[b"exit", b"quit"]) {
-        return alone(Command::Logout, rest);
-    }
-    Err(syntax(token.place))
-}
-
-fn read_configuring(
-    alloc: Global,
-    token: &Token,
-    rest: Vec<Token>,
-    end: usize,
-) -> Result<Command, ReadFault>
-    ensures { Reads result (read_configuring (verb_of (bytes_of token.now)) token.now.place rest.items end) }
-{
-    match verb_of(bytes_of(token)) {
-        Some(Verb::Set) => Ok(Command::Change(Op::Set(words_of(alloc, rest, end)?))),
-        Some(Verb::Delete) => Ok(Command::Change(Op::Delete(words_of(alloc, rest, end)?))),
-        Some(Verb::Activate) => Ok(Command::Change(Op::Activate(words_of(alloc, rest, end)?))),
-        Some(Verb::Deactivate) => Ok(Command::Change(Op::Deactivate(words_of(alloc, rest, end)?))),
-        Some(Verb::Protect) => Ok(Command::Change(Op::Protect(words_of(alloc, rest, end)?))),
-        Some(Verb::Unprotect) => Ok(Command::Change(Op::Unprotect(words_of(alloc, rest, end)?))),
-        Some(Verb::Edit) => Ok(Command::Edit(words_of(alloc, rest, end)?)),
-        Some(Verb::Up) => read_up(&rest),
-        Some(Verb::Top) => alone(Command::Top, &rest),
-        Some(Verb::Exit) => read_exit(&rest),
-        Some(Verb::Quit) => alone(Command::Exit, &rest),
-        Some(Verb::Commit) => alone(Command::Commit, &rest),
-        None => Err(syntax(token.place)),
-    }
-}
-
-fn read_command(
+/// What a line of these tokens asks, where a lexical fault may stand behind them.
+fn read_items(
     alloc: Global,
     configuring: bool,
-    token: &Token,
-    rest: Vec<Token>,
+    items: &[Item<'_>],
+    fault: Option<LexFault>,
     end: usize,
-) -> Result<Command, ReadFault>
-    ensures { Reads result (read_command configuring token.now rest.items end) }
+) -> Result<Option<Command>, ReadFault>
+    ensures { Gives (Answers configuring items.now fault end) result }
 {
-    if configuring {
-        if is_unserved_configuring(bytes_of(token), first_of(&rest)) {
-            return Err(ReadFault::Syntax(0));
-        }
-        return read_configuring(alloc, token, rest, end);
+    match fault {
+        None => read_whole(alloc, configuring, items, end),
+        Some(fault) => Err(misfit(configuring, items, place_of(fault))),
     }
-    if is_unserved_operational(bytes_of(token), first_of(&rest), has_second(&rest)) {
-        return Err(ReadFault::Syntax(0));
-    }
-    read_operational(token, &rest, end)
 }
 
-/// What a line asks, in configuration mode or in operational mode; nothing where it is of spaces and tabs.
-#[tactic(auto, unfolding(crate::specs::Reading::reading))]
+/// What a line asks, in configuration mode or in operational mode; nothing where it has no tokens.
 pub fn read_line(
     alloc: Global,
     configuring: bool,
     line: &[u8],
 ) -> Result<Option<Command>, ReadFault>
-    ensures reads { Reads result (reading configuring line.now) }
+    ensures { Gives (IsReading configuring line.now) result }
 {
-    let mut tokens = tokens(alloc, line)?;
-    if tokens.is_empty() {
-        return Ok(None);
-    }
-    let first = tokens.remove(0);
-    let command = read_command(alloc, configuring, &first, tokens, line.len())?;
-    Ok(Some(command))
+    let cut = cut_text(alloc, line)?;
+    let items = items(alloc, line, cut.tokens.as_slice())?;
+    read_items(alloc, configuring, &items, cut.fault, line.len())
 }

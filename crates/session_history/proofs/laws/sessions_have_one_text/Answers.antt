@@ -4,7 +4,7 @@ use Rattle.session_history.proofs.laws.sessions_have_one_text.Goals as goal
 
 pub returns-clause-text : goal.returns-clause-text
 returns-clause-text c = λ opening caller limit bytes coming one other first second places agree.
-    sessions_agree c.lines_have_one_reading.ensures opening caller limit bytes coming one other first second places agree
+    sessions_agree c.lines_are_read_in_one_way.ensures.one_reading opening caller limit bytes coming one other first second places agree
 
 pub returns-clause-replies : goal.returns-clause-replies
 returns-clause-replies c = λ kept users caller events place answer command reply again one other.
@@ -12,5 +12,5 @@ returns-clause-replies c = λ kept users caller events place answer command repl
 
 pub returns-clause-alone : goal.returns-clause-alone
 returns-clause-alone c = λ kept users caller limit bytes coming one other first second none none'.
-    alone_agree c.lines_have_one_reading.ensures (opening_of kept users) caller limit bytes coming
+    alone_agree c.lines_are_read_in_one_way.ensures.one_reading (opening_of kept users) caller limit bytes coming
     (c.histories_have_one_outcome.ensures.state kept users) (c.histories_have_one_outcome.ensures.reply kept users) one other first second none none'

@@ -1,0 +1,20 @@
+-- The tests of the table of forms, run once.
+use Rattle.std.proofs.Common.{◌≡◌, ◌<◌, length, Bool, true, false, refl, lit<}
+use Rattle.std.specs.List.{list_all}
+use Rattle.shell_words.specs.Form.{forms_of}
+use Rattle.shell_words.proofs.FormTests.{is_sound, all_apart}
+
+pub forms_sound : (configuring : Bool) → list_all is_sound (forms_of configuring) ≡ true
+unfolding forms_of
+forms_sound true = refl
+forms_sound false = refl
+
+pub forms_apart : (configuring : Bool) → all_apart (forms_of configuring) ≡ true
+unfolding forms_of
+forms_apart true = refl
+forms_apart false = refl
+
+pub forms_some : (configuring : Bool) → 0 < length (forms_of configuring)
+unfolding forms_of
+forms_some true = lit< tt
+forms_some false = lit< tt

@@ -1,0 +1,121 @@
+-- Tests of the table of forms, and what they tell of each form.
+use Rattle.std.proofs.Common.{ℕ, List, [], ◌∷◌, Bool, true, false, not, ◌&&◌, ◌||◌}
+use Rattle.std.specs.List.{list_all}
+use Rattle.std.specs.Prelude.{codes}
+use Rattle.cfg_lex.specs.declared.token.TokenKind.{TokenKind}
+use Rattle.cfg_lex.specs.declared.token.TokenKind.TheVariants as kind
+use Rattle.shell_words.specs.declared.form.Symbol.{Symbol}
+use Rattle.shell_words.specs.declared.form.Symbol.TheVariants.{Keyword, Mark, Word, Neither, Number, OpenBracket, CloseBracket}
+use Rattle.shell_words.specs.declared.form.Part.{Part}
+use Rattle.shell_words.specs.declared.form.Part.TheVariants.{Nothing, One, Many}
+use Rattle.shell_words.specs.declared.form.CommandForm.{CommandForm}
+use Rattle.shell_words.specs.Item.{Item}
+use Rattle.shell_words.specs.Form.{is_same, is_of, parts_of}
+use Rattle.shell_words.specs.Keyword.{spelled}
+use Rattle.shell_words.specs.Number.{number_of, is_between}
+
+-- tokens of the symbol are words
+abbrev pub are_words : Symbol → Bool
+are_words (Keyword keyword) = true
+are_words (Mark keyword) = true
+are_words Word = true
+are_words (Neither one other) = true
+are_words (Number low high) = true
+are_words OpenBracket = false
+are_words CloseBracket = false
+
+-- a test that no token is of both
+abbrev pub differ : Symbol → Symbol → Bool
+differ (Keyword one) (Keyword other) = not (is_same (spelled one) (spelled other))
+differ (Keyword one) (Mark other) = not (is_same (spelled one) (spelled other))
+differ (Mark one) (Mark other) = not (is_same (spelled one) (spelled other))
+differ (Number low high) (Keyword other) = not (is_between low high (number_of (spelled other)))
+differ (Neither one other) (Mark mark) = is_same (spelled one) (spelled mark) || is_same (spelled other) (spelled mark)
+differ OpenBracket other = false
+differ CloseBracket other = false
+differ one OpenBracket = are_words one
+differ one CloseBracket = are_words one
+differ one other = false
+
+-- in either order
+abbrev pub disjoint : Symbol → Symbol → Bool
+disjoint one other = differ one other || differ other one
+
+-- what follows a run ends it: no token of the run's symbol may stand there
+abbrev pub ends : Symbol → List Part → Bool
+ends symbol [] = true
+ends symbol (Nothing ∷ parts) = ends symbol parts
+ends symbol (One next ∷ parts) = disjoint symbol next
+ends symbol (Many next ∷ parts) = false
+
+-- each run is ended by what follows it
+abbrev pub are_ended : List Part → Bool
+are_ended [] = true
+are_ended (Nothing ∷ parts) = are_ended parts
+are_ended (One symbol ∷ parts) = are_ended parts
+are_ended (Many symbol ∷ parts) = ends symbol parts && are_ended parts
+
+-- a token of a symbol
+abbrev pub example_word : Symbol → List ℕ
+example_word (Keyword keyword) = spelled keyword
+example_word (Mark keyword) = spelled keyword
+example_word Word = codes "1"
+example_word (Neither one other) = codes "1"
+example_word (Number low high) = codes "1"
+example_word OpenBracket = []
+example_word CloseBracket = []
+
+abbrev pub example_kind : Symbol → TokenKind
+example_kind (Keyword keyword) = kind.Bare
+example_kind (Mark keyword) = kind.Bare
+example_kind Word = kind.Bare
+example_kind (Neither one other) = kind.Bare
+example_kind (Number low high) = kind.Bare
+example_kind OpenBracket = kind.OpenBracket
+example_kind CloseBracket = kind.CloseBracket
+
+abbrev pub example : Symbol → Item
+example symbol = record { kind = example_kind symbol; word = example_word symbol; place = 0 }
+
+-- each token that must stand in a line is one of its symbol
+abbrev pub have_examples : List Part → Bool
+have_examples [] = true
+have_examples (Nothing ∷ parts) = have_examples parts
+have_examples (One symbol ∷ parts) = is_of symbol (example symbol) && have_examples parts
+have_examples (Many symbol ∷ parts) = have_examples parts
+
+-- a token stands in each line
+abbrev pub are_some : List Part → Bool
+are_some [] = false
+are_some (Nothing ∷ parts) = are_some parts
+are_some (One symbol ∷ parts) = true
+are_some (Many symbol ∷ parts) = are_some parts
+
+-- a test that no line is of both parts, where the first ones begin with one token; the last argument tests the parts behind it
+abbrev pub apart_one : Symbol → (List Part → Bool) → List Part → Bool
+apart_one symbol rest [] = true
+apart_one symbol rest (Nothing ∷ others) = apart_one symbol rest others
+apart_one symbol rest (One other ∷ others) = disjoint symbol other || rest others
+apart_one symbol rest (Many other ∷ others) = (disjoint symbol other || rest (Many other ∷ others)) && apart_one symbol rest others
+
+-- where they begin with a run
+abbrev pub apart_many : Symbol → (List Part → Bool) → List Part → Bool
+apart_many symbol rest [] = rest []
+apart_many symbol rest (Nothing ∷ others) = apart_many symbol rest others
+apart_many symbol rest (One other ∷ others) = (disjoint symbol other || apart_many symbol rest others) && rest (One other ∷ others)
+apart_many symbol rest (Many other ∷ others) = rest (Many other ∷ others) && apart_many symbol rest others
+
+-- a test that no line is of both
+abbrev pub apart : List Part → List Part → Bool
+apart [] others = are_some others
+apart (Nothing ∷ parts) others = apart parts others
+apart (One symbol ∷ parts) others = apart_one symbol (apart parts) others
+apart (Many symbol ∷ parts) others = apart_many symbol (apart parts) others
+
+abbrev pub is_sound : CommandForm → Bool
+is_sound form = (are_ended (parts_of form) && have_examples (parts_of form)) && are_some (parts_of form)
+
+-- of two forms no line is of both
+abbrev pub all_apart : List CommandForm → Bool
+all_apart [] = true
+all_apart (form ∷ forms) = list_all (λ (other : CommandForm). apart (parts_of form) (parts_of other)) forms && all_apart forms

@@ -1,0 +1,188 @@
+//! The forms that a line has, a line each, in operational and in configuration mode.
+
+ghost use Rattle.std.specs.Prelude.{◌≡◌};
+ghost use Rattle.shell_words.specs.Form.{forms_of, parts_of};
+
+use crate::keyword::Keyword;
+use cfg_base::Form;
+
+/// Which tokens may stand at a place of a line.
+#[derive(Clone, Copy, Debug, PartialEq, Eq)]
+pub(crate) enum Symbol {
+    /// This word, bare or in quotes.
+    Keyword(Keyword),
+    /// This word where it is bare.
+    Mark(Keyword),
+    /// Any word.
+    Word,
+    /// Any word but these two where they are bare.
+    Neither(Keyword, Keyword),
+    /// A word of 1 to 10 digits, of a number between these two or one of them.
+    Number(u32, u32),
+    OpenBracket,
+    CloseBracket,
+}
+
+/// How many tokens of a kind stand at a place of a line.
+#[derive(Clone, Copy, Debug, PartialEq, Eq)]
+pub(crate) enum Part {
+    /// None: what is left of a form's row.
+    Nothing,
+    One(Symbol),
+    /// None, one or more.
+    Many(Symbol),
+}
+
+/// What a line of a form asks.
+#[derive(Clone, Copy, Debug, PartialEq, Eq)]
+pub(crate) enum Makes {
+    Configure,
+    ShowActive(Form),
+    Logout,
+    Set,
+    Delete,
+    Activate,
+    Deactivate,
+    Protect,
+    Unprotect,
+    Edit,
+    Up,
+    Top,
+    Exit,
+    ExitAll,
+    Show(Form),
+    Commit,
+    /// A command that isn't served yet.
+    Unserved,
+}
+
+/// One form of a line.
+#[derive(Clone, Copy, Debug, PartialEq, Eq)]
+pub(crate) struct CommandForm {
+    pub first: Part,
+    pub second: Part,
+    pub third: Part,
+    pub fourth: Part,
+    pub fifth: Part,
+    pub sixth: Part,
+    pub makes: Makes,
+}
+
+impl CommandForm {
+    /// The parts of a line of this form, in order.
+    pub(crate) fn parts(&self) -> [Part; 6]
+        ensures { result ≡ parts_of self.now }
+    {
+        [
+            self.first,
+            self.second,
+            self.third,
+            self.fourth,
+            self.fifth,
+            self.sixth,
+        ]
+    }
+}
+
+/// Which tokens: `Word`, `OpenBracket`, `CloseBracket`, `mark Pipe`, `until Before or After`, `number 1 to 9`.
+macro_rules! symbol {
+    (mark $mark:ident) => { Symbol::Mark(Keyword::$mark) };
+    (until $mark:ident) => { Symbol::Neither(Keyword::$mark, Keyword::$mark) };
+    (until $one:ident or $other:ident) => { Symbol::Neither(Keyword::$one, Keyword::$other) };
+    (number $low:literal to $high:literal) => { Symbol::Number($low, $high) };
+    ($symbol:ident) => { Symbol::$symbol };
+}
+
+/// A part of a form: a keyword, `one` token or `many`.
+macro_rules! part {
+    (nothing) => { Part::Nothing };
+    (one $($symbol:tt)+) => { Part::One(symbol!($($symbol)+)) };
+    (many $($symbol:tt)+) => { Part::Many(symbol!($($symbol)+)) };
+    ($keyword:ident) => { Part::One(Symbol::Keyword(Keyword::$keyword)) };
+}
+
+/// A form: what it makes, and its parts in brackets.
+macro_rules! form {
+    ($makes:expr; [$($a:tt)+] [$($b:tt)+] [$($c:tt)+] [$($d:tt)+] [$($e:tt)+] [$($f:tt)+]) => {
+        CommandForm {
+            first: part!($($a)+),
+            second: part!($($b)+),
+            third: part!($($c)+),
+            fourth: part!($($d)+),
+            fifth: part!($($e)+),
+            sixth: part!($($f)+),
+            makes: $makes,
+        }
+    };
+    ($makes:expr; $($parts:tt)+) => { form!($makes; $($parts)+ [nothing]) };
+}
+
+static OPERATIONAL: [CommandForm; 9] = [
+    form!(Makes::Configure; [Configure]),
+    form!(Makes::Unserved; [Configure] [Private]),
+    form!(Makes::Unserved; [Configure] [Exclusive]),
+    form!(Makes::ShowActive(Form::Curly); [Show] [Configuration] [many until Pipe]),
+    form!(Makes::ShowActive(Form::SetLines); [Show] [Configuration] [many until Pipe] [one mark Pipe] [Display] [Set]),
+    form!(Makes::Unserved; [Show] [Configuration] [many until Pipe] [one mark Pipe] [Display] [Inheritance]),
+    form!(Makes::Unserved; [Show] [System] [Commit]),
+    form!(Makes::Logout; [Exit]),
+    form!(Makes::Logout; [Quit]),
+];
+
+static CONFIGURING: [CommandForm; 43] = [
+    form!(Makes::Set; [Set] [one Word] [many Word]),
+    form!(Makes::Set; [Set] [many Word] [one OpenBracket] [one Word] [many Word] [one CloseBracket]),
+    form!(Makes::Delete; [Delete] [one Word] [many Word]),
+    form!(Makes::Delete; [Delete] [many Word] [one OpenBracket] [one Word] [many Word] [one CloseBracket]),
+    form!(Makes::Activate; [Activate] [one Word] [many Word]),
+    form!(Makes::Deactivate; [Deactivate] [one Word] [many Word]),
+    form!(Makes::Protect; [Protect] [one Word] [many Word]),
+    form!(Makes::Unprotect; [Unprotect] [one Word] [many Word]),
+    form!(Makes::Edit; [Edit] [one Word] [many Word]),
+    form!(Makes::Up; [Up]),
+    form!(Makes::Up; [Up] [one number 1 to 4294967295]),
+    form!(Makes::Top; [Top]),
+    form!(Makes::Exit; [Exit]),
+    form!(Makes::Exit; [Quit]),
+    form!(Makes::ExitAll; [Exit] [ConfigurationMode]),
+    form!(Makes::Show(Form::Curly); [Show] [many until Pipe]),
+    form!(Makes::Show(Form::SetLines); [Show] [many until Pipe] [one mark Pipe] [Display] [Set]),
+    form!(Makes::Unserved; [Show] [many until Pipe] [one mark Pipe] [Display] [Inheritance]),
+    form!(Makes::Commit; [Commit]),
+    form!(Makes::Unserved; [Commit] [Check]),
+    form!(Makes::Unserved; [Commit] [Confirmed]),
+    form!(Makes::Unserved; [Commit] [Confirmed] [AndQuit]),
+    form!(Makes::Unserved; [Commit] [Confirmed] [Comment] [one Word]),
+    form!(Makes::Unserved; [Commit] [Confirmed] [Comment] [one Word] [AndQuit]),
+    form!(Makes::Unserved; [Commit] [Confirmed] [one number 1 to 65535]),
+    form!(Makes::Unserved; [Commit] [Confirmed] [one number 1 to 65535] [AndQuit]),
+    form!(Makes::Unserved; [Commit] [Confirmed] [one number 1 to 65535] [Comment] [one Word]),
+    form!(Makes::Unserved; [Commit] [Confirmed] [one number 1 to 65535] [Comment] [one Word] [AndQuit]),
+    form!(Makes::Unserved; [Commit] [Comment] [one Word]),
+    form!(Makes::Unserved; [Commit] [Comment] [one Word] [AndQuit]),
+    form!(Makes::Unserved; [Commit] [AndQuit]),
+    form!(Makes::Unserved; [Rename] [one until To] [many until To] [one mark To] [one Word] [many Word]),
+    form!(Makes::Unserved; [Copy] [one until To] [many until To] [one mark To] [one Word] [many Word]),
+    form!(Makes::Unserved; [Insert] [one until Before or After] [many until Before or After] [one mark Before] [one Word] [many Word]),
+    form!(Makes::Unserved; [Insert] [one until Before or After] [many until Before or After] [one mark After] [one Word] [many Word]),
+    form!(Makes::Unserved; [Load] [Merge] [Terminal]),
+    form!(Makes::Unserved; [Load] [Override] [Terminal]),
+    form!(Makes::Unserved; [Load] [Replace] [Terminal]),
+    form!(Makes::Unserved; [Load] [Set] [Terminal]),
+    form!(Makes::Unserved; [Rollback]),
+    form!(Makes::Unserved; [Rollback] [one number 0 to 4294967295]),
+    form!(Makes::Unserved; [Update]),
+    form!(Makes::Unserved; [Status]),
+];
+
+/// The forms that a line has in configuration mode or in operational mode.
+#[tactic(auto, unfolding(crate::specs::Form::forms_of))]
+pub(crate) fn forms_of(configuring: bool) -> &'static [CommandForm]
+    ensures { result.now ≡ forms_of configuring }
+{
+    if configuring {
+        &CONFIGURING
+    } else {
+        &OPERATIONAL
+    }
+}

@@ -1,0 +1,23 @@
+ghost use Rattle.std.specs.Prelude.{◌≡◌, ℕ, List, Bool, Option, None, Result, map};
+ghost use Rattle.std.specs.List.{Contains};
+ghost use Rattle.cfg_base.specs.declared.command.Command.{Command};
+ghost use Rattle.cfg_lex.specs.declared.token.Token.{Token};
+ghost use Rattle.cfg_lex.specs.Tokens.{IsCut};
+ghost use Rattle.shell_words.specs.declared.form.CommandForm.{CommandForm};
+ghost use Rattle.shell_words.specs.Form.{Fits, IsIn, forms_of, parts_of};
+ghost use Rattle.shell_words.specs.Item.{Item, item_in};
+ghost use Rattle.shell_words.specs.Reading.{IsReading, asked, command_of};
+
+/// A line has one reading; a line that is in a form is read as what that form makes of its words, and each form has
+/// such tokens.
+pub fn lines_are_read_in_one_way()
+    ensures one_reading { (configuring : Bool) (line : List ℕ) (one other : Result (Option Command) ℕ)
+        → IsReading configuring line one → IsReading configuring line other → one ≡ other }
+    ensures own_line { (configuring : Bool) (line : List ℕ) (tokens : List Token) (form : CommandForm) (words : List (List ℕ))
+        → IsCut line tokens None → IsIn configuring (map (item_in line) tokens) form words
+        → IsReading configuring line (asked (command_of form.makes words)) }
+    ensures each_form { (configuring : Bool) (form : CommandForm) → Contains (forms_of configuring) form
+        → (items : List Item) × (words : List (List ℕ)) × Fits (parts_of form) items words }
+{
+    cfg_lex::texts_are_read_in_one_way();
+}
