@@ -80,14 +80,14 @@ some_bytes : (bytes : List ℕ) → bytes ≢ [] → 0 < length bytes
 some_bytes [] h = absurd (h refl)
 some_bytes (b ∷ bytes) h = omega arith
 
-fixed_name_some : (id : ℕ) → id < length profile → (row_of id).shape ≡ Fixed → 0 < length (name_of id)
+pub fixed_name_some : (id : ℕ) → id < length profile → (row_of id).shape ≡ Fixed → 0 < length (name_of id)
 fixed_name_some id within e =
     let test = all_at has_fixed_name profile id no_line profile_fixed_names within
     in let named = not_true _ (other_of _ _ test (not_is_true _ (fixed_is _ e)))
     in some_bytes (name_of id) (λ f. let t = same_is _ _ f in cc)
 
 -- words that are canonical are spellings of themselves
-all_spelled : (kind : Kind) (words : List (List ℕ)) → AreCanonical kind words → AllSpelled kind words words
+pub all_spelled : (kind : Kind) (words : List (List ℕ)) → AreCanonical kind words → AllSpelled kind words words
 all_spelled kind [] h = tt
 all_spelled kind (word ∷ words) h =
     (All-head (IsCanonical kind) word words h, all_spelled kind words (All-tail (IsCanonical kind) word words h))
@@ -109,7 +109,7 @@ plain_name Fixed head name step e h = cc
 plain_name Keyed head name step e h = cc
 plain_name Bare head name step e h = cc
 
-fixed_name : (head name : List ℕ) (step : Step) → has_words Fixed head name step ≡ true → name ≡ step.name
+pub fixed_name : (head name : List ℕ) (step : Step) → has_words Fixed head name step ≡ true → name ≡ step.name
 fixed_name head name step h = same _ _ (both (same_word head step.head) _ h).1
 
 -- a level is given no words
@@ -124,10 +124,10 @@ no_words_given Many words e h = cc
 
 -- a step that leads from a place to the next one
 module _ (here next : Place) (step : Step) (led : place_after here step ≡ Some next) where
-  stood : StandsBelow here.row here.in_group next.row
+  pub stood : StandsBelow here.row here.in_group next.row
   stood = (led_to here next step led).stood
 
-  words_at : (shape : Shape) → (row_of next.row).shape ≡ shape → has_words shape (head_of next.row) (name_of next.row) step ≡ true
+  pub words_at : (shape : Shape) → (row_of next.row).shape ≡ shape → has_words shape (head_of next.row) (name_of next.row) step ≡ true
   words_at shape e = subst (λ (s : Shape). has_words s (head_of next.row) (name_of next.row) step ≡ true) e (led_to here next step led).words
 
   has_head : (row_of next.row).shape ≢ Bare → HasHead here.row here.in_group step.head next.row
@@ -141,26 +141,26 @@ module _ (here next : Place) (step : Step) (led : place_after here step ≡ Some
   head_some other = some_bytes step.head (λ e. other (headless_is_bare here next step led e))
 
   -- the own words of the step, and the step of them
-  plain_words : (shape : Shape) → (row_of next.row).shape ≡ shape → is_plain shape ≡ true → (row_of next.row).shape ≢ Bare
+  pub plain_words : (shape : Shape) → (row_of next.row).shape ≡ shape → is_plain shape ≡ true → (row_of next.row).shape ≢ Bare
       → words_of_step step ≡ step.head ∷ []
   plain_words shape e plain other =
       ap (λ (n : List ℕ). word_if_any step.head ++ word_if_any n) (plain_name shape _ _ step plain (words_at shape e))
       ∙ ap (λ (ws : List (List ℕ)). ws ++ []) (one_word step.head (head_some other))
 
-  plain_step : (shape : Shape) → (row_of next.row).shape ≡ shape → is_plain shape ≡ true → step ≡ step_of step.head []
+  pub plain_step : (shape : Shape) → (row_of next.row).shape ≡ shape → is_plain shape ≡ true → step ≡ step_of step.head []
   plain_step shape e plain = ap (λ (n : List ℕ). step_of step.head n) (plain_name shape _ _ step plain (words_at shape e))
 
-  two_words : (row_of next.row).shape ≢ Bare → 0 < length step.name → words_of_step step ≡ step.head ∷ step.name ∷ []
+  pub two_words : (row_of next.row).shape ≢ Bare → 0 < length step.name → words_of_step step ≡ step.head ∷ step.name ∷ []
   two_words other some =
       ap (λ (ws : List (List ℕ)). ws ++ word_if_any step.name) (one_word step.head (head_some other))
       ∙ ap (λ (ws : List (List ℕ)). step.head ∷ ws) (one_word step.name some)
 
-  bare_words : (row_of next.row).shape ≡ Bare → 0 < length step.name → words_of_step step ≡ step.name ∷ []
+  pub bare_words : (row_of next.row).shape ≡ Bare → 0 < length step.name → words_of_step step ≡ step.name ∷ []
   bare_words e some =
       ap (λ (h : List ℕ). word_if_any h ++ word_if_any step.name) (bare_step here next step led e)
       ∙ one_word step.name some
 
-  bare_step_is : (row_of next.row).shape ≡ Bare → step ≡ step_of [] step.name
+  pub bare_step_is : (row_of next.row).shape ≡ Bare → step ≡ step_of [] step.name
   bare_step_is e = ap (λ (h : List ℕ). step_of h step.name) (bare_step here next step led e)
 
   -- words that begin the row say what a statement of the row is
@@ -172,7 +172,7 @@ module _ (here next : Place) (step : Step) (led : place_after here step ≡ Some
       subst (λ (c : Child). IsBegun here c word rest front) (sym begins)
       (subst (λ (s : Shape). IsStatement here next.row (row_of next.row).name_kind (row_of next.row).value_kind s word rest front) (sym e) said)
 
-  begins_own : (word : List ℕ) → (row_of next.row).shape ≢ Bare → ((row_of next.row).shape ≡ Fixed → name_of next.row ≡ word)
+  pub begins_own : (word : List ℕ) → (row_of next.row).shape ≢ Bare → ((row_of next.row).shape ≡ Fixed → name_of next.row ≡ word)
       → child_of here.row here.in_group step.head word ≡ begun.Row next.row
   begins_own word other name = head_begins_row here.row here.in_group step.head word next.row (has_head other) name
 
@@ -221,7 +221,7 @@ module _ (here next : Place) (step : Step) (led : place_after here step ≡ Some
       (λ more. front_of step.name more Bare _ e (name_begins_row here.row here.in_group step.name (first_of more) next.row named.1 stood e)
       (inl record { name = step.name; is_name = named.0; entered_is = level_is (step_of [] step.name) 1 (bare_step_is e) }))
 
-  other_shape : (shape : Shape) → (row_of next.row).shape ≡ shape → is_bare shape ≡ false → (row_of next.row).shape ≢ Bare
+  pub other_shape : (shape : Shape) → (row_of next.row).shape ≡ shape → is_bare shape ≡ false → (row_of next.row).shape ≢ Bare
   other_shape shape e f = not_bare _ (ap is_bare e ∙ f)
 
   enters : (shape : Shape) → (row_of next.row).shape ≡ shape → is_level shape ≡ true → IsNamed here next.row shape step.name → Enters
