@@ -93,7 +93,7 @@ all_spelled kind (word ∷ words) h =
     (All-head (IsCanonical kind) word words h, all_spelled kind words (All-tail (IsCanonical kind) word words h))
 
 -- a shape whose steps have a head and no name
-abbrev is_plain : Shape → Bool
+abbrev pub is_plain : Shape → Bool
 is_plain Container = true
 is_plain Leaf = true
 is_plain Flag = true
