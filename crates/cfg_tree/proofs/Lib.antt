@@ -34,3 +34,4 @@ mod ExcessLemmas
 mod NamingLemmas
 pub mod LimitLemmas
 pub mod StatedLemmas
+mod FullLemmas

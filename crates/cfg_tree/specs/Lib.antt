@@ -12,3 +12,4 @@ pub mod OwnWords
 pub mod Renaming
 pub mod Stated
 pub mod Naming
+pub mod Full

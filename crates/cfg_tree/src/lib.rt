@@ -14,6 +14,7 @@ mod children;
 mod excess;
 mod fault;
 mod front;
+mod full;
 mod gather;
 mod laws;
 mod limit;
@@ -30,12 +31,13 @@ mod walk;
 
 pub use excess::statement_past_limit;
 pub use fault::TreeFault;
+pub use full::{Full, FullMaker, FullWalk, Given};
 pub use gather::GatherFault;
 pub use laws::{
     limits_are_stated, one_path_is_past_the_limit, own_words_name_their_statement,
     puts_have_one_answer, statements_make_a_tree, walks_gather_their_tree, words_have_one_answer,
 };
-pub use limit::MAX_STATEMENTS;
+pub use limit::{MAX_EXPANDED, MAX_STATEMENTS};
 pub use reading::resolve;
 pub use steps::Steps;
 pub use target::{Target, WordsFault};
