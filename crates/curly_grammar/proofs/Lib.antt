@@ -1,0 +1,4 @@
+pub mod RunLemmas
+pub mod HeadLemmas
+pub mod GoesLemmas
+pub mod LeftLemmas
