@@ -2,3 +2,5 @@ pub mod RunLemmas
 pub mod HeadLemmas
 pub mod GoesLemmas
 pub mod LeftLemmas
+pub mod KindLemmas
+pub mod ClosingLemmas
