@@ -565,7 +565,8 @@ module _ (here : Level) (outer : List Level) (tokens : List Lexed) (items : List
   word_left (Listing marks level words) token turn is_word h = listed_left marks level words token turn is_word h
   word_left (After level) token turn is_word h = after_left level token turn is_word h.0 h.1
 
-shape_many : (shape : Shape) → is_many shape ≡ true → shape ≡ Many
+-- the shape of statements with lists
+pub shape_many : (shape : Shape) → is_many shape ≡ true → shape ≡ Many
 shape_many Many h = refl
 shape_many Container h = cc
 shape_many Fixed h = cc

@@ -4,3 +4,4 @@ pub mod GoesLemmas
 pub mod LeftLemmas
 pub mod KindLemmas
 pub mod ClosingLemmas
+pub mod StandingLemmas
