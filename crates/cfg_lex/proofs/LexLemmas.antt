@@ -5,7 +5,9 @@ use Rattle.std.proofs.lemmas.List.{drop_at}
 use Rattle.cfg_lex.specs.declared.token.TokenKind.{TokenKind}
 use Rattle.cfg_lex.specs.declared.token.Token.{Token}
 use Rattle.cfg_lex.specs.declared.fault.Cause.{Cause}
+use Rattle.cfg_lex.specs.declared.fault.Cause.TheVariants as cause
 use Rattle.cfg_lex.specs.declared.fault.LexFault.{LexFault}
+use Rattle.cfg_lex.specs.declared.fault.LexFault.TheVariants.{NoMemory}
 use Rattle.cfg_lex.specs.declared.front.Front.TheVariants.{Gap, Fault}
 use Rattle.cfg_lex.specs.Lexeme.{Lexeme, Space, LineComment, Comment, Sign, BareWord, AngleWord, QuotedWord, spelled, kind_of, IsShaped, Stands, BeginsWith}
 use Rattle.cfg_lex.specs.Tokens.{token_at, tokens_at, IsTokens, FaultAt, fault_at, IsLeftmostFault, IsCut}
@@ -119,3 +121,13 @@ one_cut text one two (Some fault) (Some other) a b =
     let same = agrees 0 a.0.lexemes b.0.lexemes text a.0.rest b.0.rest a.0.front b.0.front
     (end_at_fault a.0.rest a.0.cause a.0.offset a.0.wrong) (end_at_fault b.0.rest b.0.cause b.0.offset b.0.wrong) in
     (a.1 ∙ same.listed ∙ sym b.1, ap Some (one_fault text fault other a.0 b.0))
+
+no_memory_told : (cause : Cause) (place : ℕ) → NoMemory ≡ fault_at cause place → ⊥
+no_memory_told cause.BadByte place e = cc
+no_memory_told cause.OpenComment place e = cc
+no_memory_told cause.OpenQuote place e = cc
+no_memory_told cause.LongWord place e = cc
+
+-- want of memory is no fault of a text
+pub no_memory : (text : List ℕ) → IsLeftmostFault text NoMemory → ⊥
+no_memory text h = no_memory_told h.cause _ h.told

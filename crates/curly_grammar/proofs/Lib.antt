@@ -5,3 +5,5 @@ pub mod LeftLemmas
 pub mod KindLemmas
 pub mod ClosingLemmas
 pub mod StandingLemmas
+pub mod EndLemmas
+pub mod AnswerLemmas

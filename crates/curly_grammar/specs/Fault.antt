@@ -3,6 +3,7 @@ use Rattle.std.specs.Prelude.{◌≡◌, ◌≤◌, ◌<◌, ◌+◌, ℕ, List,
 use Rattle.cfg_base.specs.declared.path.Step.{Step}
 use Rattle.cfg_base.specs.declared.value.Value.{Value}
 use Rattle.cfg_entries.specs.EntryMap.{Pair}
+use Rattle.cfg_lex.specs.declared.fault.LexFault.{LexFault}
 use Rattle.cfg_lex.specs.declared.fault.LexFault.TheVariants as lexical
 use Rattle.cfg_lex.specs.declared.token.Token.{Token}
 use Rattle.cfg_lex.specs.declared.token.TokenKind.{TokenKind}
@@ -91,9 +92,24 @@ pub record HasTooMany (text : List ℕ) : Type 0 where
   pub tokens : List Token
   pub are_tokens : IsTokens text tokens
   pub at : ℕ
+  pub within : at ≤ length tokens
   pub run : Run
   pub read : Goes start (take at (map (lexed_in text) tokens)) run
   pub many : MAX_STATEMENTS < different (paths_met run)
+
+-- a text's lexical fault
+abbrev pub of_lexical : LexFault → TextFault
+of_lexical (lexical.BadByte byte) = fault.BadByte byte
+of_lexical (lexical.OpenComment byte) = fault.OpenComment byte
+of_lexical (lexical.OpenQuote byte) = fault.OpenQuote byte
+of_lexical (lexical.LongWord byte) = fault.LongWord byte
+of_lexical lexical.NoMemory = fault.NoMemory
+
+-- the fault of a text that isn't read for this reason, at this byte
+abbrev pub of_reason : Why → ℕ → TextFault
+of_reason Unexpected byte = fault.Unexpected byte
+of_reason Unknown byte = fault.Unknown byte
+of_reason BadValue byte = fault.BadValue byte
 
 -- the leftmost fault of a text
 abbrev pub IsLeftmostFault : List ℕ → TextFault → Type 0

@@ -5,9 +5,11 @@
 #![tactic(auto)]
 
 mod fault;
+mod laws;
 mod level;
 mod marked;
 mod phase;
 
 pub use fault::TextFault;
+pub use laws::texts_say_one_thing;
 pub use marked::{Marked, Paths};
