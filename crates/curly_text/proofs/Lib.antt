@@ -1,1 +1,3 @@
 pub mod PrintingLemmas
+pub mod OrderBackLemmas
+pub mod FillLemmas
