@@ -1,3 +1,6 @@
 pub mod PrintingLemmas
 pub mod OrderBackLemmas
 pub mod FillLemmas
+pub mod LexedLemmas
+pub mod PrintableLemmas
+pub mod LayoutLemmas
