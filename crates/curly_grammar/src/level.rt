@@ -6,9 +6,9 @@ use cfg_schema::{Place, row};
 
 /// A statement that holds a text, or the top: its path, and its row.
 #[derive(Debug, Drop)]
-pub(crate) struct Level {
-    pub(crate) path: Path,
-    pub(crate) place: Place,
+pub struct Level {
+    pub path: Path,
+    pub place: Place,
 }
 
 /// Whether a statement is a level itself.

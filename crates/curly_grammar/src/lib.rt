@@ -12,4 +12,5 @@ mod phase;
 
 pub use fault::TextFault;
 pub use laws::texts_say_one_thing;
+pub use level::Level;
 pub use marked::{Marked, Paths};
