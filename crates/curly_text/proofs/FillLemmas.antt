@@ -21,6 +21,7 @@ use Rattle.cfg_tree.proofs.MapLemmas.{same_step, same_statements}
 use Rattle.cfg_tree.proofs.PathLemmas.{split, same_ends, child_longer, child_differs, get_here, get_other, renamed, order_at, order_other}
 use Rattle.cfg_tree.proofs.FollowLemmas.{typed_place}
 use Rattle.cfg_tree.proofs.ReadyLemmas.{no_child}
+use Rattle.cfg_tree.proofs.StatedLemmas.{stated-append}
 use Rattle.cfg_tree.proofs.OnceLemmas.{children_once}
 use Rattle.curly_text.proofs.OrderBackLemmas.{ordered_names, order_back}
 
@@ -49,10 +50,6 @@ abbrev Differ : List Step → Type 0
 Differ [] = Unit {0}
 Differ (s ∷ steps) = (Lists steps s → ⊥) × Differ steps
 
-stated-append : (m : Statements) (xs ys : List (Pair Value)) → stated m (xs ++ ys) ≡ stated (stated m xs) ys
-stated-append m [] ys = refl
-stated-append m (x ∷ xs) ys = stated-append (stated_one m x) xs ys
-
 -- what is listed once
 is_self : (s : Step) → eq_by_cmp step_cmp s s ≡ true
 is_self s = (same_step s s).1 refl
@@ -61,10 +58,10 @@ kept_length : (s : Step) (steps : List Step) → Lists steps s → 0 < length (f
 kept_length s [] l = absurd l
 kept_length s (t ∷ steps) l =
     elim l [
-      inl e ↦
-        let same = ap (λ (x : Step). eq_by_cmp step_cmp s x) (sym e) ∙ is_self s
-        in subst (λ (b : Bool). 0 < length (cond b (t ∷ filter (eq_by_cmp step_cmp s) steps) (filter (eq_by_cmp step_cmp s) steps))) (sym same) (omega arith)
-    | inr r ↦ more (eq_by_cmp step_cmp s t) (kept_length s steps r)
+      | inl e ↦
+          let same = ap (λ (x : Step). eq_by_cmp step_cmp s x) (sym e) ∙ is_self s
+          in subst (λ (b : Bool). 0 < length (cond b (t ∷ filter (eq_by_cmp step_cmp s) steps) (filter (eq_by_cmp step_cmp s) steps))) (sym same) (omega arith)
+      | inr r ↦ more (eq_by_cmp step_cmp s t) (kept_length s steps r)
     ]
   where
     more : (b : Bool) → 0 < length (filter (eq_by_cmp step_cmp s) steps)
@@ -115,7 +112,7 @@ module _ (m : Statements) (tree : IsTree m) (p : List Step) where
   children_differ =
       differ (children_of m p) (λ s. subst (λ (ss : List Step). length ss ≤ 1) (sym (children_once m p s tree)) (step_if_few _ s))
 
-  child_there : (s : Step) → Lists (children_of m p) s → is_some (map.get m (p ++ s ∷ [])) ≡ true
+  pub child_there : (s : Step) → Lists (children_of m p) s → is_some (map.get m (p ++ s ∷ [])) ≡ true
   child_there s l = some_there _ s (subst (λ (ss : List Step). 0 < length ss) (children_once m p s tree) (kept_length s (children_of m p) l))
 
   there_listed : (s : Step) → is_some (map.get m (p ++ s ∷ [])) ≡ true → Lists (children_of m p) s
@@ -180,20 +177,20 @@ adds_more : (m x z y : Statements) (p : List Step) (s : Step) (steps : List Step
     → Adds m x z p (s ∷ []) → Adds m z y p steps → Adds m x y p (s ∷ steps)
 adds_more m x z y p s steps apart one rest = record {
   inside = λ t below l. elim l [
-    inl e ↦
-      subst (λ (u : Step). map.get y (p ++ u ∷ below) ≡ map.get m (p ++ u ∷ below)) (sym e)
-      (rest.outside (p ++ s ∷ below) (longer p below s) (λ u other l f. apart (subst (λ (v : Step). Lists steps v) (sym (same_first p below other s u f)) l))
-      ∙ one.inside s below (inl refl))
-  | inr r ↦ rest.inside t below r
+    | inl e ↦
+        subst (λ (u : Step). map.get y (p ++ u ∷ below) ≡ map.get m (p ++ u ∷ below)) (sym e)
+        (rest.outside (p ++ s ∷ below) (longer p below s) (λ u other l f. apart (subst (λ (v : Step). Lists steps v) (sym (same_first p below other s u f)) l))
+        ∙ one.inside s below (inl refl))
+    | inr r ↦ rest.inside t below r
   ];
   outside = λ q d h.
-    rest.outside q d (λ u below l. h u below (inr l))
-    ∙ one.outside q d (λ u below l. elim l [ inl e ↦ h u below (inl e) | inr r ↦ absurd r ]);
+      rest.outside q d (λ u below l. h u below (inr l))
+      ∙ one.outside q d (λ u below l. elim l [ inl e ↦ h u below (inl e) | inr r ↦ absurd r ]);
   here =
-    rest.here
-    ∙ ap (λ (o : Option Value). option_map (renamed (λ names. names ++ ordered_names p steps)) o) one.here
-    ∙ named_twice (ordered_names p (s ∷ [])) (ordered_names p steps) (map.get x p)
-    ∙ ap (λ (more : List (List ℕ)). option_map (renamed (λ names. names ++ more)) (map.get x p)) (sym (names_more p s steps));
+      rest.here
+      ∙ ap (λ (o : Option Value). option_map (renamed (λ names. names ++ ordered_names p steps)) o) one.here
+      ∙ named_twice (ordered_names p (s ∷ [])) (ordered_names p steps) (map.get x p)
+      ∙ ap (λ (more : List (List ℕ)). option_map (renamed (λ names. names ++ more)) (map.get x p)) (sym (names_more p s steps));
 }
 
 -- a new child of a path
@@ -286,17 +283,17 @@ module _ (m : Statements) (tree : IsTree m) (p : List Step) (s : Step) (v : Valu
   adds_child : Adds m x y p (s ∷ [])
   adds_child = record {
     inside = λ t rest l. elim l [
-      inl e ↦
-        subst (λ (u : Step). map.get y (p ++ u ∷ rest) ≡ map.get m (p ++ u ∷ rest)) (sym e)
-        (ap (λ (q : List Step). map.get y q) (sym (along rest)) ∙ said_inside rest ∙ ap (λ (q : List Step). map.get m q) (along rest))
-    | inr r ↦ absurd r
+      | inl e ↦
+          subst (λ (u : Step). map.get y (p ++ u ∷ rest) ≡ map.get m (p ++ u ∷ rest)) (sym e)
+          (ap (λ (q : List Step). map.get y q) (sym (along rest)) ∙ said_inside rest ∙ ap (λ (q : List Step). map.get m q) (along rest))
+      | inr r ↦ absurd r
     ];
     outside = λ q d h.
-      below.outside q (λ e. h s [] (inl refl) e) (λ u rest l e. h s (u ∷ rest) (inl refl) (e ∙ along (u ∷ rest)))
-      ∙ new_other x p s (record v { order = [] }) (free []) q d (λ e. h s [] (inl refl) e);
+        below.outside q (λ e. h s [] (inl refl) e) (λ u rest l e. h s (u ∷ rest) (inl refl) (e ∙ along (u ∷ rest)))
+        ∙ new_other x p s (record v { order = [] }) (free []) q d (λ e. h s [] (inl refl) e);
     here =
-      below.outside p (λ e. child_differs p s (sym e)) (λ u rest l e. longer p (u ∷ rest) s (sym (along (u ∷ rest)) ∙ sym e))
-      ∙ new_above x p s (record v { order = [] }) (free []);
+        below.outside p (λ e. child_differs p s (sym e)) (λ u rest l e. longer p (u ∷ rest) s (sym (along (u ∷ rest)) ∙ sym e))
+        ∙ new_above x p s (record v { order = [] }) (free []);
   }
 
 -- so a tree is made of what is said in printing order
@@ -332,8 +329,8 @@ module _ (m : Statements) (tree : IsTree m) where
       (λ t rest l.
       one.outside (p ++ t ∷ rest) (longer p rest t)
       (λ u other k f. elim k [
-        inl e ↦ differ.0 (subst (λ (z : Step). Lists steps z) (same_first p rest other t u f ∙ e) l)
-      | inr r ↦ absurd r
+        | inl e ↦ differ.0 (subst (λ (z : Step). Lists steps z) (same_first p rest other t u f ∙ e) l)
+        | inr r ↦ absurd r
       ])
       ∙ free t rest (inr l))
       more))

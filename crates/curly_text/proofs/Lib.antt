@@ -4,3 +4,5 @@ pub mod FillLemmas
 pub mod LexedLemmas
 pub mod PrintableLemmas
 pub mod LayoutLemmas
+pub mod WrittenLemmas
+pub mod LaidLemmas
