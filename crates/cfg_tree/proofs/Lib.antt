@@ -31,7 +31,7 @@ mod GatherLemmas
 mod GatheredLemmas
 mod JoinLemmas
 mod ExcessLemmas
-mod NamingLemmas
+pub mod NamingLemmas
 pub mod LimitLemmas
 pub mod StatedLemmas
 mod FullLemmas

@@ -1,10 +1,12 @@
 -- How many different paths there are, path by path, and which of them is past the limit.
-use Rattle.std.proofs.Common.{◌≡◌, ℕ, zero, suc, ◌+◌, ◌<◌, ◌≤◌, Bool, true, false, cond, ◌||◌, List, [], ◌∷◌, ◌++◌, take, drop, length, get_or, refl, sym, ap, subst, ◌∙◌, is_eq, arith, append_assoc, append-nil, if◌then◌else◌}
+use Rattle.std.proofs.Common.{◌≡◌, ◌⊎◌, inl, inr, ℕ, zero, suc, ◌+◌, ◌<◌, ◌≤◌, Bool, true, false, cond, ◌||◌, List, [], ◌∷◌, ◌++◌, take, drop, length, get_or, refl, sym, ap, subst, ◌∙◌, is_eq, arith, append_assoc, append-nil, if◌then◌else◌}
 use Rattle.std.specs.List.{list_any}
 use Rattle.std.specs.Ordering.{eq_by_cmp, ordering_reverse}
 use Rattle.std.specs.declared.cmp.Ordering.{Ordering}
 use Rattle.std.specs.declared.cmp.Ordering.TheVariants.{Less, Equal, Greater}
-use Rattle.std.proofs.lemmas.List.{take_more, take-append-drop}
+use Rattle.std.proofs.lemmas.List.{take_more, take_all, take-append-drop}
+use Rattle.std.proofs.Math.Dec.{leb}
+use Rattle.std.proofs.lemmas.Bool.Decides.{leb_tells}
 use Rattle.std.proofs.lemmas.List.Folds.{list_any-append}
 use Rattle.cfg_base.specs.Order.{path_cmp, paths_total}
 use Rattle.cfg_base.specs.declared.path.Step.{Step}
@@ -85,6 +87,15 @@ cond_le false n = omega arith
 through : {a b c : ℕ} → a ≤ b → b ≤ c → a ≤ c
 through h k = omega (arith, h, k)
 
+-- no more than there are paths
+pub different-length : (paths : List (List Step)) → different paths ≤ length paths
+different-length [] = omega arith
+different-length (p ∷ paths) = by_met (is_met paths p) (different-length paths)
+  where
+    by_met : (b : Bool) → different paths ≤ length paths → (if b then 0 else 1) + different paths ≤ length (p ∷ paths)
+    by_met true h = omega (arith, h)
+    by_met false h = omega (arith, h)
+
 -- more paths, and no fewer different ones
 pub different-append : (paths more : List (List Step)) → different paths ≤ different (paths ++ more)
 different-append paths [] = subst (λ (ps : List (List Step)). different paths ≤ different ps) (sym (append-nil paths)) (omega arith)
@@ -136,3 +147,24 @@ past_once paths one other h k = by_order (one_first other one h k) (one_first on
 -- and only where the paths are too many
 pub past_many : (paths : List (List Step)) (at : ℕ) → IsPathPast paths at → MAX_STATEMENTS < different paths
 past_many paths at h = let all = different-take paths (at + 1) in omega (arith, all, h.new)
+
+-- there is one where they are too many
+some_past : (paths : List (List Step)) (n : ℕ) → MAX_STATEMENTS < different (take n paths) → n ≤ length paths → (at : ℕ) × IsPathPast paths at
+some_past paths zero many l = absurd (omega (arith, many))
+some_past paths (suc n) many l = by_test (leb_tells (different (take n paths)) MAX_STATEMENTS) (λ more. some_past paths n more (omega (arith, l)))
+  where
+    now : MAX_STATEMENTS < different (take (n + 1) paths)
+    now = let one : suc n ≡ n + 1 = omega arith in subst (λ (k : ℕ). MAX_STATEMENTS < different (take k paths)) one many
+
+    step : different (take (n + 1) paths) ≤ different (take n paths) + 1
+    step = different-step paths n
+
+    by_test : ((leb (different (take n paths)) MAX_STATEMENTS ≡ true) × (different (take n paths) ≤ MAX_STATEMENTS))
+        ⊎ ((leb (different (take n paths)) MAX_STATEMENTS ≡ false) × (MAX_STATEMENTS < different (take n paths)))
+        → (MAX_STATEMENTS < different (take n paths) → (at : ℕ) × IsPathPast paths at) → (at : ℕ) × IsPathPast paths at
+    by_test (inl few) go = (n, record { within = omega (arith, l); full = omega (arith, few.1, now, step); new = omega (arith, few.1, now, step) })
+    by_test (inr more) go = go more.1
+
+pub past_some : (paths : List (List Step)) → MAX_STATEMENTS < different paths → (at : ℕ) × IsPathPast paths at
+past_some paths many =
+    some_past paths (length paths) (subst (λ (ps : List (List Step)). MAX_STATEMENTS < different ps) (sym (take_all (length paths) paths (omega arith))) many) (omega arith)

@@ -3,6 +3,7 @@ use Rattle.std.proofs.Common.{◌≡◌, ℕ, ◌<◌, Bool, true, false, ◌||�
 use Rattle.std.specs.Prelude.{IsSome}
 use Rattle.std.specs.FinMap as map
 use Rattle.std.specs.Option.{option_to_list, option_map}
+use Rattle.cfg_base.specs.Order.{path_cmp}
 use Rattle.cfg_base.specs.declared.path.Step.{Step}
 use Rattle.cfg_base.specs.declared.value.Value.{Value}
 use Rattle.cfg_base.specs.Words.{with_word}
@@ -14,9 +15,10 @@ use Rattle.cfg_entries.specs.EntryMap.{Pair}
 use Rattle.cfg_tree.specs.Statements.{Statements, parent_of, last_of}
 use Rattle.cfg_tree.specs.Tree.{ordered_head, step_of, lists, IsOrderBy, IsStatementMap, IsTyped}
 use Rattle.cfg_tree.specs.Change.{has_head, is_ordered, with_order, with_order_of, put_last, listed}
-use Rattle.cfg_tree.specs.Gather.{words_of_both, is_many_at, value_of_both, joined_at, gathered, gathered_one, gathered_from_none}
+use Rattle.cfg_tree.specs.Gather.{words_of_both, is_many_at, value_of_both, joined_at, gathered, gathered_one, gathered_from_none, told}
 use Rattle.cfg_tree.specs.Stated.{stated_one, stated, stated_from_none, IsSaid, AreSaid}
-use Rattle.cfg_tree.specs.Naming.{naming, named_in_parent, with_names_of}
+use Rattle.cfg_tree.specs.Naming.{naming, named_in_parent, with_child_names}
+use Rattle.cfg_tree.proofs.GatheredLemmas.{get_gathered}
 use Rattle.cfg_tree.proofs.MapLemmas.{same_statements}
 use Rattle.cfg_tree.proofs.OrderLemmas.{top_is_unordered}
 use Rattle.cfg_tree.proofs.PathLemmas.{split, get_here, get_other, same_or_not}
@@ -122,15 +124,22 @@ with_name_said m item statements said false e =
     not_both false b h = refl
 
 -- so are all of them
-pub names_said : (m : Statements) (items : List (Pair Value)) → IsStatementMap m → IsTyped m → AreSaid m items → gathered m (with_names_of items) ≡ stated m items
+pub names_said : (m : Statements) (items : List (Pair Value)) → IsStatementMap m → IsTyped m → AreSaid m items → gathered m (with_child_names items) ≡ stated m items
 names_said m [] statements typed said = refl
 names_said m (item ∷ items) statements typed said =
-    gathered-append (gathered_one m item) (option_to_list (named_in_parent item.0)) (with_names_of items)
-    ∙ ap (λ (n : Statements). gathered n (with_names_of items)) (with_name_said m item statements said.0 _ refl)
+    gathered-append (gathered_one m item) (option_to_list (named_in_parent item.0)) (with_child_names items)
+    ∙ ap (λ (n : Statements). gathered n (with_child_names items)) (with_name_said m item statements said.0 _ refl)
     ∙ names_said (stated_one m item) items (one_statements m item statements typed said.0) (one_typed m item statements typed said.0) said.1
 
 -- what is gathered of them with their names is what they make
-pub names_from_none : (m : Statements) (items all : List (Pair Value)) → AreSaid map.empty items → all ≡ with_names_of items → m ≡ gathered_from_none all
+pub names_from_none : (m : Statements) (items all : List (Pair Value)) → AreSaid map.empty items → all ≡ with_child_names items → m ≡ gathered_from_none all
     → m ≡ stated_from_none items
 names_from_none m items all said e f =
     f ∙ ap (λ (xs : List (Pair Value)). gathered_from_none xs) e ∙ names_said map.empty items nothing_is.statements nothing_is.typed said
+
+-- what a look-up finds after statements that are said from nothing: what the items of its path tell, with the names of its ordered children
+pub get-stated : (items : List (Pair Value)) (q : List Step) → AreSaid map.empty items → map.get (stated_from_none items) q ≡ told q None (with_child_names items)
+get-stated items q said =
+    ap (λ (m : Statements). map.get m q) (sym (names_said map.empty items nothing_is.statements nothing_is.typed said))
+    ∙ get_gathered (with_child_names items) map.empty q
+    ∙ ap (λ (o : Option Value). told q o (with_child_names items)) (map.get-empty path_cmp q)

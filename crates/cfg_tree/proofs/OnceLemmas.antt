@@ -31,7 +31,7 @@ use Rattle.cfg_tree.proofs.FollowLemmas.{typed_place, typed_last, typed_front}
 use Rattle.cfg_tree.proofs.ReadyLemmas.{order_is}
 
 -- two tests that tell the same
-same_test : (a b : Bool) → (a ≡ true → b ≡ true) → (b ≡ true → a ≡ true) → a ≡ b
+pub same_test : (a b : Bool) → (a ≡ true → b ≡ true) → (b ≡ true → a ≡ true) → a ≡ b
 same_test true b f g = sym (f refl)
 same_test false true f g = g refl
 same_test false false f g = refl
@@ -56,7 +56,7 @@ once_in {X} eq decides q (x ∷ xs) d = by_test (eq q x) refl (once_in eq decide
     by_test false e go = go
 
 -- the keys of a map differ
-below_apart : (k : List Step) (es : List (List Step × Value)) → T (below_all path_cmp k es) → AllByRecursion (λ y. eq_by_cmp path_cmp k y ≡ false) (each (λ e. e.0) es)
+pub below_apart : (k : List Step) (es : List (List Step × Value)) → T (below_all path_cmp k es) → AllByRecursion (λ y. eq_by_cmp path_cmp k y ≡ false) (each (λ e. e.0) es)
 below_apart k [] h = tt
 below_apart k (e ∷ es) h = (less_apart (path_cmp k e.0) (front _ _ h), below_apart k es (back _ _ h))
   where
@@ -91,7 +91,7 @@ keys_differ (e ∷ es) h =
     back false b p = absurd p
 
 -- what stands below a path is its steps and more
-below_rest : (p q : List Step) → is_below p q ≡ true → (rest : List Step) × (q ≡ p ++ rest)
+pub below_rest : (p q : List Step) → is_below p q ≡ true → (rest : List Step) × (q ≡ p ++ rest)
 below_rest [] q h = (q, refl)
 below_rest (x ∷ p) [] h = cc
 below_rest (x ∷ p) (y ∷ q) h =

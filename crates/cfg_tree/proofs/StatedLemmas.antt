@@ -18,7 +18,7 @@ use Rattle.cfg_schema.specs.Profile.{row_of}
 use Rattle.cfg_schema.specs.Place.{place_of}
 use Rattle.cfg_entries.specs.EntryMap.{Pair}
 use Rattle.cfg_tree.specs.declared.limit.TheConstants.{MAX_STATEMENTS}
-use Rattle.cfg_tree.specs.Statements.{Statements, size_of, parent_of, last_of}
+use Rattle.cfg_tree.specs.Statements.{Statements, size_of, parent_of, last_of, HasParent}
 use Rattle.cfg_tree.specs.Typed.{AreCounted, AreCanonical, AreWordsOf}
 use Rattle.cfg_tree.specs.Tree.{IsStatementMap, IsTyped, IsTree}
 use Rattle.cfg_tree.specs.Change.{with_order, put_last, put_at, is_ordered, IsReady, Fits}
@@ -118,6 +118,9 @@ stated_there m (x ∷ xs) q =
 -- what is there stays there
 pub stays_there : (m : Statements) (xs : List (Pair Value)) (q : List Step) → IsSome (map.get m q) → IsSome (map.get (stated m xs) q)
 stays_there m xs q h = stated_there m xs q ∙ ap (λ (b : Bool). b || is_met (paths_of xs) q) h
+
+pub parent_stays : (m : Statements) (xs : List (Pair Value)) (q : List Step) → HasParent m q → HasParent (stated m xs) q
+parent_stays m xs q h = record { steps = h.steps; parent = λ long. stays_there m xs (parent_of q) (h.parent long) }
 
 -- what is made of statements one by one, each of which adds its path, has a statement for each path
 module _ (made : List (Pair Value) → Statements) (one : Statements → Pair Value → Statements) (none : made [] ≡ map.empty)

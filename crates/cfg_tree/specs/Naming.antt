@@ -17,9 +17,9 @@ abbrev pub named_in_parent : List Step → Option (Pair Value)
 named_in_parent path = if is_ordered path then Some (parent_of path, naming (last_of path).name) else None
 
 -- a statement, and behind it what it adds to its parent
-abbrev pub with_name : Pair Value → List (Pair Value)
-with_name item = item ∷ option_to_list (named_in_parent item.0)
+abbrev pub with_child_name : Pair Value → List (Pair Value)
+with_child_name item = item ∷ option_to_list (named_in_parent item.0)
 
 -- the same of each of these
-abbrev pub with_names_of : List (Pair Value) → List (Pair Value)
-with_names_of items = flat_map with_name items
+abbrev pub with_child_names : List (Pair Value) → List (Pair Value)
+with_child_names items = flat_map with_child_name items

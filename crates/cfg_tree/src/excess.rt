@@ -21,11 +21,8 @@ fn learn(known: &mut BTreeSet<Path>, path: &Path) -> Result<bool, NoMemory>
     Ok(known.insert(path.clone()?)?)
 }
 
-/// The place of the first item that would be one statement more than a tree has, where there is one.
-pub fn statement_past_limit(
-    alloc: Global,
-    items: &[(Path, Value)],
-) -> Result<Option<usize>, NoMemory>
+/// The place of the first item whose path would be one more than a tree has.
+fn path_past(alloc: Global, items: &[(Path, Value)]) -> Result<Option<usize>, NoMemory>
     ensures { IfOk result (λ place. MatchOption place (different (paths_of items.now) ≤ MAX_STATEMENTS) (IsPathPast (paths_of items.now))) }
 {
     let mut known = BTreeSet::new(alloc);
@@ -39,4 +36,18 @@ pub fn statement_past_limit(
         }
     }
     Ok(None)
+}
+
+/// The place of the first item that would be one statement more than a tree has, where there is one.
+pub fn statement_past_limit(
+    alloc: Global,
+    items: &[(Path, Value)],
+) -> Result<Option<usize>, NoMemory>
+    ensures { IfOk result (λ place. MatchOption place (different (paths_of items.now) ≤ MAX_STATEMENTS) (IsPathPast (paths_of items.now))) }
+{
+    // So few have no more paths, and no set of these is made.
+    if items.len() <= MAX_STATEMENTS {
+        return Ok(None);
+    }
+    path_past(alloc, items)
 }

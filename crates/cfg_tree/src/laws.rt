@@ -63,8 +63,9 @@ pub fn statements_make_a_tree()
     ensures size { (items : List (Pair Value)) → size_of (stated_from_none items) ≡ different (paths_of items) }
 {}
 
-/// At most one of the paths is past the limit, and only where they are too many.
+/// One of the paths is past the limit where they are too many, and no other one is; and where they aren't, none is.
 pub fn one_path_is_past_the_limit()
     ensures one_place { (paths : List (List Step)) (one other : ℕ) → IsPathPast paths one → IsPathPast paths other → one ≡ other }
+    ensures some_place { (paths : List (List Step)) → MAX_STATEMENTS < different paths → (at : ℕ) × IsPathPast paths at }
     ensures too_many { (paths : List (List Step)) (at : ℕ) → IsPathPast paths at → MAX_STATEMENTS < different paths }
 {}

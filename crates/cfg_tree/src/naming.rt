@@ -1,7 +1,7 @@
 //! The names of ordered children, as items of their parents.
 
 ghost use Rattle.std.specs.Prelude.{◌≡◌, IfOk};
-ghost use Rattle.cfg_tree.specs.Naming.{naming, named_in_parent, with_names_of};
+ghost use Rattle.cfg_tree.specs.Naming.{naming, named_in_parent, with_child_names};
 
 use crate::reorder::is_ordered;
 use cfg_base::{NoMemory, Path, Value, Word, WordList};
@@ -32,8 +32,11 @@ fn named_in_parent(alloc: Global, path: &Path) -> Result<Option<(Path, Value)>, 
 }
 
 /// Statements, and behind each what it adds to its parent.
-pub fn with_names(alloc: Global, items: Vec<(Path, Value)>) -> Result<Vec<(Path, Value)>, NoMemory>
-    ensures { IfOk result (λ all. all.items ≡ with_names_of items.items) }
+pub fn with_child_names(
+    alloc: Global,
+    items: Vec<(Path, Value)>,
+) -> Result<Vec<(Path, Value)>, NoMemory>
+    ensures { IfOk result (λ all. all.items ≡ with_child_names items.items) }
 {
     let mut all = Vec::with_capacity(alloc, items.len())?;
     for (path, value) in items {

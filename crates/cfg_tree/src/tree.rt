@@ -20,7 +20,7 @@ use crate::children::children_in;
 use crate::excess::statement_past_limit;
 use crate::fault::TreeFault;
 use crate::gather::{GatherFault, gathered_in};
-use crate::naming::with_names;
+use crate::naming::with_child_names;
 use crate::steps::Steps;
 use crate::store::Entries;
 use crate::walk::Walk;
@@ -91,7 +91,7 @@ impl Tree {
         requires few { different (paths_of items.items) ≤ MAX_STATEMENTS }
         ensures { IfOk result (λ tree. tree ≡ stated_from_none items.items) }
     {
-        let items = with_names(alloc, items)?;
+        let items = with_child_names(alloc, items)?;
         let statements = gathered_in(alloc, &older.statements, items)?;
         Ok(Tree { alloc, statements })
     }

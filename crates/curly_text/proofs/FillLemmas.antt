@@ -108,14 +108,14 @@ some_there true s h = refl
 some_there false s h = absurd (omega (arith, h))
 
 module _ (m : Statements) (tree : IsTree m) (p : List Step) where
-  children_differ : Differ (children_of m p)
+  pub children_differ : Differ (children_of m p)
   children_differ =
       differ (children_of m p) (λ s. subst (λ (ss : List Step). length ss ≤ 1) (sym (children_once m p s tree)) (step_if_few _ s))
 
   pub child_there : (s : Step) → Lists (children_of m p) s → is_some (map.get m (p ++ s ∷ [])) ≡ true
   child_there s l = some_there _ s (subst (λ (ss : List Step). 0 < length ss) (children_once m p s tree) (kept_length s (children_of m p) l))
 
-  there_listed : (s : Step) → is_some (map.get m (p ++ s ∷ [])) ≡ true → Lists (children_of m p) s
+  pub there_listed : (s : Step) → is_some (map.get m (p ++ s ∷ [])) ≡ true → Lists (children_of m p) s
   there_listed s e =
       let one = children_once m p s tree ∙ ap (λ (b : Bool). step_if b s) e
       in listed_kept s (children_of m p) (subst (λ (ss : List Step). 0 < length ss) (sym one) (omega arith))
@@ -125,14 +125,14 @@ none_of : (o : Option Value) → is_some o ≡ is_some {T = Value} None → o �
 none_of None e = refl
 none_of (Some v) e = cc
 
-none_below : (m : Statements) (rest path : List Step) → IsStatementMap m → 0 < length path → map.get m path ≡ None → map.get m (path ++ rest) ≡ None
+pub none_below : (m : Statements) (rest path : List Step) → IsStatementMap m → 0 < length path → map.get m path ≡ None → map.get m (path ++ rest) ≡ None
 none_below m [] path statements long e = ap (λ (q : List Step). map.get m q) (append-nil path) ∙ e
 none_below m (t ∷ rest) path statements long e =
     ap (λ (q : List Step). map.get m q) (sym (append_assoc path (t ∷ []) rest))
     ∙ none_below m rest (path ++ t ∷ []) statements (omega (arith, child_longer path t)) (none_of _ (no_child m path t statements long e))
 
 -- the child of a path
-parent_child : (p : List Step) (s : Step) → (parent_of (p ++ s ∷ []) ≡ p) × (last_of (p ++ s ∷ []) ≡ s)
+pub parent_child : (p : List Step) (s : Step) → (parent_of (p ++ s ∷ []) ≡ p) × (last_of (p ++ s ∷ []) ≡ s)
 parent_child p s =
     let long : 0 < length (p ++ s ∷ []) = omega (arith, child_longer p s)
     in same_ends (parent_of (p ++ s ∷ [])) p (last_of (p ++ s ∷ [])) s (sym (split (p ++ s ∷ []) long))
@@ -335,7 +335,7 @@ module _ (m : Statements) (tree : IsTree m) where
       ∙ free t rest (inr l))
       more))
 
-  no_deeper : (p : List Step) → 10 ≤ length p → children_of m p ≡ []
+  pub no_deeper : (p : List Step) → 10 ≤ length p → children_of m p ≡ []
   no_deeper p long = by_place (place_of p) refl
     where
       by_place : (o : Option Place) → place_of p ≡ o → children_at m p o ≡ []

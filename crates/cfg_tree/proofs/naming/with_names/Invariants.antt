@@ -1,7 +1,0 @@
-use Rattle.std.proofs.Common.{◌≡◌, ◌++◌}
-use Rattle.std.specs.Vec.Iter.{into_iter_items}
-use Rattle.cfg_tree.specs.Naming.{with_names_of}
-use Rattle.cfg_tree.proofs.naming.with_names.Given as goal
-
-abbrev pub invariant-loop-path : goal.invariant-loop-path
-invariant-loop-path l = l.all.items ++ with_names_of (into_iter_items l.path-iterator) ≡ with_names_of l.fn.items.items
