@@ -13,7 +13,7 @@ use Rattle.cfg_tree.specs.declared.target.Target.{Target}
 use Rattle.cfg_tree.specs.declared.target.WordsFault.{WordsFault}
 use Rattle.cfg_tree.specs.Statements.{Statements}
 use Rattle.cfg_tree.specs.Resolve.{ResolvesTo}
-use Rattle.curly_text.specs.Printed.{printed}
+use Rattle.curly_print.specs.Printed.{printed}
 use Rattle.set_text.specs.Printed.{printed_set}
 use Rattle.edit_ops.specs.declared.fault.EditFault.{EditFault}
 use Rattle.edit_ops.specs.declared.fault.EditFault.TheVariants as edit

@@ -3,7 +3,7 @@
 //! Guarantees: `prepare` then `accept` is exactly one step of the machine (specs/Machine.antt);
 //! `prepare` changes nothing and takes all memory, `accept` can't fail and takes none.
 //! Leaves to others: which statement words name (`cfg_tree`), what a change makes of the statements (`edit_ops`), how they
-//! are printed (`curly_text`, `set_text`), where events come from and what is kept of them (`session_history`, `service`), and how a reply is written.
+//! are printed (`curly_print`, `set_text`), where events come from and what is kept of them (`session_history`, `service`), and how a reply is written.
 #![tactic(auto)]
 
 mod caller;

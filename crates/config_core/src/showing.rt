@@ -5,7 +5,7 @@ ghost use Rattle.config_core.specs.Machine.{text_as};
 
 use cfg_base::{Bytes, Form, NoMemory, Path};
 use cfg_tree::Tree;
-use curly_text::print;
+use curly_print::print;
 use set_text::print_lines;
 use std::alloc::Global;
 

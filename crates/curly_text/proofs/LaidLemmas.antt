@@ -23,9 +23,9 @@ use Rattle.cfg_tree.proofs.FollowLemmas.{typed_last, below_is_level}
 use Rattle.cfg_tree.proofs.OwnLemmas.{stood}
 use Rattle.curly_grammar.specs.declared.level.Level.{Level}
 use Rattle.curly_grammar.specs.Grammar.{Lexed, sign, Text, End, Short, Block, spell_part, spell, is_mark, is_inactive, is_protect, is_replace, said, LeadsTo, Says, tagged, first_path, Tells, Reads}
-use Rattle.curly_text.specs.Printed.{statement_text, text_below, printed}
-use Rattle.curly_text.specs.Printing.{child_text}
-use Rattle.curly_text.proofs.PrintingLemmas.{statement_some}
+use Rattle.curly_print.specs.Printed.{statement_text, text_below, printed}
+use Rattle.curly_print.specs.Printing.{child_text}
+use Rattle.curly_print.proofs.PrintingLemmas.{statement_some}
 use Rattle.curly_text.proofs.FillLemmas.{Lists, item_and, items_below, child_items, child_there, said_back}
 use Rattle.curly_text.proofs.LexedLemmas.{Closed, closed_closed, nothing_made, whole_made}
 use Rattle.curly_text.proofs.LayoutLemmas.{inactive_mark, protect_mark, mark_if, mark_tokens, word_tokens, value_tokens, statement_made}

@@ -5,8 +5,8 @@ use Rattle.cfg_base.specs.declared.value.Value.{Value}
 use Rattle.cfg_lex.specs.declared.token.TokenKind.TheVariants as kind
 use Rattle.cfg_tree.specs.OwnWords.{own_words}
 use Rattle.curly_grammar.specs.Grammar.{Lexed, sign}
-use Rattle.curly_text.specs.Printed.{marks_of, words_line, value_text, line_of, ended, statement_text}
-use Rattle.curly_text.specs.Printing.{blank_words}
+use Rattle.curly_print.specs.Printed.{marks_of, words_line, value_text, line_of, ended, statement_text}
+use Rattle.curly_print.specs.Printing.{blank_words}
 use Rattle.curly_text.proofs.LexedLemmas.{Closed, Open, Stops, Shuts, closed_closed, closed_open, open_open, open_closed, nothing_made, space_made, sign_made, bare_made, lexed_word, word_made, spaces_made}
 use Rattle.curly_text.proofs.PrintableLemmas.{AllPrintable}
 

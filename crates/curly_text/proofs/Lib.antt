@@ -1,4 +1,3 @@
-pub mod PrintingLemmas
 pub mod OrderBackLemmas
 pub mod FillLemmas
 pub mod LexedLemmas

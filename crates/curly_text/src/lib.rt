@@ -1,13 +1,10 @@
-//! Curly text both ways: how statements are printed, and that what is printed is read as these statements.
+//! Curly text both ways: what is printed of a configuration is read as that configuration.
 //!
-//! Guarantees: `print` gives the text of the statements below a path, in printing order; the whole text of a configuration
-//! reads as that configuration.
-//! Leaves to others: what a text says (`curly_grammar`), and the tokens (`cfg_lex`).
+//! Guarantees: the whole printed text of a configuration reads as that configuration, with nothing tagged.
+//! Leaves to others: how statements are printed (`curly_print`), what a text says (`curly_grammar`), and the tokens
+//! (`cfg_lex`).
 #![tactic(auto)]
 
 mod laws;
-mod line;
-mod printing;
 
 pub use laws::printed_text_is_read_back;
-pub use printing::print;

@@ -2,7 +2,7 @@
 //!
 //! Guarantees: what is written of a reply is its text (specs/Texts.antt), piece by piece and without memory; a text is cut
 //! short only where the sink's count of faults rose.
-//! Leaves to others: when a text is written (`service`), and what a show prints (`curly_text`, `set_text`).
+//! Leaves to others: when a text is written (`service`), and what a show prints (`curly_print`, `set_text`).
 #![tactic(auto)]
 
 mod fault;

@@ -8,7 +8,7 @@ use crate::level::resolved;
 use crate::words::{Arg, words_of};
 use cfg_base::{Form, Op, Path, Value, WordList, Words};
 use cfg_tree::Tree;
-use curly_text::print;
+use curly_print::print;
 use edit_ops::{EditFault, apply};
 use set_text::print_lines;
 use std::alloc::Global;

@@ -1,1 +1,6 @@
 pub mod PrintedLemmas
+pub mod PhaseLemmas
+pub mod FormLemmas
+pub mod CutLemmas
+pub mod ReadLemmas
+pub mod OnceLemmas

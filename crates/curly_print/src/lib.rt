@@ -1,0 +1,11 @@
+//! How statements are printed as curly text.
+//!
+//! Guarantees: `print` gives the text of the statements below a path, in printing order (specs/Printed.antt).
+//! Leaves to others: how a word is printed (`cfg_lex`), what a text says (`curly_grammar`), and that what is printed is read
+//! as what was printed (`curly_text`).
+#![tactic(auto)]
+
+mod line;
+mod printing;
+
+pub use printing::print;

@@ -1,0 +1,112 @@
+//! The parts of a statement's line.
+
+ghost use Rattle.std.specs.Prelude.{◌≡◌, [], ◌∷◌, ◌++◌, OnOk, if◌then◌else◌};
+ghost use Rattle.cfg_tree.specs.OwnWords.{own_words, word_if_any};
+ghost use Rattle.curly_print.specs.Printed.{line_of, marks_of, spaces, value_text, words_line};
+ghost use Rattle.curly_print.specs.Printing.{blank_words};
+
+use cfg_base::{NoMemory, Step, Value, WordList};
+use cfg_lex::push_word;
+
+/// Puts bytes at the end of a text.
+pub(crate) fn push_bytes(text: &mut Vec<u8>, bytes: &[u8]) -> Result<(), NoMemory>
+    ensures { OnOk result (text.new.items ≡ text.old.items ++ bytes.now) }
+{
+    match text.extend_from_slice(bytes) {
+        Ok(()) => Ok(()),
+        Err(_) => Err(NoMemory),
+    }
+}
+
+/// Puts so many spaces at the end of a text.
+pub(crate) fn push_spaces(text: &mut Vec<u8>, count: usize) -> Result<(), NoMemory>
+    ensures { OnOk result (text.new.items ≡ text.old.items ++ spaces count) }
+{
+    for _ in 0..count {
+        text.push(b' ')?;
+    }
+    Ok(())
+}
+
+fn push_if(text: &mut Vec<u8>, there: bool, bytes: &[u8]) -> Result<(), NoMemory>
+    ensures { OnOk result (text.new.items ≡ text.old.items ++ (if there then bytes.now else [])) }
+{
+    if there {
+        push_bytes(text, bytes)
+    } else {
+        Ok(())
+    }
+}
+
+fn push_marks(text: &mut Vec<u8>, value: &Value) -> Result<(), NoMemory>
+    ensures { OnOk result (text.new.items ≡ text.old.items ++ marks_of value.now) }
+{
+    push_if(text, value.inactive, b"inactive: ".as_slice())?;
+    push_if(text, value.protected, b"protect: ".as_slice())
+}
+
+fn push_if_any(text: &mut Vec<u8>, word: &[u8]) -> Result<(), NoMemory>
+    ensures { OnOk result (text.new.items ≡ text.old.items ++ words_line (word_if_any word.now)) }
+{
+    if word.is_empty() {
+        Ok(())
+    } else {
+        push_word(text, word)
+    }
+}
+
+fn push_behind(text: &mut Vec<u8>, word: &[u8]) -> Result<(), NoMemory>
+    ensures { OnOk result (text.new.items ≡ text.old.items ++ blank_words (word_if_any word.now)) }
+{
+    if word.is_empty() {
+        return Ok(());
+    }
+    text.push(b' ')?;
+    push_word(text, word)
+}
+
+/// Puts the head and the name of a step at the end of a text, those that aren't empty.
+#[tactic(auto, using(crate::proofs::PrintingLemmas::headed_line))]
+fn push_step(text: &mut Vec<u8>, step: &Step) -> Result<(), NoMemory>
+    ensures { OnOk result (text.new.items ≡ text.old.items ++ words_line (own_words (step.now ∷ []))) }
+{
+    let head = step.head.as_bytes();
+    let name = step.name.as_bytes();
+    if head.is_empty() {
+        return push_if_any(text, name);
+    }
+    push_word(text, head)?;
+    push_behind(text, name)
+}
+
+fn push_blank_words(text: &mut Vec<u8>, words: &WordList) -> Result<(), NoMemory>
+    ensures { OnOk result (text.new.items ≡ text.old.items ++ blank_words words.now) }
+{
+    let mut left = words.iter();
+    while let Some(word) = left.next() {
+        text.push(b' ')?;
+        push_word(text, word.as_bytes())?;
+    }
+    Ok(())
+}
+
+/// Puts the words of a value at the end of a text: more than one in brackets.
+fn push_words(text: &mut Vec<u8>, words: &WordList) -> Result<(), NoMemory>
+    ensures { OnOk result (text.new.items ≡ text.old.items ++ value_text words.now) }
+{
+    if words.len() < 2 {
+        return push_blank_words(text, words);
+    }
+    push_bytes(text, b" [".as_slice())?;
+    push_blank_words(text, words)?;
+    push_bytes(text, b" ]".as_slice())
+}
+
+/// Puts a statement's marks, its step and its words at the end of a text.
+pub(crate) fn push_line(text: &mut Vec<u8>, step: &Step, value: &Value) -> Result<(), NoMemory>
+    ensures { OnOk result (text.new.items ≡ text.old.items ++ line_of step.now value.now) }
+{
+    push_marks(text, value)?;
+    push_step(text, step)?;
+    push_words(text, &value.words)
+}

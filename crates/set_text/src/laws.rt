@@ -1,0 +1,15 @@
+//! A text has one answer.
+
+ghost use Rattle.std.specs.Prelude.{◌≡◌, ◌≢◌, ℕ, List};
+ghost use Rattle.set_text.specs.declared.fault.LineFault.{LineFault};
+ghost use Rattle.set_text.specs.declared.fault.LineFault.TheVariants.{NoMemory};
+ghost use Rattle.set_text.specs.declared.op_lines.OpLine.{OpLine};
+ghost use Rattle.set_text.specs.Lines.{AsksFor, IsLineFault};
+
+/// A text of lines has one answer, but for want of memory: one list of changes, or one refusal.
+pub fn texts_have_one_answer()
+    ensures one_list { (text : List ℕ) (one other : List OpLine) → AsksFor text one → AsksFor text other → one ≡ other }
+    ensures one_fault { (text : List ℕ) (one other : LineFault) → IsLineFault text one → IsLineFault text other
+        → one ≢ NoMemory → other ≢ NoMemory → one ≡ other }
+    ensures apart { (text : List ℕ) (changes : List OpLine) (fault : LineFault) → AsksFor text changes → IsLineFault text fault → fault ≡ NoMemory }
+{}

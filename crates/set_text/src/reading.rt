@@ -1,0 +1,82 @@
+//! What the lines of a text ask for.
+
+ghost use Rattle.std.specs.Prelude.{◌≡◌, ◌<◌, ◌∷◌, ◌==◌, length, None, Some, Ok, IfOk, IfErr};
+ghost use Rattle.std.specs.List.{All};
+ghost use Rattle.cfg_lex.specs.Tokens.{IsCut, IsPlaced};
+ghost use Rattle.set_text.specs.declared.fit.Fit.TheVariants.{More, Whole};
+ghost use Rattle.set_text.specs.Form.{op_of};
+ghost use Rattle.set_text.specs.Fit.{Fits};
+ghost use Rattle.set_text.specs.Stop.{Says};
+
+use crate::fit::{Fit, fit_of, words_of};
+use crate::stop::{Stop, stop_of, told};
+use crate::verb::Verb;
+use cfg_base::{Op, Words};
+use cfg_lex::{LexFault, Token, cut_text};
+use std::alloc::Global;
+
+fn op_of(verb: Verb, words: Words) -> Op
+    ensures { result ≡ op_of verb words }
+{
+    match verb {
+        Verb::Set => Op::Set(words),
+        Verb::Delete => Op::Delete(words),
+        Verb::Activate => Op::Activate(words),
+        Verb::Deactivate => Op::Deactivate(words),
+        Verb::Protect => Op::Protect(words),
+        Verb::Unprotect => Op::Unprotect(words),
+    }
+}
+
+/// What a line says whose tokens begin a line of a form and are none.
+fn read_more(line: &[u8], tokens: &[Token], fault: Option<LexFault>) -> Result<Option<Op>, Stop>
+    requires cut { IsCut line.now tokens.now fault }
+    requires more { Fits line.now tokens.now More }
+    ensures { Says line.now result }
+{
+    match fault {
+        Some(fault) => Err(stop_of(fault)),
+        None => {
+            if tokens.is_empty() {
+                Ok(None)
+            } else {
+                Err(Stop::At(told(line.len())))
+            }
+        }
+    }
+}
+
+/// What a line says whose tokens are a line of a form.
+fn read_whole(
+    alloc: Global,
+    line: &[u8],
+    tokens: &[Token],
+    fault: Option<LexFault>,
+    verb: Verb,
+) -> Result<Option<Op>, Stop>
+    requires cut { IsCut line.now tokens.now fault }
+    requires placed { All (IsPlaced line.now) tokens.now }
+    requires whole { Fits line.now tokens.now (Whole verb) }
+    ensures { Says line.now result }
+{
+    match fault {
+        Some(fault) => Err(stop_of(fault)),
+        None => {
+            let words = words_of(alloc, line, &tokens[1..])?;
+            Ok(Some(op_of(verb, words)))
+        }
+    }
+}
+
+/// What a line says.
+pub(crate) fn read_line(alloc: Global, line: &[u8]) -> Result<Option<Op>, Stop>
+    ensures { Says line.now result }
+{
+    let cut = cut_text(alloc, line)?;
+    let tokens = cut.tokens.as_slice();
+    match fit_of(alloc, line, tokens)? {
+        Fit::Stops(count) => Err(Stop::At(told(tokens[count].start))),
+        Fit::More => read_more(line, tokens, cut.fault),
+        Fit::Whole(verb) => read_whole(alloc, line, tokens, cut.fault, verb),
+    }
+}
