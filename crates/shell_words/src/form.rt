@@ -122,7 +122,8 @@ static OPERATIONAL: [CommandForm; 9] = [
     form!(Makes::Unserved; [Configure] [Private]),
     form!(Makes::Unserved; [Configure] [Exclusive]),
     form!(Makes::ShowActive(Form::Curly); [Show] [Configuration] [many until Pipe]),
-    form!(Makes::ShowActive(Form::SetLines); [Show] [Configuration] [many until Pipe] [one mark Pipe] [Display] [Set]),
+    form!(Makes::ShowActive(Form::SetLines); [Show] [Configuration] [many until Pipe]
+        [one mark Pipe] [Display] [Set]),
     form!(Makes::Unserved; [Show] [Configuration] [many until Pipe] [one mark Pipe] [Display] [Inheritance]),
     form!(Makes::Unserved; [Show] [System] [Commit]),
     form!(Makes::Logout; [Exit]),
@@ -163,8 +164,10 @@ static CONFIGURING: [CommandForm; 43] = [
     form!(Makes::Unserved; [Commit] [AndQuit]),
     form!(Makes::Unserved; [Rename] [one until To] [many until To] [one mark To] [one Word] [many Word]),
     form!(Makes::Unserved; [Copy] [one until To] [many until To] [one mark To] [one Word] [many Word]),
-    form!(Makes::Unserved; [Insert] [one until Before or After] [many until Before or After] [one mark Before] [one Word] [many Word]),
-    form!(Makes::Unserved; [Insert] [one until Before or After] [many until Before or After] [one mark After] [one Word] [many Word]),
+    form!(Makes::Unserved; [Insert] [one until Before or After] [many until Before or After]
+        [one mark Before] [one Word] [many Word]),
+    form!(Makes::Unserved; [Insert] [one until Before or After] [many until Before or After]
+        [one mark After] [one Word] [many Word]),
     form!(Makes::Unserved; [Load] [Merge] [Terminal]),
     form!(Makes::Unserved; [Load] [Override] [Terminal]),
     form!(Makes::Unserved; [Load] [Replace] [Terminal]),

@@ -108,7 +108,8 @@ fn place_of(fault: LexFault) -> usize
 
 /// The fault of a line that goes on with these tokens, of which no form goes on with all.
 fn misfit(configuring: bool, items: &[Item<'_>], end: usize) -> ReadFault
-    ensures { result ≡ ReadFault.Syntax (capped (first_place (drop (furthest (forms_of configuring) items.now) items.now) end)) }
+    ensures { let count = furthest (forms_of configuring) items.now in
+        result ≡ ReadFault.Syntax (capped (first_place (drop count items.now) end)) }
 {
     let count = furthest(forms_of(configuring), items);
     syntax(first_place(&items[count..], end))
