@@ -75,7 +75,7 @@ first_there step steps false e =
     none : {rest : List Step} → step ∷ rest ≡ [] → ⊥
     none f = cc
 
-some_printed : (levels : ℕ) (m : Statements) (path steps : List Step) (indent : ℕ)
+pub some_printed : (levels : ℕ) (m : Statements) (path steps : List Step) (indent : ℕ)
     → ((step : Step) → filter (eq_by_cmp step_cmp step) steps ≡ step_if (is_some (map.get m (path ++ step ∷ []))) step)
     → 0 < length steps → 0 < length (flat_map (child_text levels m path indent) steps)
 some_printed levels m path [] indent once h = absurd (omega (arith, h))

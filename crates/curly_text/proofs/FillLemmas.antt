@@ -108,7 +108,7 @@ some_there true s h = refl
 some_there false s h = absurd (omega (arith, h))
 
 module _ (m : Statements) (tree : IsTree m) (p : List Step) where
-  pub children_differ : Differ (children_of m p)
+  children_differ : Differ (children_of m p)
   children_differ =
       differ (children_of m p) (λ s. subst (λ (ss : List Step). length ss ≤ 1) (sym (children_once m p s tree)) (step_if_few _ s))
 

@@ -273,7 +273,7 @@ module _ (m : Statements) (tree : IsTree m) where
       laid_children levels indent path here (children_of m path) placed (λ step. laid_below levels (indent + 4) (path ++ step ∷ []))
 
   -- the printed text reads as the tree
-  top_text : text_below MAX_STEPS m [] 0 ≡ printed m []
+  pub top_text : text_below MAX_STEPS m [] 0 ≡ printed m []
   top_text = sym (ap (λ (b : Bool). if b then text_below MAX_STEPS m [] 0 else statement_text 0 (last_of []) (map.get m []) []) top_is_level)
 
   pub reads_back : Reads (printed m []) m []

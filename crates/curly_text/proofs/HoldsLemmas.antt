@@ -1,0 +1,104 @@
+-- A statement holds others where the next one in the order of paths stands below it.
+use Rattle.std.proofs.Common.{◌≡◌, ℕ, ◌+◌, ◌^◌, ◌<◌, Bool, true, false, List, [], ◌∷◌, ◌++◌, length, refl, sym, ap, subst, ◌∙◌, inl, is_some, arith, append-nil}
+use Rattle.std.specs.Prelude.{IsSome}
+use Rattle.std.specs.FinMap as map
+use Rattle.std.specs.List.{sum_by}
+use Rattle.std.specs.Ordering.{is_eq, is_le, ordering_reverse}
+use Rattle.std.specs.declared.cmp.Ordering.{Ordering}
+use Rattle.std.specs.declared.cmp.Ordering.TheVariants.{Less, Equal, Greater}
+use Rattle.cfg_base.specs.Order.{path_cmp, paths_total}
+use Rattle.cfg_base.specs.declared.path.Step.{Step}
+use Rattle.cfg_base.specs.declared.value.Value.{Value}
+use Rattle.cfg_entries.specs.EntryMap.{Pair}
+use Rattle.cfg_tree.specs.Statements.{Statements, size_of, is_below}
+use Rattle.cfg_tree.specs.Tree.{IsTree}
+use Rattle.cfg_tree.specs.After.{IsNext, IsLast}
+use Rattle.cfg_tree.specs.Children.{children_of}
+use Rattle.cfg_tree.proofs.MapLemmas.{same_path, path_same}
+use Rattle.cfg_tree.proofs.PathLemmas.{child_differs}
+use Rattle.cfg_tree.proofs.BelowLemmas.{below_le, below_between, below_self, below_more}
+use Rattle.cfg_tree.proofs.OnceLemmas.{below_rest}
+use Rattle.curly_print.specs.Printed.{printed}
+use Rattle.curly_text.specs.Length.{holds, entry_len, capped}
+use Rattle.curly_text.proofs.FillLemmas.{Lists, child_there, there_listed}
+use Rattle.curly_text.proofs.LengthLemmas.{child_above, lt_is, lt_told, length-printed}
+
+some_listed : (steps : List Step) (s : Step) → Lists steps s → 0 < length steps
+some_listed [] s l = absurd l
+some_listed (t ∷ steps) s l = omega arith
+
+first_listed : (steps : List Step) → 0 < length steps → (s : Step) × Lists steps s
+first_listed [] h = absurd (omega (arith, h))
+first_listed (s ∷ steps) h = (s, inl refl)
+
+no_less : (p : List Step) → path_cmp p p ≡ Less → ⊥
+no_less p e = let tie = (same_path p p).1 refl in let d = ap is_eq e in cc
+
+-- a child stands after its path
+child_after : (p : List Step) (s : Step) → path_cmp p (p ++ s ∷ []) ≡ Less
+child_after p s = by_order _ refl (below_le p (p ++ s ∷ []) (below_more p p s (below_self p)))
+  where
+    by_order : (o : Ordering) → path_cmp p (p ++ s ∷ []) ≡ o → is_le o ≡ true → o ≡ Less
+    by_order Less e h = refl
+    by_order Equal e h = absurd (child_differs p s (sym (path_same p (p ++ s ∷ []) e)))
+    by_order Greater e h = cc
+
+less_le : (o : Ordering) → o ≡ Less → is_le o ≡ true
+less_le o e = ap is_le e
+
+module _ (m : Statements) (tree : IsTree m) (p : List Step) where
+  -- a statement below a path stands below one of its children
+  holds_below : (q : List Step) → IsSome (map.get m q) → path_cmp p q ≡ Less → is_below p q ≡ true → holds m p ≡ true
+  holds_below q there after below = let rest = below_rest p q below in by_rest rest.0 rest.1
+    where
+      by_rest : (rest : List Step) → q ≡ p ++ rest → holds m p ≡ true
+      by_rest [] e = absurd (no_less p (ap (λ (x : List Step). path_cmp p x) (sym (e ∙ append-nil p)) ∙ after))
+      by_rest (t ∷ rest) e =
+          let child = child_above m tree p rest t (ap (λ (x : List Step). is_some (map.get m x)) (sym e) ∙ there)
+          in lt_is 0 (length (children_of m p)) (some_listed (children_of m p) t (there_listed m tree p t child))
+
+  child_held : holds m p ≡ true → (s : Step) × (IsSome (map.get m (p ++ s ∷ [])))
+  child_held h =
+      let first = first_listed (children_of m p) (lt_told 0 (length (children_of m p)) h)
+      in (first.0, child_there m tree p first.0 first.1)
+
+  pub next_holds : (q : List Step) (v : Value) → IsNext m p q v → is_below p q ≡ holds m p
+  next_holds q v next = by_tests (is_below p q) (holds m p) refl refl
+    where
+      by_place : (c : List Step) → IsSome (map.get m c) → path_cmp p c ≡ Less → is_below p c ≡ true → (o : Ordering) → path_cmp c q ≡ o → is_below p q ≡ true
+      by_place c there after below Less e = absurd (next.first c there after e)
+      by_place c there after below Equal e = subst (λ (x : List Step). is_below p x ≡ true) (path_same c q e) below
+      by_place c there after below Greater e =
+          below_between p q c (less_le _ next.after) (paths_total.antisymm q c ∙ ap ordering_reverse e) below
+
+      by_tests : (b h : Bool) → is_below p q ≡ b → holds m p ≡ h → b ≡ h
+      by_tests true true e f = refl
+      by_tests false false e f = refl
+      by_tests true false e f = let held = holds_below q (ap is_some next.found) next.after e in cc
+      by_tests false true e f =
+          let child = child_held f
+          in let below = by_place (p ++ child.0 ∷ []) child.1 (child_after p child.0) (below_more p p child.0 (below_self p)) _ refl
+          in cc
+
+  pub last_holds : IsLast m p → false ≡ holds m p
+  last_holds last = by_test (holds m p) refl
+    where
+      by_test : (h : Bool) → holds m p ≡ h → false ≡ h
+      by_test false f = refl
+      by_test true f = let child = child_held f in absurd (last (p ++ child.0 ∷ []) child.1 (child_after p child.0))
+
+-- what is counted when nothing is left
+pub whole_len : (m : Statements) (total : ℕ) (left : List (Pair Value)) → IsTree m → left ≡ [] → total < 2 ^ 64
+    → capped (total + sum_by (entry_len m) left) ≡ capped (sum_by (entry_len m) (map.entries m)) → total ≡ capped (length (printed m []))
+whole_len m total left tree none small h =
+    let step = ap (λ (es : List (Pair Value)). sum_by (entry_len m) es) none
+    in let counted : total ≡ capped (sum_by (entry_len m) (map.entries m)) = omega (arith, step, h)
+    in counted ∙ ap capped (sym (length-printed m tree))
+
+-- a tree without statements
+pub no_len : (m : Statements) → IsTree m → size_of m ≡ 0 → 0 ≡ capped (length (printed m []))
+no_len m tree none = whole_len m 0 (map.entries m) tree (nothing (map.entries m) (sym (map.len-entries m) ∙ none)) (omega arith) (ap capped (omega arith))
+  where
+    nothing : (es : List (Pair Value)) → length es ≡ 0 → es ≡ []
+    nothing [] e = refl
+    nothing (x ∷ es) e = absurd (omega (arith, e))

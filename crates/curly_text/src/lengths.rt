@@ -1,0 +1,138 @@
+//! How long the whole printed text is, told without memory.
+
+ghost use Rattle.std.specs.Prelude.{◌≡◌, ◌≤◌, ◌+◌, [], ◌∷◌, length, min};
+ghost use Rattle.cfg_tree.specs.OwnWords.{own_words, word_if_any};
+ghost use Rattle.cfg_tree.specs.Statements.{last_of};
+ghost use Rattle.cfg_tree.specs.Tree.{IsTree};
+ghost use Rattle.curly_text.specs.Length.{capped, holds, indent_of, own_len};
+ghost use Rattle.curly_print.specs.Printed.{marks_of, printed, value_text, words_line};
+ghost use Rattle.curly_print.specs.Printing.{blank_words};
+
+use cfg_base::{Path, Step, Value, WordList};
+use cfg_lex::printed_len;
+use cfg_tree::Tree;
+
+fn len_if_any(word: &[u8]) -> usize
+    requires { length word.now ≤ 255 }
+    ensures length { result ≡ length (words_line (word_if_any word.now)) }
+    ensures short { result ≤ 512 }
+{
+    if word.is_empty() {
+        0
+    } else {
+        printed_len(word)
+    }
+}
+
+fn len_behind(word: &[u8]) -> usize
+    requires { length word.now ≤ 255 }
+    ensures length { result ≡ length (blank_words (word_if_any word.now)) }
+    ensures short { result ≤ 513 }
+{
+    if word.is_empty() {
+        0
+    } else {
+        1 + printed_len(word)
+    }
+}
+
+fn step_len(step: &Step) -> usize
+    ensures length { result ≡ length (words_line (own_words (step.now ∷ []))) }
+    ensures short { result ≤ 1025 }
+{
+    let head = step.head.as_bytes();
+    let name = step.name.as_bytes();
+    if head.is_empty() {
+        return len_if_any(name);
+    }
+    printed_len(head) + len_behind(name)
+}
+
+fn last_len(steps: &[Step]) -> usize
+    ensures length { result ≡ length (words_line (own_words (last_of steps.now ∷ []))) }
+    ensures short { result ≤ 1025 }
+{
+    match steps.last() {
+        Some(step) => step_len(step),
+        None => 0,
+    }
+}
+
+fn blank_words_len(words: &WordList) -> u64
+    ensures { result ≡ capped (length (blank_words words.now)) }
+{
+    let mut left = words.iter();
+    let mut total: u64 = 0;
+    while let Some(word) = left.next() {
+        total = total.saturating_add(1 + printed_len(word.as_bytes()) as u64);
+    }
+    total
+}
+
+fn value_len(words: &WordList) -> u64
+    ensures { result ≡ capped (length (value_text words.now)) }
+{
+    let blank = blank_words_len(words);
+    if words.len() < 2 {
+        blank
+    } else {
+        blank.saturating_add(4)
+    }
+}
+
+fn marks_len(value: &Value) -> usize
+    ensures length { result ≡ length (marks_of value.now) }
+    ensures short { result ≤ 19 }
+{
+    let inactive = if value.inactive { 10 } else { 0 };
+    let protected = if value.protected { 9 } else { 0 };
+    inactive + protected
+}
+
+fn indent_len(steps: &[Step]) -> usize
+    requires { length steps.now ≤ 16 }
+    ensures length { result ≡ indent_of steps.now }
+    ensures short { result ≤ 60 }
+{
+    if steps.is_empty() {
+        0
+    } else {
+        4 * (steps.len() - 1)
+    }
+}
+
+fn own_len(steps: &[Step], value: &Value, holds: bool) -> u64
+    requires { length steps.now ≤ 16 }
+    ensures { result ≡ capped (own_len holds steps.now value.now) }
+{
+    let indent = indent_len(steps);
+    let end = if holds { indent + 5 } else { 2 };
+    let all = indent + marks_len(value) + last_len(steps) + end;
+    value_len(&value.words).saturating_add(all as u64)
+}
+
+/// Whether a statement holds others: the next one in the order of paths stands below it.
+fn holds(tree: &Tree, path: &Path) -> bool
+    requires { IsTree tree.now }
+    ensures { result ≡ holds tree.now path.now }
+{
+    match tree.next(path) {
+        Some((next, _)) => next.is_below(path),
+        None => false,
+    }
+}
+
+/// How many bytes `print` gives of the whole tree, or the most that 64 bits count.
+pub fn text_len(tree: &Tree) -> u64
+    ensures { result ≡ min (length (printed tree.now [])) 18446744073709551615 }
+{
+    if tree.count() == 0 {
+        return 0;
+    }
+    let mut left = tree.walk();
+    let mut total: u64 = 0;
+    while let Some((path, value)) = left.next() {
+        total = total.saturating_add(own_len(path.steps(), value, holds(tree, path)));
+    }
+    total
+}
