@@ -7,3 +7,4 @@ pub mod ClosingLemmas
 pub mod StandingLemmas
 pub mod EndLemmas
 pub mod AnswerLemmas
+pub mod StepAnswers

@@ -4,11 +4,15 @@
 //! Leaves to others: the tokens (`cfg_lex`), how statements are printed (`curly_text`), and what a load makes of them (`load_ops`).
 #![tactic(auto)]
 
+mod effect;
 mod fault;
 mod laws;
 mod level;
 mod marked;
+mod names;
 mod phase;
+mod steps;
+mod stop;
 
 pub use fault::TextFault;
 pub use laws::texts_say_one_thing;
