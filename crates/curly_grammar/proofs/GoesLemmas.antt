@@ -21,7 +21,7 @@ use Rattle.curly_grammar.specs.declared.phase.Marks.{Marks}
 use Rattle.curly_grammar.specs.declared.phase.Phase.{Phase}
 use Rattle.curly_grammar.specs.declared.phase.Phase.TheVariants.{Between, Marked, Naming, Valuing, Listing, After}
 use Rattle.curly_grammar.specs.Grammar.{Lexed, sign, IsWord, is_word_kind, is_inactive, is_protect, is_replace, is_mark, Part, One, Two, Listed, Text, End, Short, Block, spell_part, spell, head_of, AreWords, word_of, StandsFor, Level, LeadsTo, is_open, said, LeadTo, Says, first_path, tagged, Tells, top_level, Derives, next_of}
-use Rattle.curly_grammar.specs.Reading.{no_marks, with_mark, State, state, Run, silent, and_then, Turn, turned, quiet, item_of, tag_of, whole, below, child_at, HasRows, BeginsAs, BeginsStep, NamesAs, NamesStep, TakesFirst, start, TakesWord, TakesWordTo, TakesBy, Takes, Goes}
+use Rattle.curly_grammar.specs.Reading.{no_marks, with_mark, State, state, Run, silent, and_then, Turn, turned, quiet, item_of, tag_of, whole, below, child_at, HasRows, BeginsAs, BeginsStep, NamesAs, NamesStep, TakesFirst, TakesAfter, start, TakesWord, TakesWordTo, TakesBy, Takes, Goes}
 use Rattle.curly_grammar.proofs.RunLemmas.{run_of, then-silent, then-assoc, goes_join, goes_one, goes_more}
 use Rattle.curly_grammar.proofs.HeadLemmas.{row_stands, row_head, row_alone, fixed_wants_name, rows_there}
 
@@ -315,7 +315,7 @@ goes_steps (part ∷ more) here outer level last items opens h =
     (sym parts.items_are)
     (goes_join (spell_part part) (flat_map spell_part more) (state here outer (After level))
     (turned (state here outer (After level)) (whole no_marks parts.level parts.words)) (run_of (state here outer (After last)) parts.others [])
-    (read_part here outer level no_marks (After level) parts.level parts.words part (λ turn b. (is_open_there, b)) parts.leads)
+    (read_part here outer level no_marks (After level) parts.level parts.words part (λ turn b. subst (λ (x : Bool). TakesAfter x level (head_of part).word turn) (sym is_open_there) b) parts.leads)
     (goes_steps more here outer parts.level last parts.others parts.opens parts.rest))
 
 module _ (here : Level) (outer : List Level) (first : Part) (more : List Part) (items : List (Pair Value)) (last : Level) where

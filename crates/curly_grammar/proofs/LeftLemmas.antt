@@ -20,7 +20,7 @@ use Rattle.curly_grammar.specs.declared.phase.Marks.{Marks}
 use Rattle.curly_grammar.specs.declared.phase.Phase.{Phase}
 use Rattle.curly_grammar.specs.declared.phase.Phase.TheVariants.{Between, Marked, Naming, Valuing, Listing, After}
 use Rattle.curly_grammar.specs.Grammar.{Lexed, sign, IsWord, is_word_kind, is_mark, Part, One, Two, Listed, Text, End, Short, Block, spell_part, spell, head_of, IsValue, AreValues, word_of, StandsFor, Level, top_level, LeadsTo, is_open, said, LeadTo, Says, tagged, Tells, Derives}
-use Rattle.curly_grammar.specs.Reading.{no_marks, with_mark, State, state, start, IsFinal, Run, silent, Turn, turned, quiet, item_of, tag_of, whole, below, child_at, BeginsAs, BeginsStep, NamesAs, NamesStep, TakesFirst, IsValued, TakesWord, TakesSemicolon, TakesOpenBrace, Leaves, TakesCloseBrace, TakesOpenBracket, TakesCloseBracket, TakesWordTo, TakesBy, Takes, Goes}
+use Rattle.curly_grammar.specs.Reading.{no_marks, with_mark, State, state, start, IsFinal, Run, silent, Turn, turned, quiet, item_of, tag_of, whole, below, child_at, BeginsAs, BeginsStep, NamesAs, NamesStep, TakesFirst, TakesAfter, IsValued, TakesWord, TakesSemicolon, TakesOpenBrace, Leaves, TakesCloseBrace, TakesOpenBracket, TakesCloseBracket, TakesWordTo, TakesBy, Takes, Goes}
 use Rattle.curly_grammar.proofs.HeadLemmas.{row_alone}
 use Rattle.curly_grammar.proofs.GoesLemmas.{with_marks, item_said, tag_said, mark_is_word, other_shape, Leading}
 
@@ -556,6 +556,11 @@ module _ (here : Level) (outer : List Level) (tokens : List Lexed) (items : List
         items_are = left.items_are ∙ ap (λ (xs : List (Pair Value)). said [] left.level left.words ∷ xs) tail.items_are;
       }
 
+  further_left : (opens : Bool) (level : Level) (token : Lexed) (turn : Turn) → is_open level ≡ opens → IsWord token → TakesAfter opens level token.word turn
+      → Left turn.phase here outer tokens items tags → Tail level here outer (token ∷ tokens) (turn.items ++ items) (turn.tags ++ tags)
+  further_left true level token turn e is_word h = after_left level token turn is_word e h
+  further_left false level token turn e is_word h = absurd h
+
   word_left : (phase : Phase) (token : Lexed) (turn : Turn) → IsWord token → TakesWord phase here token turn
       → Left turn.phase here outer tokens items tags → Left phase here outer (token ∷ tokens) (turn.items ++ items) (turn.tags ++ tags)
   word_left Between token turn is_word h = between_left (is_mark token) token turn refl is_word h
@@ -563,7 +568,7 @@ module _ (here : Level) (outer : List Level) (tokens : List Lexed) (items : List
   word_left (Naming marks at head) token turn is_word h = names_left marks at head token turn is_word h
   word_left (Valuing marks level) token turn is_word h = value_left marks level token turn is_word h
   word_left (Listing marks level words) token turn is_word h = listed_left marks level words token turn is_word h
-  word_left (After level) token turn is_word h = after_left level token turn is_word h.0 h.1
+  word_left (After level) token turn is_word h = further_left (is_open level) level token turn refl is_word h
 
 -- the shape of statements with lists
 pub shape_many : (shape : Shape) → is_many shape ≡ true → shape ≡ Many

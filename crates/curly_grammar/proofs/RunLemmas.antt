@@ -16,8 +16,8 @@ use Rattle.cfg_tree.proofs.NameLemmas.{name_unique}
 use Rattle.curly_grammar.specs.declared.phase.Marks.{Marks}
 use Rattle.curly_grammar.specs.declared.phase.Phase.{Phase}
 use Rattle.curly_grammar.specs.declared.phase.Phase.TheVariants.{Between, Marked, Naming, Valuing, Listing, After}
-use Rattle.curly_grammar.specs.Grammar.{Lexed, Level, is_mark}
-use Rattle.curly_grammar.specs.Reading.{no_marks, State, state, Run, silent, and_then, Turn, turned, whole, child_at, IsNamed, BeginsAs, BeginsStep, NamesAs, NamesStep, TakesFirst, IsValued, TakesWord, TakesSemicolon, TakesOpenBrace, Leaves, TakesCloseBrace, TakesOpenBracket, TakesCloseBracket, TakesWordTo, TakesBy, Takes, Goes}
+use Rattle.curly_grammar.specs.Grammar.{Lexed, Level, is_mark, is_open}
+use Rattle.curly_grammar.specs.Reading.{no_marks, State, state, Run, silent, and_then, Turn, turned, whole, child_at, IsNamed, BeginsAs, BeginsStep, NamesAs, NamesStep, TakesFirst, TakesAfter, IsValued, TakesWord, TakesSemicolon, TakesOpenBrace, Leaves, TakesCloseBrace, TakesOpenBracket, TakesCloseBracket, TakesWordTo, TakesBy, Takes, Goes}
 
 -- a run of these parts
 abbrev pub run_of : State → List (Pair Value) → List (List Step) → Run
@@ -118,13 +118,17 @@ first_once : (mark : Bool) (here : Level) (marks : Marks) (token : Lexed) (a b :
 first_once true here marks token a b h g = h.1 ∙ sym g.1
 first_once false here marks token a b h g = begins_once (child_at here token.word []) here marks token.word a b h g
 
+after_once : (opens : Bool) (level : Level) (word : List ℕ) (a b : Turn) → TakesAfter opens level word a → TakesAfter opens level word b → a ≡ b
+after_once true level word a b h g = begins_once (child_at level word []) level no_marks word a b h g
+after_once false level word a b h g = absurd h
+
 word_once : (phase : Phase) (here : Level) (token : Lexed) (a b : Turn) → TakesWord phase here token a → TakesWord phase here token b → a ≡ b
 word_once Between here token a b h g = first_once (is_mark token) here no_marks token a b h g
 word_once (Marked marks) here token a b h g = first_once (is_mark token) here marks token a b h g
 word_once (Naming marks at head) here token a b h g = names_once (child_at at head token.word) at marks head token.word a b h g
 word_once (Valuing marks level) here token a b h g = valued_once level token.word _ a b h g
 word_once (Listing marks level words) here token a b h g = valued_once level token.word _ a b h g
-word_once (After level) here token a b h g = begins_once (child_at level token.word []) level no_marks token.word a b h.1 g.1
+word_once (After level) here token a b h g = after_once (is_open level) level token.word a b h g
 
 word_to_once : (s : State) (token : Lexed) (a b : Run) → TakesWordTo s token a → TakesWordTo s token b → a ≡ b
 word_to_once s token a b h g =

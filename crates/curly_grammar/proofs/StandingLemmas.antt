@@ -38,9 +38,9 @@ use Rattle.cfg_tree.proofs.TypedLemmas.{place_snoc, follows_snoc}
 use Rattle.curly_grammar.specs.declared.phase.Marks.{Marks}
 use Rattle.curly_grammar.specs.declared.phase.Phase.{Phase}
 use Rattle.curly_grammar.specs.declared.phase.Phase.TheVariants.{Between, Marked, Naming, Valuing, Listing, After}
-use Rattle.curly_grammar.specs.Grammar.{Lexed, Level, is_mark}
+use Rattle.curly_grammar.specs.Grammar.{Lexed, Level, is_mark, is_open}
 use Rattle.curly_grammar.specs.Reading as reading
-use Rattle.curly_grammar.specs.Reading.{State, start, Run, Turn, turned, quiet, whole, item_of, below, child_at, HasRows, BeginsAs, BeginsStep, NamesAs, NamesStep, TakesFirst, TakesWord, TakesSemicolon, TakesOpenBrace, Leaves, TakesCloseBrace, TakesOpenBracket, TakesCloseBracket, TakesWordTo, TakesBy, Takes, Goes}
+use Rattle.curly_grammar.specs.Reading.{State, start, Run, Turn, turned, quiet, whole, item_of, below, child_at, HasRows, BeginsAs, BeginsStep, NamesAs, NamesStep, TakesFirst, TakesAfter, TakesWord, TakesSemicolon, TakesOpenBrace, Leaves, TakesCloseBrace, TakesOpenBracket, TakesCloseBracket, TakesWordTo, TakesBy, Takes, Goes}
 use Rattle.curly_grammar.proofs.GoesLemmas.{other_shape}
 use Rattle.curly_grammar.proofs.HeadLemmas.{row_stands, row_head, row_bare, row_name}
 use Rattle.curly_grammar.proofs.LeftLemmas.{shape_many}
@@ -283,6 +283,10 @@ first_sound : (m : Statements) (here : Level) (marks : Marks) (mark : Bool) (tok
 first_sound m here marks true token turn stands h = quiet_sound m here turn _ h.1 h.0
 first_sound m here marks false token turn stands h = begins_sound m here here marks stands token.word turn h
 
+further_sound : (m : Statements) (here : Level) (opens : Bool) (level : Level) (word : List ℕ) (turn : Turn) → Stands m level → TakesAfter opens level word turn → IsSoundTurn m here turn
+further_sound m here true level word turn stands h = begins_sound m here level reading.no_marks stands word turn h
+further_sound m here false level word turn stands h = absurd h
+
 word_sound : (m : Statements) (phase : Phase) (here : Level) (token : Lexed) (turn : Turn) → Stands m here → IsSoundPhase m phase here → TakesWord phase here token turn → IsSoundTurn m here turn
 word_sound m Between here token turn stands sound h = first_sound m here reading.no_marks (is_mark token) token turn stands h
 word_sound m (Marked marks) here token turn stands sound h = first_sound m here marks (is_mark token) token turn stands h
@@ -295,7 +299,7 @@ word_sound m (Listing marks level words) here token turn stands sound h =
       many = sound.many;
       canonical = All-push (IsCanonical (row_of level.place.row).value_kind) words h.word sound.canonical (IsCanonical-from _ token.word h.word h.spelled);
     }
-word_sound m (After level) here token turn stands sound h = begins_sound m here level reading.no_marks sound token.word turn h.1
+word_sound m (After level) here token turn stands sound h = further_sound m here (is_open level) level token.word turn sound h
 
 -- what a run says may be said, and leads on
 pub record IsSoundRun (m : Statements) (run : Run) : Type 0 where

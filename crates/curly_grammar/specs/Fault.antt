@@ -35,9 +35,9 @@ why_no_statement true here token = Unexpected
 why_no_statement false here token = why_no_step (child_at here token.word [])
 
 -- a word behind a step: a level may have a further one, and any other statement has to end
-abbrev pub why_no_more : Bool → Level → Lexed → Why
-why_no_more true level token = why_no_step (child_at level token.word [])
-why_no_more false level token = Unexpected
+abbrev pub why_no_more : Bool → Level → List ℕ → Why
+why_no_more true level word = why_no_step (child_at level word [])
+why_no_more false level word = Unexpected
 
 -- why a word isn't taken in a level's text
 abbrev pub why_no_word : Phase → Level → Lexed → Why
@@ -46,7 +46,7 @@ why_no_word (Marked marks) here token = why_no_statement (is_mark token) here to
 why_no_word (Naming marks at head) here token = BadValue
 why_no_word (Valuing marks level) here token = BadValue
 why_no_word (Listing marks level words) here token = BadValue
-why_no_word (After level) here token = why_no_more (is_open level) level token
+why_no_word (After level) here token = why_no_more (is_open level) level token.word
 
 abbrev pub why_by : TokenKind → State → Lexed → Why
 why_by kind.Bare s token = why_no_word s.phase s.here token

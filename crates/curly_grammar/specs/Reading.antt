@@ -137,6 +137,11 @@ abbrev pub TakesFirst : Bool → Level → Marks → Lexed → Turn → Type 0
 TakesFirst true here marks token turn = HasRows here × (turn ≡ quiet (Marked (with_mark marks token)))
 TakesFirst false here marks token turn = BeginsStep (child_at here token.word []) here marks token.word turn
 
+-- a word behind a whole step; the test says whether that is a level
+abbrev pub TakesAfter : Bool → Level → List ℕ → Turn → Type 0
+TakesAfter true level word turn = BeginsStep (child_at level word []) level no_marks word turn
+TakesAfter false level word turn = ⊥
+
 -- a value of a statement, which makes this of it
 pub record IsValued (level : Level) (bytes : List ℕ) (make : List ℕ → Turn) (turn : Turn) : Type 0 where
   pub word : List ℕ
@@ -150,8 +155,7 @@ TakesWord (Marked marks) here token turn = TakesFirst (is_mark token) here marks
 TakesWord (Naming marks at head) here token turn = NamesStep (child_at at head token.word) at marks head token.word turn
 TakesWord (Valuing marks level) here token turn = IsValued level token.word (λ word. whole marks level (word ∷ [])) turn
 TakesWord (Listing marks level words) here token turn = IsValued level token.word (λ word. quiet (Listing marks level (words ++ word ∷ []))) turn
-TakesWord (After level) here token turn =
-    (is_open level ≡ true) × BeginsStep (child_at level token.word []) level no_marks token.word turn
+TakesWord (After level) here token turn = TakesAfter (is_open level) level token.word turn
 
 -- the signs
 abbrev pub TakesSemicolon : Phase → State → Run → Type 0

@@ -9,6 +9,7 @@ mod fault;
 mod laws;
 mod level;
 mod marked;
+mod marks;
 mod names;
 mod phase;
 mod steps;
