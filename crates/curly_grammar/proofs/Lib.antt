@@ -8,3 +8,4 @@ pub mod StandingLemmas
 pub mod EndLemmas
 pub mod AnswerLemmas
 pub mod StepAnswers
+pub mod TakingLemmas

@@ -2,3 +2,4 @@ pub mod Grammar
 pub mod Reading
 pub mod Fault
 pub mod Answer
+pub mod Held

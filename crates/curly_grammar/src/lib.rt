@@ -12,8 +12,10 @@ mod marked;
 mod marks;
 mod names;
 mod phase;
+mod reader;
 mod steps;
 mod stop;
+mod taking;
 
 pub use fault::TextFault;
 pub use laws::texts_say_one_thing;
