@@ -1,23 +1,29 @@
 -- What the reader makes of a token.
-use Rattle.std.proofs.Common.{◌≡◌, ℕ, List, [], ◌∷◌, ◌++◌, Result, Ok, Err, refl, sym, ap, subst, ◌∙◌, append-nil}
+use Rattle.std.proofs.Common.{◌≡◌, ℕ, ◌<◌, Bool, true, false, List, [], ◌∷◌, ◌++◌, length, reverse, Result, Ok, Err, ◌⊎◌, inl, inr, refl, sym, ap, subst, ◌∙◌, append-nil}
+use Rattle.std.proofs.lemmas.List.{reverse-append}
+use Rattle.cfg_base.specs.Words.{joined}
 use Rattle.cfg_base.specs.declared.path.Step.{Step}
 use Rattle.cfg_base.specs.declared.value.Value.{Value}
 use Rattle.cfg_entries.specs.EntryMap.{Pair}
+use Rattle.cfg_lex.specs.declared.token.TokenKind.{TokenKind}
+use Rattle.cfg_lex.specs.declared.token.TokenKind.TheVariants as kind
 use Rattle.cfg_schema.specs.Profile.{row_of}
+use Rattle.cfg_tree.specs.Gather.{is_many}
 use Rattle.cfg_values.specs.Spelling.{IsSpelling}
 use Rattle.curly_grammar.specs.declared.effect.Effect.{Effect}
 use Rattle.curly_grammar.specs.declared.fault.Why.{Why}
+use Rattle.curly_grammar.specs.declared.fault.Why.TheVariants.{Unexpected}
 use Rattle.curly_grammar.specs.declared.phase.Marks.{Marks}
 use Rattle.curly_grammar.specs.declared.phase.Phase.{Phase}
-use Rattle.curly_grammar.specs.declared.phase.Phase.TheVariants.{Listing}
+use Rattle.curly_grammar.specs.declared.phase.Phase.TheVariants.{Between, Valuing, Listing, After}
 use Rattle.curly_grammar.specs.declared.reader.Reader.{Reader}
 use Rattle.curly_grammar.specs.declared.stop.Stop.{Stop}
 use Rattle.curly_grammar.specs.declared.stop.Stop.TheVariants.{Refused, NoMemory}
-use Rattle.curly_grammar.specs.Answer.{Answers, turn_of}
+use Rattle.curly_grammar.specs.Answer.{Answers, lexed, turn_of}
 use Rattle.curly_grammar.specs.Fault.{why_no_word}
-use Rattle.curly_grammar.specs.Grammar.{Lexed, Level}
-use Rattle.curly_grammar.specs.Held.{run_in, state_in, Follows, HasTakenWord, IsListed}
-use Rattle.curly_grammar.specs.Reading.{Run, quiet, TakesWord, and_then, turned}
+use Rattle.curly_grammar.specs.Grammar.{Lexed, Level, is_open, is_word_kind}
+use Rattle.curly_grammar.specs.Held.{run_in, state_in, Follows, IsTaken, HasTaken, HasTakenWord, HasEntered, HasLeft, IsListed, IsListEnd}
+use Rattle.curly_grammar.specs.Reading.{State, state, Run, Turn, silent, quiet, whole, TakesWord, TakesSemicolon, TakesOpenBrace, Leaves, TakesCloseBrace, TakesOpenBracket, and_then, turned}
 use Rattle.curly_grammar.proofs.RunLemmas.{run_of}
 
 -- a reader with another phase
@@ -63,3 +69,118 @@ value_listed old marks level words new token (Err (Refused reason)) h = record {
   same = ap (λ (ws : List (List ℕ)). run_in (in_phase old (Listing marks level ws))) h.1;
 }
 value_listed old marks level words new token (Err NoMemory) h = tt
+
+-- `;` behind a step
+pub semicolon_taken : (old : Reader) (level : Level) → old.phase ≡ After level → IsTaken old (lexed kind.Semicolon []) (in_phase old Between)
+semicolon_taken old level e = record {
+  one = turned (state_in old) (quiet Between);
+  takes = subst (λ (p : Phase). TakesSemicolon p (state_in old) (turned (state_in old) (quiet Between))) (sym e) refl;
+  made = nothing_said old Between;
+}
+
+-- a run that says nothing
+silent_said : (run : Run) (s : State) → record { state = s; items = run.items; tags = run.tags } ≡ and_then run (silent s)
+silent_said run s =
+    ap (λ (xs : List (Pair Value)). run_of s xs run.tags) (sym (append-nil run.items)) ∙ ap (λ (ts : List (List Step)). run_of s (run.items ++ []) ts) (sym (append-nil run.tags))
+
+-- `{` behind a level
+pub open_taken : (old new : Reader) (level inside : Level) → old.phase ≡ After level → true ≡ is_open level → inside ≡ level → HasEntered old inside new
+    → IsTaken old (lexed kind.OpenBrace []) new
+open_taken old new level inside e opens same h =
+    let one : Run = silent (state level (old.here ∷ reverse old.outer.items) Between)
+    in record {
+      one = silent (state level (old.here ∷ reverse old.outer.items) Between);
+      takes = subst (λ (p : Phase). TakesOpenBrace p (state_in old) (silent (state level (old.here ∷ reverse old.outer.items) Between))) (sym e) (sym opens, refl);
+      made =
+          h
+          ∙ ap (λ (l : Level). run_of (state l (old.here ∷ reverse old.outer.items) Between) old.items.items old.tags.items) same
+          ∙ silent_said (run_in old) (state level (old.here ∷ reverse old.outer.items) Between);
+    }
+
+outer_is : (rest : List Level) (around : Level) (outer : List Level) → outer ≡ rest ++ around ∷ [] → reverse outer ≡ around ∷ reverse rest
+outer_is rest around outer e = ap reverse e ∙ reverse-append rest (around ∷ [])
+
+-- `}` between statements
+pub close_taken : (old new : Reader) → old.phase ≡ Between → (result : Result (Unit {0}) Stop) → HasLeft old new result → HasTaken old (lexed kind.CloseBrace []) new result
+close_taken old new e (Ok done) h =
+    let run : Run = silent (state h.around (reverse h.rest) Between)
+    in record {
+      one = silent (state h.around (reverse h.rest) Between);
+      takes =
+          subst (λ (p : Phase). TakesCloseBrace p (state_in old) (silent (state h.around (reverse h.rest) Between))) (sym e)
+          (subst (λ (ls : List Level). Leaves ls (silent (state h.around (reverse h.rest) Between))) (sym (outer_is h.rest h.around old.outer.items h.outer)) refl);
+      made =
+          h.left
+          ∙ ap (λ (p : Phase). run_of (state h.around (reverse h.rest) p) old.items.items old.tags.items) e
+          ∙ silent_said (run_in old) (state h.around (reverse h.rest) Between);
+    }
+close_taken old new e (Err (Refused reason)) h = record {
+  why = h.0;
+  never = λ one.
+      subst (λ (p : Phase). TakesCloseBrace p (state_in old) one → ⊥) (sym e)
+      (subst (λ (ls : List Level). Leaves ls one → ⊥) (sym (ap reverse h.1)) (λ t. t));
+  same = h.2;
+}
+close_taken old new e (Err NoMemory) h = tt
+
+-- `[` behind the head of a statement with a list
+pub list_taken : (old : Reader) (marks : Marks) (level copy : Level) (words : List (List ℕ)) → old.phase ≡ Valuing marks level → true ≡ is_many (row_of level.place.row).shape
+    → copy ≡ level → words ≡ [] → IsTaken old (lexed kind.OpenBracket []) (in_phase old (Listing marks copy words))
+list_taken old marks level copy words e many same none = record {
+  one = turned (state_in old) (quiet (Listing marks level []));
+  takes = subst (λ (p : Phase). TakesOpenBracket p (state_in old) (turned (state_in old) (quiet (Listing marks level [])))) (sym e) (sym many, refl);
+  made =
+      ap (λ (ws : List (List ℕ)). run_in (in_phase old (Listing marks copy ws))) none
+      ∙ ap (λ (l : Level). run_in (in_phase old (Listing marks l []))) same
+      ∙ nothing_said old (Listing marks level []);
+}
+
+-- `]` behind the values of a list
+pub list_ended : (old new : Reader) (marks : Marks) (level : Level) (words : List (List ℕ)) (answer : Result Effect Stop) (result : Result (Unit {0}) Stop)
+    → old.phase ≡ Listing marks level words → Answers (IsListEnd marks level words) Unexpected answer → Follows old answer new result
+    → HasTaken old (lexed kind.CloseBracket []) new result
+list_ended old new marks level words answer result e h f =
+    subst (λ (p : Phase). HasTaken (in_phase old p) (lexed kind.CloseBracket []) new result) (sym e)
+    (followed answer result h (subst (λ (p : Phase). Follows (in_phase old p) answer new result) e f))
+  where
+    held : Reader
+    held = in_phase old (Listing marks level words)
+
+    followed : (a : Result Effect Stop) (r : Result (Unit {0}) Stop) → Answers (IsListEnd marks level words) Unexpected a
+        → Follows (in_phase old (Listing marks level words)) a new r → HasTaken (in_phase old (Listing marks level words)) (lexed kind.CloseBracket []) new r
+    followed (Ok effect) (Ok done) g t = record {
+      one = turned (state_in (in_phase old (Listing marks level words))) (turn_of effect);
+      takes = (g.0, ap (λ (turn : Turn). turned (state_in (in_phase old (Listing marks level words))) turn) g.1);
+      made = t;
+    }
+    followed (Ok effect) (Err (Refused reason)) g t = absurd t
+    followed (Ok effect) (Err NoMemory) g t = tt
+    followed (Err (Refused reason)) (Ok done) g t = absurd t
+    followed (Err (Refused reason)) (Err (Refused told)) g t = record {
+      why = t.0 ∙ g.0;
+      never = λ one taken. g.1 (whole marks level (joined [] words)) (taken.0, refl);
+      same = t.1;
+    }
+    followed (Err (Refused reason)) (Err NoMemory) g t = tt
+    followed (Err NoMemory) (Ok done) g t = absurd t
+    followed (Err NoMemory) (Err (Refused told)) g t = absurd t
+    followed (Err NoMemory) (Err NoMemory) g t = tt
+
+-- a word, bare or in quotes
+pub word_kind_taken : (k : TokenKind) (old new : Reader) (word : List ℕ) (result : Result (Unit {0}) Stop) → is_word_kind k ≡ true
+    → HasTakenWord old (lexed k word) new result → HasTaken old (lexed k word) new result
+word_kind_taken kind.Bare old new word (Ok done) e h = record { one = turned (state_in old) h.turn; takes = record { turn = h.turn; taken = h.takes; makes = refl }; made = h.made }
+word_kind_taken kind.Quoted old new word (Ok done) e h = record { one = turned (state_in old) h.turn; takes = record { turn = h.turn; taken = h.takes; makes = refl }; made = h.made }
+word_kind_taken kind.Bare old new word (Err (Refused reason)) e h = record { why = h.why; never = λ one t. h.never t.turn t.taken; same = h.same }
+word_kind_taken kind.Quoted old new word (Err (Refused reason)) e h = record { why = h.why; never = λ one t. h.never t.turn t.taken; same = h.same }
+word_kind_taken kind.Bare old new word (Err NoMemory) e h = tt
+word_kind_taken kind.Quoted old new word (Err NoMemory) e h = tt
+word_kind_taken kind.OpenBrace old new word result e h = absurd cc
+word_kind_taken kind.CloseBrace old new word result e h = absurd cc
+word_kind_taken kind.OpenBracket old new word result e h = absurd cc
+word_kind_taken kind.CloseBracket old new word result e h = absurd cc
+word_kind_taken kind.Semicolon old new word result e h = absurd cc
+
+pub either_word : (k : TokenKind) → (k ≡ kind.Bare) ⊎ (k ≡ kind.Quoted) → is_word_kind k ≡ true
+either_word k (inl e) = ap is_word_kind e
+either_word k (inr e) = ap is_word_kind e

@@ -1,19 +1,21 @@
 -- What a reader holds, as a run over the tokens that it has read, and what it makes of the next one.
-use Rattle.std.specs.Prelude.{◌≡◌, List, [], ◌∷◌, ◌++◌, ℕ, reverse, Result, Ok, Err}
+use Rattle.std.specs.Prelude.{◌≡◌, List, [], ◌∷◌, ◌++◌, ℕ, ◌<◌, length, reverse, Result, Ok, Err}
+use Rattle.cfg_base.specs.Words.{joined}
 use Rattle.cfg_schema.specs.Profile.{row_of}
 use Rattle.cfg_values.specs.Spelling.{IsSpelling, IsCanonicalOf}
 use Rattle.curly_grammar.specs.declared.effect.Effect.{Effect}
 use Rattle.curly_grammar.specs.declared.fault.Why.{Why}
-use Rattle.curly_grammar.specs.declared.fault.Why.TheVariants.{BadValue}
+use Rattle.curly_grammar.specs.declared.fault.Why.TheVariants.{Unexpected, BadValue}
 use Rattle.curly_grammar.specs.declared.reader.Reader.{Reader}
 use Rattle.curly_grammar.specs.declared.stop.Stop.{Stop}
 use Rattle.curly_grammar.specs.declared.stop.Stop.TheVariants.{Refused, NoMemory}
+use Rattle.curly_grammar.specs.declared.phase.Marks.{Marks}
 use Rattle.curly_grammar.specs.declared.phase.Phase.{Phase}
 use Rattle.curly_grammar.specs.declared.phase.Phase.TheVariants.{Between, Marked, Naming, Valuing, Listing, After}
 use Rattle.curly_grammar.specs.Answer.{IsPlaced, turn_of}
 use Rattle.curly_grammar.specs.Fault.{why_by, why_no_word}
 use Rattle.curly_grammar.specs.Grammar.{Lexed, Level}
-use Rattle.curly_grammar.specs.Reading.{State, Run, Turn, turned, and_then, TakesWord, Takes}
+use Rattle.curly_grammar.specs.Reading.{State, state, Run, Turn, turned, whole, and_then, TakesWord, Takes}
 
 abbrev pub state_in : Reader → State
 state_in reader = record { here = reader.here; outer = reverse reader.outer.items; phase = reader.phase }
@@ -83,3 +85,24 @@ abbrev pub HasTakenWord : Reader → Lexed → Reader → Result (Unit {0}) Stop
 HasTakenWord old token new (Ok done) = IsWordTaken old token new
 HasTakenWord old token new (Err (Refused reason)) = IsWordRefused old token reason new
 HasTakenWord old token new (Err NoMemory) = Unit {0}
+
+-- a reader in the text of a level
+abbrev pub HasEntered : Reader → Level → Reader → Type 0
+HasEntered old level new =
+    run_in new ≡ record { state = state level (old.here ∷ reverse old.outer.items) Between; items = old.items.items; tags = old.tags.items }
+
+-- a reader in the text of the level around, where there is one
+pub record Around (old new : Reader) : Type 0 where
+  pub around : Level
+  pub rest : List Level
+  pub outer : old.outer.items ≡ rest ++ around ∷ []
+  pub left : run_in new ≡ record { state = state around (reverse rest) old.phase; items = old.items.items; tags = old.tags.items }
+
+abbrev pub HasLeft : Reader → Reader → Result (Unit {0}) Stop → Type 0
+HasLeft old new (Ok done) = Around old new
+HasLeft old new (Err (Refused reason)) = (reason ≡ Unexpected) × (old.outer.items ≡ []) × IsSame old new
+HasLeft old new (Err NoMemory) = Unit {0}
+
+-- a list of values is whole: it has some
+abbrev pub IsListEnd : Marks → Level → List (List ℕ) → Turn → Type 0
+IsListEnd marks level words turn = (0 < length words) × (turn ≡ whole marks level (joined [] words))

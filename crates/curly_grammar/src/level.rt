@@ -1,4 +1,5 @@
 ghost use Rattle.std.specs.Prelude.{◌≡◌};
+ghost use Rattle.cfg_tree.specs.Gather.{is_many};
 ghost use Rattle.cfg_schema.specs.Profile.{is_level, row_of};
 
 use cfg_base::{Path, Shape};
@@ -18,5 +19,16 @@ pub(crate) fn is_open(place: &Place) -> bool
     match row(place.row).shape {
         Shape::Container | Shape::Fixed | Shape::Keyed | Shape::Bare => true,
         Shape::Leaf | Shape::Flag | Shape::Many => false,
+    }
+}
+
+/// Whether a statement may have a list of values.
+pub(crate) fn is_many(place: &Place) -> bool
+    ensures { result ≡ is_many (row_of place.now.row).shape }
+{
+    match row(place.row).shape {
+        Shape::Many => true,
+        Shape::Container | Shape::Fixed | Shape::Keyed | Shape::Bare | Shape::Leaf | Shape::Flag =>
+            false,
     }
 }

@@ -1,23 +1,24 @@
 //! How a reader takes a token.
 
-ghost use Rattle.std.specs.Prelude.{◌≡◌, ◌++◌, ◌∷◌, [], OnOk, OnErr, if◌then◌else◌};
-ghost use Rattle.curly_grammar.specs.Answer.{lexed, turn_of};
-ghost use Rattle.curly_grammar.specs.Held.{Follows, HasTaken, HasTakenWord, IsListed, IsPlacedReader, IsTurned};
+ghost use Rattle.std.specs.Prelude.{◌≡◌, ◌++◌, ◌∷◌, [], IfOk, OnOk, if◌then◌else◌};
+ghost use Rattle.curly_grammar.specs.Answer.{Answers, lexed, turn_of};
+ghost use Rattle.curly_grammar.specs.Held.{Follows, HasEntered, HasLeft, HasTaken, HasTakenWord, IsListEnd, IsListed, IsPlacedReader, IsTurned};
 ghost use Rattle.curly_grammar.specs.Reading.{quiet, whole};
 ghost use Rattle.curly_grammar.specs.Answer.{IsSpelled};
-ghost use Rattle.cfg_schema.specs.Profile.{row_of};
+ghost use Rattle.cfg_base.specs.Words.{joined};
 
 use crate::effect::Effect;
 use crate::fault::Why;
-use crate::level::{Level, is_open};
+use crate::level::{Level, is_many, is_open};
 use crate::marks::{first_word, further_word, no_marks};
 use crate::phase::{Marks, Phase};
 use crate::reader::Reader;
-use crate::steps::{name_step, value, value_step};
+use crate::steps::{copy_of, name_step, value, value_step};
 use crate::stop::Stop;
 use cfg_base::{NoMemory, Path, Value, WordList, Words};
 use cfg_lex::TokenKind;
 use std::alloc::Global;
+use std::mem::replace;
 
 /// Says a statement.
 fn say(
@@ -129,5 +130,144 @@ fn take_word(alloc: Global, reader: &mut Reader, kind: TokenKind, word: &[u8]) -
             let answer = further_word(alloc, level, word);
             follow(alloc, reader, answer)
         }
+    }
+}
+
+/// `;` ends a statement.
+fn take_semicolon(reader: &mut Reader) -> Result<(), Stop>
+    ensures { HasTaken reader.old (lexed TokenKind.Semicolon []) reader.new result }
+{
+    match reader.phase {
+        Phase::After(_) => {
+            reader.phase = Phase::Between;
+            Ok(())
+        }
+        _ => Err(Stop::Refused(Why::Unexpected)),
+    }
+}
+
+/// The text of a level begins.
+fn enter(reader: &mut Reader, level: Level) -> Result<(), NoMemory>
+    ensures { OnOk result (HasEntered reader.old level reader.new) }
+{
+    let around = replace(&mut reader.here, level);
+    reader.outer.push(around)?;
+    reader.phase = Phase::Between;
+    Ok(())
+}
+
+/// `{` begins the text of a level.
+fn take_open_brace(reader: &mut Reader) -> Result<(), Stop>
+    ensures { HasTaken reader.old (lexed TokenKind.OpenBrace []) reader.new result }
+{
+    match &reader.phase {
+        Phase::After(level) if is_open(&level.place) => {
+            let level = copy_of(level)?;
+            Ok(enter(reader, level)?)
+        }
+        _ => Err(Stop::Refused(Why::Unexpected)),
+    }
+}
+
+/// The text of the level around goes on.
+fn leave(reader: &mut Reader) -> Result<(), Stop>
+    ensures { HasLeft reader.old reader.new result }
+{
+    match reader.outer.pop() {
+        Some(around) => {
+            reader.here = around;
+            Ok(())
+        }
+        None => Err(Stop::Refused(Why::Unexpected)),
+    }
+}
+
+/// `}` ends the text of a level.
+fn take_close_brace(reader: &mut Reader) -> Result<(), Stop>
+    ensures { HasTaken reader.old (lexed TokenKind.CloseBrace []) reader.new result }
+{
+    match &reader.phase {
+        Phase::Between => leave(reader),
+        _ => Err(Stop::Refused(Why::Unexpected)),
+    }
+}
+
+/// `[` begins a list of values.
+fn take_open_bracket(alloc: Global, reader: &mut Reader) -> Result<(), Stop>
+    ensures { HasTaken reader.old (lexed TokenKind.OpenBracket []) reader.new result }
+{
+    match &reader.phase {
+        Phase::Valuing { marks, level } if is_many(&level.place) => {
+            let marks = *marks;
+            let level = copy_of(level)?;
+            let words = Words::new(alloc);
+            reader.phase = Phase::Listing {
+                marks,
+                level,
+                words,
+            };
+            Ok(())
+        }
+        _ => Err(Stop::Refused(Why::Unexpected)),
+    }
+}
+
+/// The words of a list, each once.
+fn joined(alloc: Global, words: &Words) -> Result<WordList, NoMemory>
+    ensures { IfOk result (λ list. list ≡ joined [] words.now) }
+{
+    WordList::new(alloc).joined(alloc, words.as_slice())
+}
+
+/// A list of values is whole.
+fn list_step(alloc: Global, marks: Marks, level: &Level, words: &Words) -> Result<Effect, Stop>
+    ensures { Answers (IsListEnd marks level.now words.now) Why.Unexpected result }
+{
+    if words.as_slice().is_empty() {
+        return Err(Stop::Refused(Why::Unexpected));
+    }
+    let words = joined(alloc, words)?;
+    let level = copy_of(level)?;
+    Ok(Effect::Statement {
+        marks,
+        level,
+        words,
+    })
+}
+
+/// `]` ends a list of values.
+fn take_close_bracket(alloc: Global, reader: &mut Reader) -> Result<(), Stop>
+    ensures { HasTaken reader.old (lexed TokenKind.CloseBracket []) reader.new result }
+{
+    match &reader.phase {
+        Phase::Listing {
+            marks,
+            level,
+            words,
+        } => {
+            let answer = list_step(alloc, *marks, level, words);
+            follow(alloc, reader, answer)
+        }
+        _ => Err(Stop::Refused(Why::Unexpected)),
+    }
+}
+
+/// A token of this kind, which means this word.
+pub(crate) fn take(
+    alloc: Global,
+    reader: &mut Reader,
+    kind: TokenKind,
+    word: &[u8],
+) -> Result<(), Stop>
+    requires { IsPlacedReader reader.old }
+    ensures { HasTaken reader.old (lexed kind word.now) reader.new result }
+{
+    match kind {
+        TokenKind::Semicolon => take_semicolon(reader),
+        TokenKind::OpenBrace => take_open_brace(reader),
+        TokenKind::CloseBrace => take_close_brace(reader),
+        TokenKind::OpenBracket => take_open_bracket(alloc, reader),
+        TokenKind::CloseBracket => take_close_bracket(alloc, reader),
+        TokenKind::Bare | TokenKind::Quoted => take_word(alloc, reader, kind, word),
     }
 }
