@@ -9,3 +9,4 @@ pub mod EndLemmas
 pub mod AnswerLemmas
 pub mod StepAnswers
 pub mod TakingLemmas
+pub mod ParseLemmas

@@ -3,3 +3,4 @@ pub mod Reading
 pub mod Fault
 pub mod Answer
 pub mod Held
+pub mod Parsed

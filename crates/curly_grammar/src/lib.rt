@@ -5,6 +5,7 @@
 #![tactic(auto)]
 
 mod effect;
+mod end;
 mod fault;
 mod laws;
 mod level;
@@ -13,6 +14,7 @@ mod marks;
 mod names;
 mod phase;
 mod reader;
+mod reading;
 mod steps;
 mod stop;
 mod taking;
@@ -21,3 +23,4 @@ pub use fault::TextFault;
 pub use laws::texts_say_one_thing;
 pub use level::Level;
 pub use marked::{Marked, Paths};
+pub use reading::parse;

@@ -21,7 +21,7 @@ use std::alloc::Global;
 use std::mem::replace;
 
 /// Says a statement.
-fn say(
+pub(crate) fn say(
     alloc: Global,
     items: &mut Vec<(Path, Value)>,
     marks: Marks,
