@@ -93,6 +93,10 @@ impl Script {
 
     /// Answers a call of what the script keeps.
     fn call_kept(&mut self, name: &str, args: &[Arg], out: &mut String) -> Result<bool, Fault> {
+        if name == "parse_front" {
+            text_calls::ask_front(self.alloc, &mut self.tree, &self.text, args, out)?;
+            return Ok(true);
+        }
         if input_calls::is_call(name) {
             let stage = self.taken_stage();
             input_calls::ask(self.alloc, stage, name, args, out)?;
@@ -181,7 +185,7 @@ impl Script {
         } else {
             bytes_of(self.alloc, rest)?
         };
-        text_calls::ask(self.alloc, name, &text, out)
+        text_calls::ask(self.alloc, &mut self.tree, name, &text, out)
     }
 
     /// What a line answers that is no `each`.
@@ -197,7 +201,7 @@ impl Script {
             "piece" => self.stage.add_piece(bytes_of(self.alloc, rest)?)?,
             "text" => self.add_text(rest, b"\n")?,
             "text_part" => self.add_text(rest, b"")?,
-            "tokens" | "parse_lines" => self.read_text(name, rest, &mut out)?,
+            "tokens" | "parse" | "parse_lines" => self.read_text(name, rest, &mut out)?,
             "read_line" => ask_line(self.alloc, rest, &mut out)?,
             "run" | "run_output" => self.run(rt, name, rest, &mut out)?,
             "step" => ask_step(self.alloc, &mut self.machine, rest, &mut out)?,

@@ -3,16 +3,28 @@
 
 ghost use Rattle.cfg_lex.specs.Tokens.{IsPlaced};
 
-use crate::answers::{put_bytes, say};
+use crate::answers::{put_bytes, say, say_path};
 use crate::commands::say_change;
 use crate::fault::Fault;
+use crate::words::{Arg, small_number};
 use cfg_lex::{LexFault, Token, TokenKind, tokens};
+use cfg_tree::Tree;
+use curly_grammar::{Marked, TextFault, parse};
 use set_text::{LineFault, parse_lines};
 use std::alloc::Global;
 
 /// Something that is so at a byte.
 fn say_at(out: &mut String, what: &str, place: u32) -> Result<(), Fault> {
     writeln!(out, "= {what} at byte {place}")?;
+    Ok(())
+}
+
+/// The same of a text whose end is known.
+fn say_before(out: &mut String, what: &str, place: u32, end: Option<u32>) -> Result<(), Fault> {
+    if Some(place) != end {
+        return say_at(out, what, place);
+    }
+    writeln!(out, "= {what} at the end")?;
     Ok(())
 }
 
@@ -66,6 +78,47 @@ fn ask_tokens(alloc: Global, text: &[u8], out: &mut String) -> Result<(), Fault>
     }
 }
 
+fn say_text_fault(out: &mut String, fault: TextFault, end: Option<u32>) -> Result<(), Fault> {
+    match fault {
+        TextFault::BadByte(place) => say_at(out, "bad byte", place),
+        TextFault::OpenComment(place) => say_at(out, "comment not closed", place),
+        TextFault::OpenQuote(place) => say_at(out, "quote not closed", place),
+        TextFault::LongWord(place) => say_at(out, "word too long", place),
+        TextFault::Unexpected(place) => say_before(out, "unexpected", place, end),
+        TextFault::Unknown(place) => say_at(out, "unknown statement", place),
+        TextFault::BadValue(place) => say_at(out, "bad value", place),
+        TextFault::TooMany => say(out, "too many"),
+        TextFault::NoMemory => Err(Fault::NoMemory),
+    }
+}
+
+/// parse TEXT: how many statements the text says, and what it tags `replace:`; the tree has these statements from then on
+fn ask_parse(
+    alloc: Global,
+    tree: &mut Tree,
+    text: &[u8],
+    end: Option<u32>,
+    out: &mut String,
+) -> Result<(), Fault> {
+    match parse(alloc, text) {
+        Ok(
+            Marked {
+                tree: read,
+                replaced,
+            },
+        ) => {
+            let count = read.count();
+            writeln!(out, "= read {count}")?;
+            for path in replaced.as_slice() {
+                say_path(out, "replace", path)?;
+            }
+            *tree = read;
+            Ok(())
+        }
+        Err(fault) => say_text_fault(out, fault, end),
+    }
+}
+
 fn say_fault_of_line(out: &mut String, line: u32, place: u32) -> Result<(), Fault> {
     writeln!(out, "= line {line} syntax error at byte {place}")?;
     Ok(())
@@ -90,12 +143,32 @@ fn ask_parse_lines(alloc: Global, text: &[u8], out: &mut String) -> Result<(), F
 /// Answers a call that reads a text.
 pub(crate) fn ask(
     alloc: Global,
+    tree: &mut Tree,
     call: &str,
     text: &[u8],
     out: &mut String,
 ) -> Result<(), Fault> {
     match call {
         "tokens" => ask_tokens(alloc, text, out),
+        "parse" => ask_parse(alloc, tree, text, None, out),
         _ => ask_parse_lines(alloc, text, out),
+    }
+}
+
+/// parse_front N: the same of so many bytes at the front of the text; their end is told as the end
+pub(crate) fn ask_front(
+    alloc: Global,
+    tree: &mut Tree,
+    text: &[u8],
+    args: &[Arg],
+    out: &mut String,
+) -> Result<(), Fault> {
+    let [count] = args else {
+        return Err(Fault::Script("parse_front N"));
+    };
+    let end = small_number(count)?;
+    match text.get(..end as usize) {
+        Some(front) => ask_parse(alloc, tree, front, Some(end), out),
+        None => Err(Fault::Script("the text has so many bytes")),
     }
 }
