@@ -1,12 +1,10 @@
 -- Each text has a reading of few enough statements, or a leftmost fault, not both, and one of them.
-use Rattle.std.proofs.Common.{◌≡◌, ◌≢◌, ℕ, zero, suc, ◌+◌, ◌-◌, ◌<◌, ◌≤◌, ◌⊎◌, min, List, [], ◌∷◌, ◌++◌, length, map, take, drop, get_or, Option, Some, None, refl, sym, ap, subst, ◌∙◌, inl, inr, append-nil, append_assoc, arith}
+use Rattle.std.proofs.Common.{◌≡◌, ◌≢◌, ℕ, zero, suc, ◌+◌, ◌<◌, ◌≤◌, ◌⊎◌, min, List, [], ◌∷◌, ◌++◌, length, map, take, drop, get_or, Some, None, refl, sym, ap, subst, ◌∙◌, inl, inr, append-nil, append_assoc, arith}
 use Rattle.std.specs.Prelude.{slice_get}
-use Rattle.std.proofs.lemmas.Bool.{cases_lt}
 use Rattle.std.proofs.lemmas.List.{take_more, take_all, take-append-drop, take-take, length-map}
 use Rattle.std.proofs.lemmas.Option.{slice_get-get_or, slice_get_past}
 use Rattle.cfg_base.specs.declared.path.Step.{Step}
 use Rattle.cfg_base.specs.declared.value.Value.{Value}
-use Rattle.cfg_base.specs.Words.{joined}
 use Rattle.cfg_entries.specs.EntryMap.{Pair}
 use Rattle.cfg_lex.specs.declared.fault.LexFault.{LexFault}
 use Rattle.cfg_lex.specs.declared.fault.LexFault.TheVariants as lexical
@@ -18,8 +16,6 @@ use Rattle.cfg_lex.specs.Tokens as lex
 use Rattle.cfg_lex.proofs.LexLemmas.{one_list}
 use Rattle.cfg_lex.proofs.LexLemmas as lexed
 use Rattle.cfg_lex.proofs.LexerLemmas.{answered}
-use Rattle.cfg_schema.specs.declared.answer.Child.{Child}
-use Rattle.cfg_schema.specs.declared.answer.Child.TheVariants as begun
 use Rattle.cfg_tree.specs.declared.limit.TheConstants.{MAX_STATEMENTS}
 use Rattle.cfg_tree.specs.Statements.{Statements, size_of}
 use Rattle.cfg_tree.specs.Stated.{stated_from_none, different, paths_of}
@@ -29,11 +25,10 @@ use Rattle.curly_grammar.specs.declared.fault.TextFault.{TextFault}
 use Rattle.curly_grammar.specs.declared.fault.TextFault.TheVariants as fault
 use Rattle.curly_grammar.specs.declared.fault.Why.{Why}
 use Rattle.curly_grammar.specs.declared.fault.Why.TheVariants.{Unexpected, Unknown, BadValue}
-use Rattle.curly_grammar.specs.declared.phase.Marks.{Marks}
 use Rattle.curly_grammar.specs.declared.phase.Phase.{Phase}
 use Rattle.curly_grammar.specs.declared.phase.Phase.TheVariants.{Between, Marked, Naming, Valuing, Listing, After}
 use Rattle.curly_grammar.specs.Grammar.{Lexed, sign, lexed_in, Level, Derives, Begins, Reads}
-use Rattle.curly_grammar.specs.Reading.{State, start, IsFinal, Run, silent, and_then, Turn, turned, whole, begun_paths, IsValued, TakesWord, TakesSemicolon, TakesOpenBrace, TakesCloseBrace, TakesOpenBracket, TakesCloseBracket, TakesWordTo, TakesBy, Takes, Goes}
+use Rattle.curly_grammar.specs.Reading.{State, start, IsFinal, Run, silent, and_then, Turn, turned, begun_paths, IsValued, TakesWord, TakesSemicolon, TakesOpenBrace, TakesCloseBrace, TakesOpenBracket, TakesCloseBracket, TakesWordTo, TakesBy, Takes, Goes}
 use Rattle.curly_grammar.specs.Fault.{why_not, paths_met, IsEndOfBeginning, byte_of, IsRefused, HasTooMany, of_lexical, of_reason, IsLeftmostFault}
 use Rattle.curly_grammar.proofs.RunLemmas.{run_of, goes_join, goes_one, goes_once}
 use Rattle.curly_grammar.proofs.GoesLemmas.{derived_goes}

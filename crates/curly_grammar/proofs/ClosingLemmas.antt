@@ -1,16 +1,14 @@
 -- From each state that a reader comes to, some tokens lead to the end of a text.
-use Rattle.std.proofs.Common.{◌≡◌, ◌≢◌, ℕ, ◌<◌, ◌⊎◌, Bool, true, false, List, [], ◌∷◌, ◌++◌, length, refl, sym, ap, subst, ◌∙◌, inl, inr, arith, length-append}
+use Rattle.std.proofs.Common.{◌≡◌, ℕ, ◌⊎◌, List, [], ◌∷◌, ◌++◌, refl, sym, subst, ◌∙◌, inl, inr, arith, length-append}
 use Rattle.std.specs.List.{AllByRecursion}
-use Rattle.cfg_base.specs.declared.kind.Kind.{Kind}
 use Rattle.cfg_base.specs.declared.kind.Shape.{Shape}
 use Rattle.cfg_base.specs.declared.kind.Shape.TheVariants.{Container, Fixed, Keyed, Bare, Leaf, Flag, Many}
 use Rattle.cfg_base.specs.Words.{joined}
-use Rattle.cfg_lex.specs.declared.token.TokenKind.{TokenKind}
 use Rattle.cfg_lex.specs.declared.token.TokenKind.TheVariants as kind
 use Rattle.cfg_schema.specs.declared.answer.Child.{Child}
 use Rattle.cfg_schema.specs.declared.answer.Child.TheVariants as begun
 use Rattle.cfg_schema.specs.Profile.{row_of, head_of, name_of, StandsBelow}
-use Rattle.cfg_schema.specs.Child.{child_of, HasHead, Begins}
+use Rattle.cfg_schema.specs.Child.{HasHead, Begins}
 use Rattle.cfg_schema.proofs.ChildLemmas.{child_begins}
 use Rattle.cfg_schema.proofs.BegunLemmas.{head_begins_row, name_begins_row}
 use Rattle.cfg_values.specs.Spelling.{IsCanonicalOf}
@@ -18,10 +16,10 @@ use Rattle.cfg_tree.specs.Tree.{step_of}
 use Rattle.curly_grammar.specs.declared.phase.Marks.{Marks}
 use Rattle.curly_grammar.specs.declared.phase.Phase.{Phase}
 use Rattle.curly_grammar.specs.declared.phase.Phase.TheVariants.{Between, Marked, Naming, Valuing, Listing, After}
-use Rattle.curly_grammar.specs.Grammar.{Lexed, sign, is_mark, Level}
-use Rattle.curly_grammar.specs.Reading.{State, state, IsFinal, Run, silent, and_then, Turn, turned, quiet, whole, below, child_at, HasRows, BeginsAs, BeginsStep, NamesAs, NamesStep, TakesFirst, TakesWord, TakesSemicolon, TakesOpenBrace, Leaves, TakesCloseBrace, TakesOpenBracket, TakesCloseBracket, TakesWordTo, TakesBy, Takes, Goes}
+use Rattle.curly_grammar.specs.Grammar.{Lexed, sign, Level}
+use Rattle.curly_grammar.specs.Reading.{State, state, IsFinal, Run, silent, and_then, Turn, turned, quiet, whole, below, child_at, HasRows, BeginsAs, BeginsStep, NamesAs, NamesStep, TakesWord, Takes, Goes}
 use Rattle.curly_grammar.proofs.RunLemmas.{goes_more}
-use Rattle.curly_grammar.proofs.HeadLemmas.{row_head, fixed_begun, row_there}
+use Rattle.curly_grammar.proofs.HeadLemmas.{fixed_begun, row_there}
 use Rattle.curly_grammar.proofs.GoesLemmas.{other_shape}
 use Rattle.curly_grammar.proofs.KindLemmas.{name_spelled, value_spelled}
 use Rattle.curly_grammar.proofs.LeftLemmas.{IsLexed}

@@ -1,38 +1,17 @@
 -- Where tokens cease to begin a text, and that each text has one answer.
-use Rattle.std.proofs.Common.{◌≡◌, ◌≢◌, ℕ, zero, suc, ◌+◌, ◌-◌, ◌<◌, ◌≤◌, ◌⊎◌, min, Bool, true, false, List, [], ◌∷◌, ◌++◌, length, map, take, drop, get_or, Option, Some, None, refl, sym, ap, subst, ◌∙◌, inl, inr, append-nil, append_assoc, arith}
+use Rattle.std.proofs.Common.{◌≡◌, ℕ, zero, suc, ◌+◌, ◌<◌, ◌≤◌, false, List, [], ◌∷◌, ◌++◌, length, map, take, drop, get_or, Some, None, refl, sym, ap, subst, ◌∙◌, append-nil, append_assoc, arith}
 use Rattle.std.specs.Prelude.{slice_get}
-use Rattle.std.specs.FinMap as finite
 use Rattle.std.specs.List.{AllByRecursion}
-use Rattle.std.proofs.lemmas.List.{take_more, take_all, take-append-drop, take-take, length-map}
-use Rattle.std.proofs.lemmas.Option.{slice_get-get_or, slice_get_within, slice_get_past}
-use Rattle.cfg_base.specs.declared.path.Step.{Step}
-use Rattle.cfg_base.specs.declared.value.Value.{Value}
-use Rattle.cfg_entries.specs.EntryMap.{Pair}
-use Rattle.cfg_lex.specs.declared.fault.LexFault.{LexFault}
-use Rattle.cfg_lex.specs.declared.fault.LexFault.TheVariants as lexical
+use Rattle.std.proofs.lemmas.List.{take_more, take_all, take-append-drop, take-take}
+use Rattle.std.proofs.lemmas.Option.{slice_get-get_or, slice_get_past}
 use Rattle.cfg_lex.specs.declared.token.Token.{Token}
 use Rattle.cfg_lex.specs.declared.token.TokenKind.{TokenKind}
 use Rattle.cfg_lex.specs.declared.token.TokenKind.TheVariants as kind
-use Rattle.cfg_lex.specs.Tokens.{IsTokens, word_spelled, bytes_in}
-use Rattle.cfg_lex.specs.Tokens as lex
-use Rattle.cfg_lex.proofs.LexLemmas.{one_list}
-use Rattle.cfg_lex.proofs.LexLemmas as lexed
-use Rattle.cfg_tree.specs.declared.limit.TheConstants.{MAX_STATEMENTS}
-use Rattle.cfg_tree.specs.Statements.{Statements, size_of}
-use Rattle.cfg_tree.specs.Stated.{stated_from_none, different, paths_of}
-use Rattle.cfg_tree.proofs.LimitLemmas.{different-append}
-use Rattle.cfg_tree.proofs.StatedLemmas.{size-stated}
-use Rattle.curly_grammar.specs.declared.fault.TextFault.{TextFault}
-use Rattle.curly_grammar.specs.declared.fault.TextFault.TheVariants as fault
-use Rattle.curly_grammar.specs.declared.fault.Why.{Why}
-use Rattle.curly_grammar.specs.declared.fault.Why.TheVariants.{Unexpected, Unknown, BadValue}
-use Rattle.curly_grammar.specs.declared.phase.Marks.{Marks}
-use Rattle.curly_grammar.specs.declared.phase.Phase.{Phase}
-use Rattle.curly_grammar.specs.declared.phase.Phase.TheVariants.{Between, Marked, Naming, Valuing, Listing, After}
-use Rattle.curly_grammar.specs.Grammar.{Lexed, sign, lexed_in, is_word_kind, Level, Derives, Begins, Reads}
-use Rattle.curly_grammar.specs.Reading.{State, start, IsFinal, Run, and_then, begun_paths, Takes, Goes}
-use Rattle.curly_grammar.specs.Fault.{why_not, paths_met, IsEndOfBeginning, byte_of, IsRefused, HasTooMany, of_lexical, of_reason, IsLeftmostFault}
-use Rattle.curly_grammar.proofs.RunLemmas.{run_of, goes_join, goes_one, goes_split, Parts, goes_once}
+use Rattle.cfg_lex.specs.Tokens.{word_spelled, bytes_in}
+use Rattle.curly_grammar.specs.Grammar.{Lexed, sign, lexed_in, is_word_kind, Derives, Begins}
+use Rattle.curly_grammar.specs.Reading.{start, IsFinal, Run, and_then, Takes, Goes}
+use Rattle.curly_grammar.specs.Fault.{IsEndOfBeginning}
+use Rattle.curly_grammar.proofs.RunLemmas.{run_of, goes_join, goes_split, goes_once}
 use Rattle.curly_grammar.proofs.GoesLemmas.{derived_goes}
 use Rattle.curly_grammar.proofs.LeftLemmas.{IsLexed, goes_derived}
 use Rattle.curly_grammar.proofs.ClosingLemmas.{ends}

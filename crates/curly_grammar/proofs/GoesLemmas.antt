@@ -1,5 +1,5 @@
 -- What the grammar spells is read.
-use Rattle.std.proofs.Common.{◌≡◌, ◌≢◌, ℕ, ◌<◌, ◌≤◌, Bool, true, false, cond, ◌||◌, List, [], ◌∷◌, ◌++◌, length, map, refl, sym, ap, subst, ◌∙◌, append-nil, append_assoc, arith}
+use Rattle.std.proofs.Common.{◌≡◌, ◌≢◌, ℕ, ◌<◌, Bool, true, false, cond, ◌||◌, List, [], ◌∷◌, ◌++◌, length, map, refl, sym, ap, subst, ◌∙◌, append-nil, append_assoc, arith}
 use Rattle.std.specs.List.{flat_map, list_any, AllByRecursion}
 use Rattle.cfg_base.specs.declared.kind.Kind.{Kind}
 use Rattle.cfg_base.specs.declared.kind.Shape.{Shape}
@@ -20,9 +20,9 @@ use Rattle.cfg_tree.specs.Resolve.{AllSpelled}
 use Rattle.curly_grammar.specs.declared.phase.Marks.{Marks}
 use Rattle.curly_grammar.specs.declared.phase.Phase.{Phase}
 use Rattle.curly_grammar.specs.declared.phase.Phase.TheVariants.{Between, Marked, Naming, Valuing, Listing, After}
-use Rattle.curly_grammar.specs.Grammar.{Lexed, sign, IsWord, is_word_kind, is_inactive, is_protect, is_replace, is_mark, Part, One, Two, Listed, Text, End, Short, Block, spell_part, spell, head_of, AreWords, word_of, StandsFor, Level, LeadsTo, is_open, said, LeadTo, Says, first_path, tagged, Tells, top_level, Derives, next_of}
-use Rattle.curly_grammar.specs.Reading.{no_marks, with_mark, State, state, Run, silent, and_then, Turn, turned, quiet, item_of, tag_of, whole, below, child_at, HasRows, BeginsAs, BeginsStep, NamesAs, NamesStep, TakesFirst, TakesAfter, start, TakesWord, TakesWordTo, TakesBy, Takes, Goes}
-use Rattle.curly_grammar.proofs.RunLemmas.{run_of, then-silent, then-assoc, goes_join, goes_one, goes_more}
+use Rattle.curly_grammar.specs.Grammar.{Lexed, sign, IsWord, is_word_kind, is_inactive, is_protect, is_replace, is_mark, Part, One, Two, Listed, Text, End, Short, Block, spell_part, spell, head_of, AreWords, word_of, StandsFor, Level, LeadsTo, is_open, said, LeadTo, Says, tagged, Tells, top_level, Derives, next_of}
+use Rattle.curly_grammar.specs.Reading.{no_marks, with_mark, State, state, Run, silent, Turn, turned, quiet, item_of, tag_of, whole, below, child_at, HasRows, BeginsAs, BeginsStep, NamesAs, NamesStep, TakesFirst, TakesAfter, start, TakesWord, TakesWordTo, TakesBy, Takes, Goes}
+use Rattle.curly_grammar.proofs.RunLemmas.{run_of, goes_join, goes_one, goes_more}
 use Rattle.curly_grammar.proofs.HeadLemmas.{row_stands, row_head, row_alone, fixed_wants_name, rows_there}
 
 -- marks behind marks

@@ -1,5 +1,5 @@
 -- The row that a word begins, alone and with the word behind it.
-use Rattle.std.proofs.Common.{◌≡◌, ◌≢◌, ℕ, zero, suc, ◌<◌, Bool, true, false, cond, List, [], ◌∷◌, length, map, filter, get_or, refl, sym, ap, subst, ◌∙◌, inl, inr, arith}
+use Rattle.std.proofs.Common.{◌≡◌, ◌≢◌, ℕ, zero, suc, ◌<◌, Bool, true, false, cond, List, [], ◌∷◌, length, filter, refl, sym, ap, subst, ◌∙◌, inl, inr, arith}
 use Rattle.std.proofs.lemmas.List.{length-map}
 use Rattle.cfg_base.specs.declared.kind.Kind.{Kind}
 use Rattle.cfg_base.specs.declared.kind.Shape.{Shape}
@@ -7,7 +7,7 @@ use Rattle.cfg_base.specs.declared.kind.Shape.TheVariants.{Container, Fixed, Key
 use Rattle.cfg_schema.specs.declared.answer.Child.{Child}
 use Rattle.cfg_schema.specs.declared.answer.Child.TheVariants as begun
 use Rattle.cfg_schema.specs.declared.table.Line.{Line}
-use Rattle.cfg_schema.specs.Profile.{profile, row_of, name_of, level_of, stands, line_at, no_line, rows_in, StandsBelow}
+use Rattle.cfg_schema.specs.Profile.{profile, row_of, name_of, level_of, stands, line_at, StandsBelow}
 use Rattle.cfg_schema.specs.Child.{child_of, Begins, HasHead, IsNoHead}
 use Rattle.cfg_schema.proofs.ChildLemmas.{child_begins}
 use Rattle.cfg_schema.proofs.BegunLemmas.{head_begins_row}

@@ -1,5 +1,5 @@
 -- What is read is what the grammar spells: from each state on, the tokens that lead to the end are what is left of a text.
-use Rattle.std.proofs.Common.{◌≡◌, ◌≢◌, ℕ, ◌<◌, ◌≤◌, ◌⊎◌, Bool, true, false, List, [], ◌∷◌, ◌++◌, length, map, refl, sym, ap, subst, ◌∙◌, inl, inr, append-nil, append_assoc, arith}
+use Rattle.std.proofs.Common.{◌≡◌, ℕ, ◌<◌, ◌⊎◌, Bool, true, false, List, [], ◌∷◌, ◌++◌, length, map, refl, sym, ap, subst, ◌∙◌, inl, inr, append-nil, append_assoc, arith}
 use Rattle.std.specs.List.{flat_map, AllByRecursion}
 use Rattle.cfg_base.specs.declared.kind.Kind.{Kind}
 use Rattle.cfg_base.specs.declared.kind.Shape.{Shape}
@@ -20,9 +20,9 @@ use Rattle.curly_grammar.specs.declared.phase.Marks.{Marks}
 use Rattle.curly_grammar.specs.declared.phase.Phase.{Phase}
 use Rattle.curly_grammar.specs.declared.phase.Phase.TheVariants.{Between, Marked, Naming, Valuing, Listing, After}
 use Rattle.curly_grammar.specs.Grammar.{Lexed, sign, IsWord, is_word_kind, is_mark, Part, One, Two, Listed, Text, End, Short, Block, spell_part, spell, head_of, IsValue, AreValues, word_of, StandsFor, Level, top_level, LeadsTo, is_open, said, LeadTo, Says, tagged, Tells, Derives}
-use Rattle.curly_grammar.specs.Reading.{no_marks, with_mark, State, state, start, IsFinal, Run, silent, Turn, turned, quiet, item_of, tag_of, whole, below, child_at, BeginsAs, BeginsStep, NamesAs, NamesStep, TakesFirst, TakesAfter, IsValued, TakesWord, TakesSemicolon, TakesOpenBrace, Leaves, TakesCloseBrace, TakesOpenBracket, TakesCloseBracket, TakesWordTo, TakesBy, Takes, Goes}
+use Rattle.curly_grammar.specs.Reading.{no_marks, with_mark, State, state, start, IsFinal, Run, Turn, quiet, item_of, tag_of, whole, below, child_at, BeginsAs, BeginsStep, NamesAs, NamesStep, TakesFirst, TakesAfter, IsValued, TakesWord, TakesSemicolon, TakesOpenBrace, Leaves, TakesCloseBrace, TakesOpenBracket, TakesCloseBracket, TakesWordTo, TakesBy, Takes, Goes}
 use Rattle.curly_grammar.proofs.HeadLemmas.{row_alone}
-use Rattle.curly_grammar.proofs.GoesLemmas.{with_marks, item_said, tag_said, mark_is_word, other_shape, Leading}
+use Rattle.curly_grammar.proofs.GoesLemmas.{with_marks, item_said, tag_said, other_shape}
 
 -- a text of a level, and behind it what is so
 pub record TextThen (P : List Lexed → List (Pair Value) → List (List Step) → Type 0) (here : Level) (tokens : List Lexed) (items : List (Pair Value)) (tags : List (List Step)) : Type 0 where

@@ -1,19 +1,16 @@
 -- What is read of the tokens of a text is what it says, or its leftmost fault.
-use Rattle.std.proofs.Common.{◌≡◌, ◌≢◌, ◌⊎◌, ℕ, ◌+◌, ◌<◌, ◌≤◌, min, Bool, true, false, List, [], ◌∷◌, ◌++◌, length, map, take, get_or, Option, Some, None, is_some, Result, Ok, Err, refl, sym, ap, subst, ◌∙◌, inl, inr, append-nil, arith}
+use Rattle.std.proofs.Common.{◌≡◌, ◌≢◌, ℕ, ◌+◌, ◌<◌, ◌≤◌, min, List, [], ◌∷◌, ◌++◌, length, map, take, get_or, Option, Some, None, is_some, Result, Ok, Err, refl, sym, ap, subst, ◌∙◌, inl, inr, arith}
 use Rattle.std.specs.Prelude.{slice_get, Decides, MatchOption}
 use Rattle.std.specs.FinMap as finite
 use Rattle.std.proofs.lemmas.List.{take_more, take_all, length-map, get_or-map}
 use Rattle.std.proofs.lemmas.Option.{slice_get-get_or, slice_get_past}
 use Rattle.cfg_base.specs.declared.path.Step.{Step}
-use Rattle.cfg_lex.specs.declared.fault.LexFault.{LexFault}
-use Rattle.cfg_lex.specs.declared.fault.LexFault.TheVariants as lexical
 use Rattle.cfg_lex.specs.declared.token.Token.{Token}
 use Rattle.cfg_lex.specs.declared.token.TokenKind.TheVariants as kind
 use Rattle.cfg_lex.specs.Tokens.{IsTokens}
-use Rattle.cfg_lex.specs.Tokens as lex
 use Rattle.cfg_tree.specs.declared.limit.TheConstants.{MAX_STATEMENTS}
 use Rattle.cfg_tree.specs.Statements.{Statements, size_of}
-use Rattle.cfg_tree.specs.Stated.{stated_from_none, AreSaid, different, paths_of, IsPathPast}
+use Rattle.cfg_tree.specs.Stated.{AreSaid, different, paths_of, IsPathPast}
 use Rattle.cfg_tree.proofs.LimitLemmas.{different-append, past_many}
 use Rattle.cfg_tree.proofs.StatedLemmas.{size-stated}
 use Rattle.curly_grammar.specs.declared.end.End.{End}
@@ -25,16 +22,16 @@ use Rattle.curly_grammar.specs.declared.marked.Marked.{Marked}
 use Rattle.curly_grammar.specs.declared.phase.Phase.{Phase}
 use Rattle.curly_grammar.specs.declared.phase.Phase.TheVariants as phase
 use Rattle.curly_grammar.specs.declared.reader.Reader.{Reader}
-use Rattle.curly_grammar.specs.Fault.{why_not, paths_met, byte_of, of_lexical, of_reason, IsLeftmostFault}
-use Rattle.curly_grammar.specs.Grammar.{Lexed, Level, sign, lexed_in, Derives, Reads}
+use Rattle.curly_grammar.specs.Fault.{why_not, paths_met, byte_of, IsLeftmostFault}
+use Rattle.curly_grammar.specs.Grammar.{Lexed, Level, sign, lexed_in, Derives}
 use Rattle.curly_grammar.specs.Held.{run_in, state_in, IsTaken, IsPlacedPhase, IsPlacedReader}
-use Rattle.curly_grammar.specs.Parsed.{IsEndAt, IsRead, IsRefusal, IsMade, Makes, IsReading, Parses}
-use Rattle.curly_grammar.specs.Reading.{start, silent, IsFinal, Run, and_then, begun_paths, Takes, Goes}
+use Rattle.curly_grammar.specs.Parsed.{IsEndAt, IsRead, IsRefusal, Makes, Parses}
+use Rattle.curly_grammar.specs.Reading.{start, IsFinal, Run, begun_paths, Takes, Goes}
 use Rattle.curly_grammar.proofs.RunLemmas.{goes_join, goes_one}
 use Rattle.curly_grammar.proofs.LeftLemmas.{goes_derived}
 use Rattle.curly_grammar.proofs.StandingLemmas.{IsSoundPhase, read_sound}
 use Rattle.curly_grammar.proofs.EndLemmas.{are_lexed, end_of_beginning}
-use Rattle.curly_grammar.proofs.AnswerLemmas.{lexical_fault, refused_fault}
+use Rattle.curly_grammar.proofs.AnswerLemmas.{refused_fault}
 
 -- the paths are past the limit of a tree, or not
 pub past_decides : (paths : List (List Step)) (o : Option ℕ) → MatchOption o (different paths ≤ MAX_STATEMENTS) (IsPathPast paths) → Decides (is_some o) (MAX_STATEMENTS < different paths)
@@ -67,10 +64,7 @@ read_more text tokens at d old new below goes taken =
     (subst (λ (r : Run). Goes start (take at (map (lexed_in text) tokens) ++ lexed_in text (get_or tokens at d) ∷ []) r) (sym taken.made)
     (goes_join (take at (map (lexed_in text) tokens)) (token ∷ []) start (run_in old) taken.one goes (goes_one (state_in old) token taken.one taken.takes)))
 
--- before the first token
-pub read_none : (tokens : List Lexed) (reader : Reader) → run_in reader ≡ silent start → Goes start (take 0 tokens) (run_in reader)
-read_none tokens reader e = e
-
+-- the tokens are all of them
 pub read_whole : (tokens : List Lexed) (at : ℕ) (run : Run) → length tokens ≤ at → Goes start (take at tokens) run → Goes start tokens run
 read_whole tokens at run past h = subst (λ (ts : List Lexed). Goes start ts run) (take_all at tokens past) h
 
@@ -154,10 +148,3 @@ module _ (text : List ℕ) (tokens : List Token) (are : IsTokens text tokens) wh
 -- all tokens were read
 pub all_read : (tokens : List Lexed) (end : Option End) (run : Run) → end ≡ None → IsRead tokens end run → Goes start tokens run
 all_read tokens end run is h = subst (λ (o : Option End). IsRead tokens o run) is h
-
--- a lexical fault
-pub lexical_parse : (text : List ℕ) (cause : LexFault) (told : TextFault) → (cause ≢ lexical.NoMemory → lex.IsLeftmostFault text cause) → told ≡ of_lexical cause
-    → told ≢ fault.NoMemory → IsLeftmostFault text told
-lexical_parse text cause told h e ne =
-    let no_memory : cause ≢ lexical.NoMemory = λ f. ne (e ∙ ap of_lexical f)
-    in subst (λ (f : TextFault). IsLeftmostFault text f) (sym e) (lexical_fault text cause no_memory (h no_memory))

@@ -17,7 +17,7 @@ use Rattle.curly_grammar.specs.declared.phase.Marks.{Marks}
 use Rattle.curly_grammar.specs.declared.phase.Phase.{Phase}
 use Rattle.curly_grammar.specs.declared.phase.Phase.TheVariants.{Between, Marked, Naming, Valuing, Listing, After}
 use Rattle.curly_grammar.specs.Grammar.{Lexed, Level, is_mark, is_open}
-use Rattle.curly_grammar.specs.Reading.{no_marks, State, state, Run, silent, and_then, Turn, turned, whole, child_at, IsNamed, BeginsAs, BeginsStep, NamesAs, NamesStep, TakesFirst, TakesAfter, IsValued, TakesWord, TakesSemicolon, TakesOpenBrace, Leaves, TakesCloseBrace, TakesOpenBracket, TakesCloseBracket, TakesWordTo, TakesBy, Takes, Goes}
+use Rattle.curly_grammar.specs.Reading.{no_marks, State, Run, silent, and_then, Turn, turned, whole, child_at, IsNamed, BeginsAs, BeginsStep, NamesAs, NamesStep, TakesFirst, TakesAfter, IsValued, TakesWord, TakesSemicolon, TakesOpenBrace, Leaves, TakesCloseBrace, TakesOpenBracket, TakesCloseBracket, TakesWordTo, TakesBy, Takes, Goes}
 
 -- a run of these parts
 abbrev pub run_of : State → List (Pair Value) → List (List Step) → Run

@@ -1,11 +1,9 @@
 -- What a reader says may be said: each statement's levels come before it, and its path and its words are of the profile.
-use Rattle.std.proofs.Common.{◌≡◌, ◌≢◌, ℕ, ◌+◌, ◌<◌, ◌⊎◌, Bool, true, false, ◌&&◌, ◌||◌, List, [], ◌∷◌, ◌++◌, length, Option, Some, is_some, refl, sym, ap, subst, ◌∙◌, inl, inr, arith, length-append}
+use Rattle.std.proofs.Common.{◌≡◌, ◌≢◌, ℕ, ◌<◌, ◌⊎◌, Bool, true, false, List, [], ◌∷◌, ◌++◌, length, Option, Some, is_some, refl, sym, ap, subst, ◌∙◌, inl, inr, arith}
 use Rattle.std.specs.Prelude.{IsSome}
 use Rattle.std.specs.FinMap as map
-use Rattle.std.specs.List.{AllByRecursion, All, IsDistinct}
+use Rattle.std.specs.List.{AllByRecursion, IsDistinct}
 use Rattle.std.proofs.lemmas.List.Elements.{All-nil, All-cons, All-push}
-use Rattle.cfg_base.specs.Order.{path_cmp}
-use Rattle.cfg_base.specs.declared.kind.Kind.{Kind}
 use Rattle.cfg_base.specs.declared.kind.Shape.{Shape}
 use Rattle.cfg_base.specs.declared.kind.Shape.TheVariants.{Container, Fixed, Keyed, Bare, Leaf, Flag, Many}
 use Rattle.cfg_base.specs.declared.path.Step.{Step}
@@ -19,16 +17,15 @@ use Rattle.cfg_schema.specs.declared.answer.Child.{Child}
 use Rattle.cfg_schema.specs.declared.answer.Child.TheVariants as begun
 use Rattle.cfg_schema.specs.declared.place.Place.{Place}
 use Rattle.cfg_schema.specs.Profile.{row_of, head_of, name_of, StandsBelow}
-use Rattle.cfg_schema.specs.Child.{HasHead, IsNoHead, Begins}
+use Rattle.cfg_schema.specs.Child.{Begins}
 use Rattle.cfg_schema.specs.Place.{top_place, place_after, place_of, and_then, has_words, HasWords, entered}
 use Rattle.cfg_schema.proofs.ChildLemmas.{child_begins}
 use Rattle.cfg_schema.proofs.LevelLemmas.{leads}
 use Rattle.cfg_schema.proofs.TestLemmas.{both_true, same_is}
 use Rattle.cfg_values.specs.Spelling.{IsCanonical}
 use Rattle.cfg_values.proofs.SpellingLemmas.{IsCanonical-from}
-use Rattle.cfg_tree.specs.Gather.{is_many}
 use Rattle.cfg_tree.specs.Statements.{Statements, parent_of, last_of, HasParent}
-use Rattle.cfg_tree.specs.Stated.{stated, stated_one, IsSaid, AreSaid}
+use Rattle.cfg_tree.specs.Stated.{stated, AreSaid}
 use Rattle.cfg_tree.specs.Tree.{step_of}
 use Rattle.cfg_tree.specs.Typed.{IsNamed, IsTypedPath, AreCounted, AreCanonical, AreWordsOf}
 use Rattle.cfg_tree.proofs.NameLemmas.{name_again, name_no_head}

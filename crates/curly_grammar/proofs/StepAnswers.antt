@@ -1,15 +1,14 @@
 -- Answers of the functions that read a step.
-use Rattle.std.proofs.Common.{◌≡◌, ℕ, Bool, List, [], Result, Ok, Err, ◌⊎◌, inl, inr, refl, sym, ap, subst, ◌∙◌}
+use Rattle.std.proofs.Common.{◌≡◌, ℕ, Bool, List, [], Result, Err, ◌⊎◌, inl, inr, sym, subst, ◌∙◌}
 use Rattle.cfg_base.specs.declared.kind.Kind.{Kind}
 use Rattle.cfg_base.specs.declared.kind.Shape.{Shape}
-use Rattle.cfg_base.specs.declared.kind.Shape.TheVariants.{Container, Fixed, Keyed, Bare, Leaf, Flag, Many}
+use Rattle.cfg_base.specs.declared.kind.Shape.TheVariants.{Keyed, Bare}
 use Rattle.cfg_schema.specs.declared.answer.Child.{Child}
 use Rattle.cfg_schema.specs.declared.answer.Child.TheVariants as begun
 use Rattle.cfg_schema.specs.declared.rows.Row.{Row}
 use Rattle.cfg_schema.specs.Profile.{row_of}
 use Rattle.cfg_tree.specs.Tree.{step_of}
 use Rattle.curly_grammar.specs.declared.effect.Effect.{Effect}
-use Rattle.curly_grammar.specs.declared.fault.Why.{Why}
 use Rattle.curly_grammar.specs.declared.fault.Why.TheVariants.{BadValue}
 use Rattle.curly_grammar.specs.declared.phase.Marks.{Marks}
 use Rattle.curly_grammar.specs.declared.stop.Stop.{Stop}

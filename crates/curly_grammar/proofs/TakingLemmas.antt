@@ -1,5 +1,5 @@
 -- What the reader makes of a token.
-use Rattle.std.proofs.Common.{◌≡◌, ℕ, ◌<◌, Bool, true, false, List, [], ◌∷◌, ◌++◌, length, reverse, Result, Ok, Err, ◌⊎◌, inl, inr, refl, sym, ap, subst, ◌∙◌, append-nil}
+use Rattle.std.proofs.Common.{◌≡◌, ℕ, true, List, [], ◌∷◌, ◌++◌, reverse, Result, Ok, Err, ◌⊎◌, inl, inr, refl, sym, ap, subst, ◌∙◌, append-nil}
 use Rattle.std.proofs.lemmas.List.{reverse-append}
 use Rattle.cfg_base.specs.Words.{joined}
 use Rattle.cfg_base.specs.declared.path.Step.{Step}
@@ -9,9 +9,7 @@ use Rattle.cfg_lex.specs.declared.token.TokenKind.{TokenKind}
 use Rattle.cfg_lex.specs.declared.token.TokenKind.TheVariants as kind
 use Rattle.cfg_schema.specs.Profile.{row_of}
 use Rattle.cfg_tree.specs.Gather.{is_many}
-use Rattle.cfg_values.specs.Spelling.{IsSpelling}
 use Rattle.curly_grammar.specs.declared.effect.Effect.{Effect}
-use Rattle.curly_grammar.specs.declared.fault.Why.{Why}
 use Rattle.curly_grammar.specs.declared.fault.Why.TheVariants.{Unexpected}
 use Rattle.curly_grammar.specs.declared.phase.Marks.{Marks}
 use Rattle.curly_grammar.specs.declared.phase.Phase.{Phase}

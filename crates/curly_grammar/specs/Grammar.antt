@@ -4,7 +4,7 @@
 --     text      = { statement }
 --     statement = { "inactive:" | "protect:" | "replace:" } step { step } end
 --     end       = ";" | "{" text "}"
-use Rattle.std.specs.Prelude.{◌≡◌, ◌<◌, ℕ, List, [], ◌∷◌, ◌++◌, length, map, Bool, true, false, ◌||◌, ◌&&◌, Option, Some, None, codes, if◌then◌else◌}
+use Rattle.std.specs.Prelude.{◌≡◌, ◌<◌, ℕ, List, [], ◌∷◌, ◌++◌, length, map, Bool, true, false, ◌||◌, ◌&&◌, codes, if◌then◌else◌}
 use Rattle.std.specs.List.{flat_map, list_any, AllByRecursion}
 use Rattle.cfg_base.specs.declared.kind.Kind.{Kind}
 use Rattle.cfg_base.specs.declared.kind.Shape.{Shape}
@@ -17,9 +17,7 @@ use Rattle.cfg_lex.specs.declared.token.Token.{Token}
 use Rattle.cfg_lex.specs.declared.token.TokenKind.{TokenKind}
 use Rattle.cfg_lex.specs.declared.token.TokenKind.TheVariants as kind
 use Rattle.cfg_lex.specs.Tokens.{IsTokens, word_in}
-use Rattle.cfg_schema.specs.declared.place.Place.{Place}
 use Rattle.cfg_schema.specs.declared.answer.Child.TheVariants as begun
-use Rattle.cfg_schema.specs.declared.rows.Row.{Row}
 use Rattle.cfg_schema.specs.Profile.{row_of, is_level}
 use Rattle.cfg_schema.specs.Child.{child_of}
 use Rattle.cfg_schema.specs.Place.{top_place, entered}

@@ -11,7 +11,7 @@ use Rattle.curly_grammar.specs.declared.stop.Stop.{Stop}
 use Rattle.curly_grammar.specs.declared.stop.Stop.TheVariants.{Refused, NoMemory}
 use Rattle.curly_grammar.specs.declared.phase.Marks.{Marks}
 use Rattle.curly_grammar.specs.declared.phase.Phase.{Phase}
-use Rattle.curly_grammar.specs.declared.phase.Phase.TheVariants.{Between, Marked, Naming, Valuing, Listing, After}
+use Rattle.curly_grammar.specs.declared.phase.Phase.TheVariants.{Between, Naming, After}
 use Rattle.curly_grammar.specs.Answer.{IsPlaced, turn_of}
 use Rattle.curly_grammar.specs.Fault.{why_by, why_no_word}
 use Rattle.curly_grammar.specs.Grammar.{Lexed, Level}

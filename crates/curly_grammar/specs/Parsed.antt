@@ -1,7 +1,6 @@
 -- What the functions behind `parse` answer.
 use Rattle.std.specs.Prelude.{◌≡◌, ◌≢◌, ◌⊎◌, ◌≤◌, ◌<◌, ℕ, List, length, take, min, Option, Some, None, Result, Ok, Err, slice_get}
 use Rattle.cfg_base.specs.declared.path.Step.{Step}
-use Rattle.cfg_lex.specs.declared.token.Token.{Token}
 use Rattle.cfg_tree.specs.declared.limit.TheConstants.{MAX_STATEMENTS}
 use Rattle.cfg_tree.specs.Statements.{size_of}
 use Rattle.cfg_tree.specs.Stated.{stated_from_none, different, paths_of}
@@ -10,7 +9,7 @@ use Rattle.curly_grammar.specs.declared.fault.TextFault.{TextFault}
 use Rattle.curly_grammar.specs.declared.fault.TextFault.TheVariants as fault
 use Rattle.curly_grammar.specs.declared.fault.Why.{Why}
 use Rattle.curly_grammar.specs.declared.marked.Marked.{Marked}
-use Rattle.curly_grammar.specs.Fault.{why_not, paths_met, of_reason, IsLeftmostFault}
+use Rattle.curly_grammar.specs.Fault.{why_not, of_reason, IsLeftmostFault}
 use Rattle.curly_grammar.specs.Grammar.{Lexed, Reads}
 use Rattle.curly_grammar.specs.Reading.{Run, start, Takes, Goes}
 

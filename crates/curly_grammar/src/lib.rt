@@ -1,7 +1,9 @@
 //! What a curly text says: its grammar, and the reader of such texts.
 //!
-//! Guarantees: a text that the grammar derives is read as the statements that it says, and any other has its leftmost fault.
-//! Leaves to others: the tokens (`cfg_lex`), how statements are printed (`curly_text`), and what a load makes of them (`load_ops`).
+//! Guarantees: a text that the grammar derives is read as the statements that it says; any other has its
+//! leftmost fault, whose place the grammar tells; each text has one reading or one fault.
+//! Leaves to others: the tokens (`cfg_lex`), how statements are printed (`curly_text`), and what a load
+//! makes of them (`load_ops`).
 #![tactic(auto)]
 
 mod effect;

@@ -1,4 +1,3 @@
-use Rattle.std.proofs.Common.{sym}
 use Rattle.curly_grammar.proofs.TakingLemmas.{open_taken}
 use Rattle.curly_grammar.proofs.taking.take_open_brace.Goals as goal
 
