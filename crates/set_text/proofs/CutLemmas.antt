@@ -35,7 +35,7 @@ one_line (b ∷ c ∷ bytes) each some =
     in_front b (c ∷ bytes) (lines_in (c ∷ bytes)) here.0 next.0
     ∙ ap (in_first b) (one_line (c ∷ bytes) here.1 (omega arith))
 
-without_cr_more : (b c : ℕ) (bytes : List ℕ) → without_cr (b ∷ c ∷ bytes) ≡ b ∷ without_cr (c ∷ bytes)
+pub without_cr_more : (b c : ℕ) (bytes : List ℕ) → without_cr (b ∷ c ∷ bytes) ≡ b ∷ without_cr (c ∷ bytes)
 without_cr_more b c bytes =
     let long : length (b ∷ c ∷ bytes) - 1 ≡ suc (length bytes) = omega arith in
     let short : length (c ∷ bytes) - 1 ≡ length bytes = omega arith in

@@ -4,3 +4,4 @@ pub mod FormLemmas
 pub mod CutLemmas
 pub mod ReadLemmas
 pub mod OnceLemmas
+pub mod BackLemmas

@@ -5,3 +5,4 @@ pub mod Phase
 pub mod Fit
 pub mod Lines
 pub mod Stop
+pub mod Back

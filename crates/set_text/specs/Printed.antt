@@ -35,6 +35,15 @@ pub record Line : Type 0 where
 abbrev pub line : Verb → List (List ℕ) → Line
 line verb words = record { verb = verb; words = words }
 
+abbrev pub set_line : List (List ℕ) → Line
+set_line words = line Set words
+
+abbrev pub deactivate_line : List (List ℕ) → Line
+deactivate_line words = line Deactivate words
+
+abbrev pub protect_line : List (List ℕ) → Line
+protect_line words = line Protect words
+
 -- a space, and a word as it is printed
 abbrev pub spaced : List ℕ → List ℕ
 spaced word = 32 ∷ printed_word word
@@ -66,7 +75,7 @@ own_line_if verb path false = []
 
 -- a `set` line for each word
 abbrev pub word_lines : List Step → List (List ℕ) → List Line
-word_lines path words = map (λ word. line Set (own_words path ++ word ∷ [])) words
+word_lines path words = map (λ word. set_line (own_words path ++ word ∷ [])) words
 
 -- the `set` lines of a statement: one for each word of a Many, and for the one of a Leaf; one of a Flag; and one of a level without children
 abbrev pub sets_by : Shape → List Step → Bool → List (List ℕ) → List Line

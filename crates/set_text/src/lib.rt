@@ -21,7 +21,7 @@ mod stop;
 mod verb;
 
 pub use fault::LineFault;
-pub use laws::texts_have_one_answer;
+pub use laws::{printed_lines_are_read_back, texts_have_one_answer};
 pub use lines::parse_lines;
 pub use op_lines::{OpLine, OpLines};
 pub use printing::print_lines;
