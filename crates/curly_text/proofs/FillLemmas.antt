@@ -46,7 +46,7 @@ Lists [] s = ⊥
 Lists (t ∷ steps) s = (s ≡ t) ⊎ Lists steps s
 
 -- no two steps are one
-abbrev Differ : List Step → Type 0
+abbrev pub Differ : List Step → Type 0
 Differ [] = Unit {0}
 Differ (s ∷ steps) = (Lists steps s → ⊥) × Differ steps
 
@@ -108,7 +108,7 @@ some_there true s h = refl
 some_there false s h = absurd (omega (arith, h))
 
 module _ (m : Statements) (tree : IsTree m) (p : List Step) where
-  children_differ : Differ (children_of m p)
+  pub children_differ : Differ (children_of m p)
   children_differ =
       differ (children_of m p) (λ s. subst (λ (ss : List Step). length ss ≤ 1) (sym (children_once m p s tree)) (step_if_few _ s))
 
