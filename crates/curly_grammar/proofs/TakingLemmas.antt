@@ -13,14 +13,14 @@ use Rattle.curly_grammar.specs.declared.effect.Effect.{Effect}
 use Rattle.curly_grammar.specs.declared.fault.Why.TheVariants.{Unexpected}
 use Rattle.curly_grammar.specs.declared.phase.Marks.{Marks}
 use Rattle.curly_grammar.specs.declared.phase.Phase.{Phase}
-use Rattle.curly_grammar.specs.declared.phase.Phase.TheVariants.{Between, Valuing, Listing, After}
+use Rattle.curly_grammar.specs.declared.phase.Phase.TheVariants.{Between, Marked, Naming, Valuing, Listing, After}
 use Rattle.curly_grammar.specs.declared.reader.Reader.{Reader}
 use Rattle.curly_grammar.specs.declared.stop.Stop.{Stop}
 use Rattle.curly_grammar.specs.declared.stop.Stop.TheVariants.{Refused, NoMemory}
 use Rattle.curly_grammar.specs.Answer.{Answers, lexed, turn_of}
 use Rattle.curly_grammar.specs.Fault.{why_no_word}
 use Rattle.curly_grammar.specs.Grammar.{Lexed, Level, is_open, is_word_kind}
-use Rattle.curly_grammar.specs.Held.{run_in, state_in, Follows, IsTaken, HasTaken, HasTakenWord, HasEntered, HasLeft, IsListed, IsListEnd}
+use Rattle.curly_grammar.specs.Held.{run_in, state_in, Follows, IsTaken, IsNotTaken, HasTaken, HasTakenWord, HasEntered, HasLeft, IsListed, IsListEnd}
 use Rattle.curly_grammar.specs.Reading.{State, state, Run, Turn, silent, quiet, whole, TakesWord, TakesSemicolon, TakesOpenBrace, Leaves, TakesCloseBrace, TakesOpenBracket, and_then, turned}
 use Rattle.curly_grammar.proofs.RunLemmas.{run_of}
 
@@ -120,6 +120,18 @@ close_taken old new e (Err (Refused reason)) h = record {
   same = h.2;
 }
 close_taken old new e (Err NoMemory) h = tt
+
+no_brace : (phase : Phase) (s : State) (run : Run) → (phase ≡ Between → ⊥) → TakesCloseBrace phase s run → ⊥
+no_brace Between s run h t = h refl
+no_brace (Marked marks) s run h t = t
+no_brace (Naming marks at head) s run h t = t
+no_brace (Valuing marks level) s run h t = t
+no_brace (Listing marks level words) s run h t = t
+no_brace (After level) s run h t = t
+
+-- `}` where a statement has begun
+pub brace_refused : (old : Reader) → (old.phase ≡ Between → ⊥) → IsNotTaken old (lexed kind.CloseBrace []) Unexpected old
+brace_refused old h = record { why = refl; never = λ one taken. no_brace old.phase (state_in old) one h taken; same = refl }
 
 -- `[` behind the head of a statement with a list
 pub list_taken : (old : Reader) (marks : Marks) (level copy : Level) (words : List (List ℕ)) → old.phase ≡ Valuing marks level → true ≡ is_many (row_of level.place.row).shape

@@ -19,7 +19,7 @@ use crate::marked::{Marked, Paths};
 use crate::phase::Phase;
 use crate::reader::Reader;
 use crate::stop::Stop;
-use crate::taking::{say, take};
+use crate::taking::{is_between, say, take};
 use cfg_base::{NoMemory, Path, Value, WordList};
 use cfg_lex::{LexFault, Token, tokens};
 use cfg_tree::{Tree, statement_past_limit};
@@ -62,7 +62,7 @@ fn read(
 fn is_final(reader: &Reader) -> bool
     ensures { Decides result (IsFinal (state_in reader.now)) }
 {
-    matches!(reader.phase, Phase::Between) && reader.outer.is_empty()
+    is_between(&reader.phase) && reader.outer.is_empty()
 }
 
 /// The statement that has begun is said too, with no words yet.

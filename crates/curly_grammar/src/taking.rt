@@ -1,6 +1,6 @@
 //! How a reader takes a token.
 
-ghost use Rattle.std.specs.Prelude.{◌≡◌, ◌++◌, ◌∷◌, [], IfOk, OnOk, if◌then◌else◌};
+ghost use Rattle.std.specs.Prelude.{◌≡◌, ◌++◌, ◌∷◌, [], Decides, IfOk, OnOk, if◌then◌else◌};
 ghost use Rattle.curly_grammar.specs.Answer.{Answers, lexed, turn_of};
 ghost use Rattle.curly_grammar.specs.Held.{Follows, HasEntered, HasLeft, HasTaken, HasTakenWord, IsListEnd, IsListed, IsPlacedReader, IsTurned};
 ghost use Rattle.curly_grammar.specs.Reading.{quiet, whole};
@@ -182,14 +182,21 @@ fn leave(reader: &mut Reader) -> Result<(), Stop>
     }
 }
 
+/// Whether no statement has begun.
+pub(crate) fn is_between(phase: &Phase) -> bool
+    ensures { Decides result (phase.now ≡ Phase.Between) }
+{
+    matches!(phase, Phase::Between)
+}
+
 /// `}` ends the text of a level.
 fn take_close_brace(reader: &mut Reader) -> Result<(), Stop>
     ensures { HasTaken reader.old (lexed TokenKind.CloseBrace []) reader.new result }
 {
-    match &reader.phase {
-        Phase::Between => leave(reader),
-        _ => Err(Stop::Refused(Why::Unexpected)),
+    if !is_between(&reader.phase) {
+        return Err(Stop::Refused(Why::Unexpected));
     }
+    leave(reader)
 }
 
 /// `[` begins a list of values.
