@@ -34,4 +34,4 @@ mod ExcessLemmas
 pub mod NamingLemmas
 pub mod LimitLemmas
 pub mod StatedLemmas
-mod FullLemmas
+pub mod FullLemmas

@@ -7,6 +7,7 @@ use Rattle.std.proofs.Math.ListN.{get_or-append}
 use Rattle.std.proofs.lemmas.Bool.Decides.{nat_tests}
 use Rattle.std.proofs.lemmas.Fmt.{decimal_is_IsNumeral}
 use Rattle.std.proofs.lemmas.Str.Parse.{digit_at}
+use Rattle.cfg_base.specs.Kind.{is_name_byte, is_host_byte}
 use Rattle.cfg_base.specs.declared.kind.Kind.{Kind}
 use Rattle.cfg_base.specs.declared.kind.Kind.TheVariants.{Name, Host, Text, Address, Prefix, Area, IfName, IfUnit, Number, OneOf}
 use Rattle.cfg_base.specs.declared.kind.Shape.TheVariants.{Bare}
@@ -216,3 +217,36 @@ pub name_some : (id : ℕ) (in_group : Bool) (name : List ℕ) → id < length p
 name_some id in_group name within (inl h) =
     spelled_some (row_of id).name_kind name name (all_at has_name_kind profile id no_line profile_name_kinds within) h
 name_some id in_group name within (inr h) = subst (λ (b : List ℕ). 0 < length b) (sym h.0.2.spelled) (omega arith)
+
+-- outside groups no name begins with `<`
+first_byte : (t : ℕ → Bool) (bytes : List ℕ) → 0 < length bytes → list_all t bytes ≡ true → t (get_or bytes 0 0) ≡ true
+first_byte t [] some h = absurd (omega (arith, some))
+first_byte t (b ∷ bytes) some h = by_test (t b) h
+  where
+    by_test : (c : Bool) → (c && list_all t bytes) ≡ true → c ≡ true
+    by_test true e = refl
+    by_test false e = cc
+
+no_angle : (t : ℕ → Bool) (bytes : List ℕ) → t 60 ≡ false → 0 < length bytes → list_all t bytes ≡ true → get_or bytes 0 0 ≡ 60 → ⊥
+no_angle t bytes none some h e = let k = sym (ap t e) ∙ first_byte t bytes some h in let c = sym none ∙ k in cc
+
+canonical_tame : (kind : Kind) (bytes word : List ℕ) → is_name_kind kind ≡ true → IsCanonicalOf kind bytes word → get_or bytes 0 0 ≡ 60 → ⊥
+canonical_tame Name bytes word e h angle = no_angle is_name_byte bytes refl h.spells.0.0 h.spells.0.2 angle
+canonical_tame Host bytes word e h angle = no_angle is_host_byte bytes refl h.spells.0.0 h.spells.0.2 angle
+canonical_tame IfName bytes word e h angle = let k = (lowercase_begins bytes h.spells.0).1 in omega (arith, k, angle)
+canonical_tame Address bytes word e h angle = let k = (address_begins bytes h.value h.spells).2 in omega (arith, k, angle)
+canonical_tame Prefix bytes word e h angle = let k = (prefix_begins bytes h.value h.spells).2 in omega (arith, k, angle)
+canonical_tame Area bytes word e h angle = by_area h.spells
+  where
+    by_area : IsArea bytes h.value → ⊥
+    by_area (inl a) = let k = (address_begins bytes h.value a).2 in omega (arith, k, angle)
+    by_area (inr n) = let k = (number_begins _ _ bytes _ n.read).2 in omega (arith, k, angle)
+canonical_tame IfUnit bytes word e h angle = let k = (units_begin bytes h.value h.spells).1 in omega (arith, k, angle)
+canonical_tame (Number from to) bytes word e h angle = let k = (number_begins from to bytes h.value h.spells).2 in omega (arith, k, angle)
+canonical_tame Text bytes word e h angle = cc
+canonical_tame (OneOf choice) bytes word e h angle = cc
+
+pub name_tame : (id : ℕ) (name : List ℕ) → id < length profile → IsName false (row_of id).name_kind name → get_or name 0 0 ≡ 60 → ⊥
+name_tame id name within (inl h) angle =
+    canonical_tame (row_of id).name_kind name name (all_at has_name_kind profile id no_line profile_name_kinds within) h angle
+name_tame id name within (inr h) angle = let k : false ≡ true = h.0.0 in cc

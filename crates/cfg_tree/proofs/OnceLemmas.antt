@@ -159,7 +159,7 @@ last_if path s true = ap (λ (t : Step). t ∷ []) (last_is path (path ++ s ∷ 
 last_if path s false = refl
 
 -- of the last steps of the children those that are this step are it, where its path is there
-steps_once : (m : Statements) (path : List Step) (s : Step) → filter (eq_by_cmp step_cmp s) (steps_below m path) ≡ step_if (is_some (map.get m (path ++ s ∷ []))) s
+pub steps_once : (m : Statements) (path : List Step) (s : Step) → filter (eq_by_cmp step_cmp s) (steps_below m path) ≡ step_if (is_some (map.get m (path ++ s ∷ []))) s
 steps_once m path s =
     last_steps path s (map.keys m)
     ∙ ap (λ (ks : List (List Step)). each last_of ks)

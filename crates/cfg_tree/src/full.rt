@@ -1,6 +1,6 @@
 //! The expansion of a configuration: what stands at each path once groups are applied.
 
-ghost use Rattle.std.specs.Prelude.{◌≡◌, ◌<◌, [], ◌∷◌, ◌++◌, length, filter, nat_le, IfOk, MatchOption};
+ghost use Rattle.std.specs.Prelude.{◌≡◌, ◌<◌, ◌≤◌, [], ◌∷◌, ◌++◌, length, filter, nat_le, IfOk, MatchOption};
 ghost use Rattle.std.specs.Option.{option_copied};
 ghost use Rattle.std.specs.Ordering.{is_le};
 ghost use Rattle.std.specs.Map.{keys_of};
@@ -172,7 +172,8 @@ impl<'a> FullMaker<'a> {
     /// The expansion of these paths.
     pub fn finish(self) -> Result<Full, NoMemory>
         requires { IsStrictlySortedBy path_cmp (keys_of self) }
-        ensures { IfOk result (λ full. full ≡ map.from_entries self.entry) }
+        ensures made { IfOk result (λ full. full ≡ map.from_entries self.entry) }
+        ensures within { length self.entry ≤ MAX_EXPANDED }
     {
         let FullMaker { maker, .. } = self;
         let entries = maker.finish()?;

@@ -1,0 +1,6 @@
+use Rattle.std.proofs.Common.{◌≡◌, take}
+use Rattle.group_expand.specs.Fitting.{exact, down}
+use Rattle.group_expand.proofs.fitting.fitting.Given as goal
+
+abbrev pub invariant-loop-step : goal.invariant-loop-step
+invariant-loop-step l = l.found.items ≡ down (exact l.group l.groups) (take l.step-index l.path)

@@ -1,0 +1,9 @@
+use Rattle.std.proofs.Common.{length}
+use Rattle.group_expand.proofs.RowLemmas.{IsSoFar}
+use Rattle.group_expand.proofs.row.count_below.Given as goal
+
+abbrev pub invariant-loop-left : goal.invariant-loop-left
+invariant-loop-left l = IsSoFar l.path l.rest l.left
+
+abbrev pub decreases-loop-left : goal.decreases-loop-left
+decreases-loop-left l = length l.left

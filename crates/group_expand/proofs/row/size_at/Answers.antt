@@ -1,0 +1,27 @@
+use Rattle.std.proofs.Common.{◌≡◌, ◌+◌, ℕ, List, drop, sym, ap, ◌∙◌, subst, rules}
+use Rattle.group_expand.specs.Row.{Stated, Ordered}
+use Rattle.group_expand.proofs.RowLemmas.{ordered_at, pairs_set, path_behind, counted_at}
+use Rattle.group_expand.proofs.row.size_at.Goals as goal
+
+pub count_below-size-requires-clause-ordered : goal.count_below-size-requires-clause-ordered
+count_below-size-requires-clause-ordered c =
+    let rest : c.split_at.result.1.now ≡ drop (c.args.at + 1) c.args.row.now.items = c.split_at.ensures.back ∙ ap (λ (xs : List Stated). drop (c.args.at + 1) xs) c.deref.ensures.value
+    in subst (λ (xs : List Stated). Ordered xs) (sym rest) (ordered_at c.args.row.now.items (c.args.at + 1) c.requires.ordered)
+
+pub count_below-size-requires-clause-behind : goal.count_below-size-requires-clause-behind
+count_below-size-requires-clause-behind c =
+    let rest : c.split_at.result.1.now ≡ drop (c.args.at + 1) c.args.row.now.items = c.split_at.ensures.back ∙ ap (λ (xs : List Stated). drop (c.args.at + 1) xs) c.deref.ensures.value
+    in path_behind c.args.row.now.items c.split_at.result.1.now c.args.at c.path.result.now c.index.result.now c.requires.within c.index.ensures c.path.ensures rest c.requires.ordered
+
+pub returns-clause-same : goal.returns-clause-same
+returns-clause-same c =
+    pairs_set c.args.row.now.items c.args.at c.sized-sized.result c.index-2.result.now c.requires.within
+    (c.sized-sized.ensures.path ∙ ap (λ (x : Stated). x.path) c.index-2.ensures)
+    (c.sized-sized.ensures.value ∙ ap (λ (x : Stated). x.value) c.index-2.ensures)
+
+pub returns-clause-counted : goal.returns-clause-counted
+returns-clause-counted c =
+    let rest : c.split_at.result.1.now ≡ drop (c.args.at + 1) c.args.row.now.items = c.split_at.ensures.back ∙ ap (λ (xs : List Stated). drop (c.args.at + 1) xs) c.deref.ensures.value
+    in counted_at c.args.row.now.items c.split_at.result.1.now c.args.at c.path.result.now c.index.result.now c.requires.within c.index.ensures c.path.ensures rest
+    c.sized-sized.result c.index-2.result.now c.count_below-size.result c.index-2.ensures c.sized-sized.ensures.path c.sized-sized.ensures.size c.requires.counted
+    c.count_below-size.ensures.count

@@ -1,0 +1,68 @@
+-- The expansion of a configuration. Junos OS CLI User Guide, on configuration groups and on displaying what is inherited.
+-- What the expansion has at a path, asked path by path, by a look-up of values and the steps of the statements right below a path.
+use Rattle.std.specs.Prelude.{◌≡◌, ◌≢◌, ℕ, ◌<◌, Bool, true, false, not, ◌&&◌, ◌||◌, List, [], ◌∷◌, ◌++◌, length, map, filter, IsSome, is_some, Option, Some, None, if◌then◌else◌}
+use Rattle.std.specs.FinMap as finite
+use Rattle.std.specs.Option.{option_map}
+use Rattle.cfg_base.specs.Order.{path_cmp}
+use Rattle.cfg_base.specs.declared.path.Step.{Step}
+use Rattle.cfg_base.specs.declared.value.Value.{Value}
+use Rattle.cfg_schema.specs.Profile.{same_word}
+use Rattle.cfg_schema.specs.Place.{place_of}
+use Rattle.cfg_tree.specs.Statements.{Statements, last_of}
+use Rattle.cfg_tree.specs.declared.full.Given.{Given}
+use Rattle.cfg_tree.specs.Full.{Expansion}
+use Rattle.cfg_tree.specs.Tree.{ordered_head, step_of}
+use Rattle.cfg_tree.specs.Children.{is_child, steps_below, order_in}
+use Rattle.group_expand.specs.Live.{Look, is_live, words_of}
+use Rattle.group_expand.specs.Sources.{apply_step, except_step, same_step, is_outside, Source, sources}
+
+-- a statement that applies or excepts groups
+abbrev pub is_apply : List Step → Bool
+is_apply [] = false
+is_apply path = same_step apply_step (last_of path) || same_step except_step (last_of path)
+
+-- a statement of the expansion that the configuration has itself: live, outside `groups`, and no apply statement
+abbrev pub is_own : Look → List Step → Bool
+is_own look path = is_live look path && (is_outside path && not (is_apply path))
+
+-- what a path has: its words, and the group that they come from, which is empty for the path's own
+pub record Gift : Type 0 where
+  pub words : List (List ℕ)
+  pub group : List ℕ
+
+-- the words and the group of the first source
+abbrev pub first_gift : Look → List Source → Option Gift
+first_gift look [] = None
+first_gift look (x ∷ more) = Some (record { words = words_of (look x.from); group = x.group })
+
+module _ (look : Look) (kids : List Step → List Step) where
+  -- what a path has: its own words, or those of its first source
+  abbrev pub gift_at : List Step → Option Gift
+  gift_at path = (if is_own look path then Some (record { words = words_of (look path); group = [] }) else first_gift look (sources look kids path))
+
+-- the same of what an expansion has
+abbrev pub gift_of : Given → Gift
+gift_of given = record { words = given.words; group = given.group }
+
+-- the names of the children of a path that have this head and that the configuration hasn't itself, by their bytes
+abbrev pub inherited_names : Look → Expansion → List ℕ → List Step → List (List ℕ)
+inherited_names look full head path =
+    map (λ q. (last_of q).name)
+    (filter (λ q. is_child path q && (same_word head (last_of q).head && not (is_own look q))) (finite.keys full))
+
+-- the live names in their order, and then the inherited ones by their bytes
+abbrev pub order_by : Look → Expansion → List Step → Option (List ℕ) → List (List ℕ)
+order_by look full path None = []
+order_by look full path (Some head) =
+    filter (λ name. is_live look (path ++ step_of head name ∷ [])) (order_in (look path)) ++ inherited_names look full head path
+
+-- the expansion of a configuration: at each path what the path has, and the order of its level
+pub record IsExpansionOf (look : Look) (kids : List Step → List Step) (full : Expansion) : Type 0 where
+  pub gifts : (path : List Step) → path ≢ [] → option_map gift_of (finite.get full path) ≡ gift_at look kids path
+  pub top : finite.get full [] ≡ None
+  pub orders : (path : List Step) (given : Given) → finite.get full path ≡ Some given
+      → given.order ≡ order_by look full path (ordered_head (place_of path))
+
+-- the same of a map
+abbrev pub IsExpansion : Statements → Expansion → Type 0
+IsExpansion m full = IsExpansionOf (finite.get m) (steps_below m) full

@@ -1,0 +1,13 @@
+pub mod Live
+pub mod Sources
+pub mod Expansion
+pub mod Front
+pub mod Listed
+pub mod Made
+pub mod Row
+pub mod Node
+pub mod Fitting
+pub mod Offer
+pub mod Fronts
+pub mod Placed
+pub mod Runs

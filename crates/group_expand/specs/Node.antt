@@ -1,0 +1,58 @@
+-- A statement with what stands below it, and the live statements right below. For the inner functions.
+use Rattle.std.specs.Prelude.{◌≡◌, ℕ, ◌<◌, ◌==◌, ◌+◌, Bool, true, false, not, ◌&&◌, List, [], ◌∷◌, ◌++◌, length, filter, map, Option, Some, None}
+use Rattle.std.specs.List.{AllByRecursion}
+use Rattle.cfg_base.specs.Order.{is_below}
+use Rattle.cfg_base.specs.declared.path.Step.{Step}
+use Rattle.cfg_base.specs.declared.value.Value.{Value}
+use Rattle.cfg_tree.specs.Children.{is_child}
+use Rattle.group_expand.specs.Live.{Look}
+use Rattle.group_expand.specs.Row.{Stated, Counted, Ordered}
+
+-- a statement, and the part of the row that stands below it
+pub record Node : Type 0 where
+  pub path : List Step
+  pub value : Value
+  pub below : List Stated
+
+-- a path is below another one, and isn't it
+abbrev pub is_inside : List Step → List Step → Bool
+is_inside above path = is_below above path && not (is_below path above)
+
+-- what of a row stands below a path
+abbrev pub inside_of : List Step → List Stated → List Stated
+inside_of path xs = filter (λ x. is_inside path x.path) xs
+
+-- all stand below a path
+abbrev pub AreInside : List Step → List Stated → Type 0
+AreInside path xs = AllByRecursion (λ x. is_inside path x.path ≡ true) xs
+
+abbrev pub node_of : List Stated → Stated → Node
+node_of xs x = record { path = x.path; value = x.value; below = inside_of x.path xs }
+
+-- a statement is right below a path, and has no inactive mark
+abbrev pub is_live_child : List Step → Stated → Bool
+is_live_child above x = is_child above x.path && not x.value.inactive
+
+-- of the first statement: whether it is one, and it with what stands below it
+abbrev pub begins_live : List Step → List Stated → Bool
+begins_live above [] = false
+begins_live above (x ∷ xs) = is_live_child above x
+
+abbrev pub FirstNode : List Stated → Node → Type 0
+FirstNode [] node = ⊥
+FirstNode (x ∷ xs) node = node ≡ record { path = x.path; value = x.value; below = filter (λ y. is_below x.path y.path) xs }
+
+-- the live statements right below a path
+abbrev pub live_children : List Step → List Stated → List Node
+live_children above xs = map (node_of xs) (filter (is_live_child above) xs)
+
+-- the live statements right below a node
+abbrev pub children_of : Node → List Node
+children_of node = live_children node.path node.below
+
+-- what stands below a path that isn't the top, in order and counted
+pub record IsPart (path : List Step) (below : List Stated) : Type 0 where
+  pub long : 0 < length path
+  pub counted : Counted below
+  pub ordered : Ordered below
+  pub inside : AreInside path below

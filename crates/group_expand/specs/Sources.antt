@@ -1,0 +1,107 @@
+-- Which groups' statements a path has, by a look-up of values and the steps of the statements right below a path. Junos OS CLI User Guide,
+-- on configuration groups, inheritance and wildcards. Which statement comes first where several fit is this project's own.
+-- Bytes by number: < is 60.
+use Rattle.std.specs.Prelude.{ℕ, ◌-◌, ◌==◌, Bool, true, false, not, ◌&&◌, ◌||◌, List, [], ◌∷◌, ◌++◌, length, take, drop, map, filter, codes, Option, Some, None, if◌then◌else◌}
+use Rattle.std.specs.List.{flat_map, list_any}
+use Rattle.cfg_base.specs.declared.path.Step.{Step}
+use Rattle.cfg_base.specs.declared.value.Value.{Value}
+use Rattle.cfg_schema.specs.Profile.{same_word}
+use Rattle.cfg_tree.specs.Tree.{step_of}
+use Rattle.glob_name.specs.Glob.{glob}
+use Rattle.group_expand.specs.Live.{Look, is_live, live_words}
+
+-- where groups stand, and the statements that apply and except them
+abbrev pub groups_step : Step
+groups_step = step_of (codes "groups") []
+
+abbrev pub apply_step : Step
+apply_step = step_of (codes "apply-groups") []
+
+abbrev pub except_step : Step
+except_step = step_of (codes "apply-groups-except") []
+
+-- two steps have the same words
+abbrev pub same_step : Step → Step → Bool
+same_step s t = same_word s.head t.head && same_word s.name t.name
+
+-- a word is one of these
+abbrev pub has_word : List (List ℕ) → List ℕ → Bool
+has_word words word = list_any (same_word word) words
+
+-- a name is a wildcard
+abbrev pub is_wildcard : List ℕ → Bool
+is_wildcard [] = false
+is_wildcard (b ∷ rest) = b == 60
+
+-- what stands between the angles of a wildcard name
+abbrev pub inner_of : List ℕ → List ℕ
+inner_of name = take (length name - 2) (drop 1 name)
+
+-- a step with a wildcard name fits a step of the same head whose name the wildcard matches
+abbrev pub fits_wildcard : Step → Step → Bool
+fits_wildcard step other = same_word step.head other.head && (is_wildcard other.name && glob (inner_of other.name) step.name)
+
+-- the paths above a path, from its parent outwards to the top
+abbrev pub outward_from : List Step → List (List Step) → List Step → List (List Step)
+outward_from above inner [] = inner
+outward_from above inner (step ∷ rest) = outward_from (above ++ step ∷ []) (above ∷ inner) rest
+
+abbrev pub outward : List Step → List (List Step)
+outward path = outward_from [] [] path
+
+-- a path outside `groups`, and one without wildcard names
+abbrev pub is_outside : List Step → Bool
+is_outside [] = true
+is_outside (step ∷ rest) = not (same_step groups_step step)
+
+abbrev pub is_plain : List Step → Bool
+is_plain path = not (list_any (λ step. is_wildcard step.name) path)
+
+-- a statement of a group that fits a path
+pub record Source : Type 0 where
+  pub group : List ℕ
+  pub from : List Step
+
+abbrev pub source : List ℕ → List Step → Source
+source group from = record { group = group; from = from }
+
+module _ (look : Look) (kids : List Step → List Step) where
+  -- the paths themselves, where they are live
+  abbrev pub live_ones : List (List Step) → List (List Step)
+  live_ones paths = filter (is_live look) paths
+
+  -- right below a group's path, the live statement with the very step, and then, where wildcards may match, those whose
+  -- wildcard matches, by its bytes
+  abbrev pub fitting_below : Bool → Step → List Step → List (List Step)
+  fitting_below wild step from =
+      live_ones ((from ++ step ∷ []) ∷ []) ++ live_ones (map (λ other. from ++ other ∷ []) (if wild then filter (fits_wildcard step) (kids from) else []))
+
+  -- the live statements of a group that fit a path step by step: first by the first step where they differ; wildcards
+  -- match only where the path to there is live
+  abbrev pub fitting_from : List Step → List (List Step) → List Step → List (List Step)
+  fitting_from above found [] = found
+  fitting_from above found (step ∷ rest) =
+      fitting_from (above ++ step ∷ []) (flat_map (fitting_below (is_live look (above ++ step ∷ [])) step) found) rest
+
+  -- the same, from the group on
+  abbrev pub fitting : List ℕ → List Step → List (List Step)
+  fitting group path = fitting_from [] (live_ones ((groups_step ∷ step_of [] group ∷ []) ∷ [])) path
+
+  -- the groups that are applied at a level, and those that are excepted there
+  abbrev pub applied : List Step → List (List ℕ)
+  applied level = live_words look (level ++ apply_step ∷ [])
+
+  abbrev pub excepted : List Step → List (List ℕ)
+  excepted level = live_words look (level ++ except_step ∷ [])
+
+  -- from the parent outwards, at each level the groups that are applied there, but those that were excepted up to there, and of each
+  -- group what fits; `out` says which groups were excepted so far
+  abbrev pub sources_by : (List ℕ → List (List Step)) → (List ℕ → Bool) → List (List Step) → List Source
+  sources_by found out [] = []
+  sources_by found out (level ∷ outer) =
+      flat_map (λ group. map (source group) (found group)) (filter (λ group. not (has_word (excepted level) group || out group)) (applied level))
+      ++ sources_by found (λ group. has_word (excepted level) group || out group) outer
+
+  -- the sources of a path, in order
+  abbrev pub sources : List Step → List Source
+  sources path = (if is_outside path && is_plain path then sources_by (λ group. fitting group path) (λ group. false) (outward path) else [])

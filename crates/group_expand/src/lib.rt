@@ -1,0 +1,25 @@
+//! Inheritance from groups.
+//!
+//! Guarantees: the expansion of a configuration has each live statement outside `groups`, and each other path that a group
+//! which is applied above it brings, with the words of the first group that does.
+//! Leaves to others: what a wildcard matches (`glob_name`), and what a commit asks of an expansion.
+#![tactic(auto)]
+
+mod below;
+mod expanding;
+mod fault;
+mod fitting;
+mod front;
+mod given;
+mod laws;
+mod node;
+mod offer;
+mod order;
+mod plan;
+mod row;
+mod run;
+mod step;
+
+pub use expanding::expand;
+pub use fault::ExpandFault;
+pub use laws::{expansion_is_one, expansion_is_what_is_local_or_has_a_source};

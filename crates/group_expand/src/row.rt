@@ -1,0 +1,169 @@
+//! The statements of a configuration in a row, each with how many stand at it and below it.
+
+ghost use Rattle.std.specs.Prelude.{◌≡◌, ◌<◌, ◌≤◌, ◌+◌, length, filter, drop, IfOk};
+ghost use Rattle.std.specs.FinMap as map;
+ghost use Rattle.cfg_tree.specs.Tree.{IsTree};
+ghost use Rattle.group_expand.specs.Placed.{map_of, IsRow};
+ghost use Rattle.group_expand.specs.Row.{Counted, Ordered, AreBehind, below_of, beside_of, is_under, size_in, path_in, pairs_of};
+
+use cfg_base::{NoMemory, Path, Value};
+use cfg_tree::Tree;
+use std::alloc::Global;
+use std::marker::Model;
+
+/// A statement, and how many stand at it and below it.
+#[derive(Debug, Drop)]
+pub struct Statement<'a> {
+    path: &'a Path,
+    value: &'a Value,
+    size: usize,
+}
+
+impl<'a> Model for Statement<'a> {
+    ghost use Rattle.group_expand.specs.Row as row;
+
+    ghost Value = { row.Stated };
+
+    ghost view = { λ s. record { path = s.path.now; value = s.value.now; size = s.size } };
+}
+
+impl<'a> Statement<'a> {
+    pub fn path(&self) -> &'a Path
+        ensures { result.now ≡ self.now.path }
+    {
+        self.path
+    }
+
+    pub fn value(&self) -> &'a Value
+        ensures { result.now ≡ self.now.value }
+    {
+        self.value
+    }
+
+    fn size(&self) -> usize
+        ensures { result ≡ self.now.size }
+    {
+        self.size
+    }
+
+    /// The same statement with another size.
+    fn sized(&self, size: usize) -> Statement<'a>
+        ensures path { result.path ≡ self.now.path }
+        ensures value { result.value ≡ self.now.value }
+        ensures size { result.size ≡ size }
+    {
+        Statement {
+            path: self.path,
+            value: self.value,
+            size,
+        }
+    }
+}
+
+fn size(part: &[Statement<'_>]) -> usize
+    requires { 0 < length part.now }
+    ensures { result ≡ size_in part.now }
+{
+    part[0].size()
+}
+
+/// The path of the first statement.
+pub fn path_of<'a>(part: &[Statement<'a>]) -> &'a Path
+    requires { 0 < length part.now }
+    ensures { result.now ≡ path_in part.now }
+{
+    part[0].path()
+}
+
+/// What stands behind a statement and all below it.
+pub fn beside<'s, 'a>(part: &'s [Statement<'a>]) -> &'s [Statement<'a>]
+    requires some { 0 < length part.now }
+    requires counted { Counted part.now }
+    requires ordered { Ordered part.now }
+    ensures { result.now ≡ beside_of part.now }
+{
+    part.split_at(size(part)).1
+}
+
+/// What stands below a statement.
+pub fn inside<'s, 'a>(part: &'s [Statement<'a>]) -> &'s [Statement<'a>]
+    requires some { 0 < length part.now }
+    requires counted { Counted part.now }
+    requires ordered { Ordered part.now }
+    ensures { result.now ≡ below_of part.now }
+{
+    part.split_at(size(part)).0.split_at(1).1
+}
+
+/// How many statements of a row stand below a path that is before them.
+fn count_below(path: &Path, rest: &[Statement<'_>]) -> usize
+    requires counted { Counted rest.now }
+    requires ordered { Ordered rest.now }
+    requires behind { AreBehind path.now rest.now }
+    ensures count { result ≡ length (filter (is_under path.now) rest.now) }
+    ensures within { result ≤ length rest.now }
+{
+    let all = rest.len();
+    let mut left = rest;
+    while !left.is_empty() {
+        if !path_of(left).is_below(path) {
+            return all - left.len();
+        }
+        left = beside(left);
+    }
+    all
+}
+
+/// Gives a statement its size, where those behind it have theirs.
+fn size_at(row: &mut Vec<Statement<'_>>, at: usize)
+    requires within { at < length row.old.items }
+    requires ordered { Ordered row.old.items }
+    requires counted { Counted (drop (at + 1) row.old.items) }
+    ensures counted { Counted (drop at row.new.items) }
+    ensures same { pairs_of row.new.items ≡ pairs_of row.old.items }
+{
+    let rest = row.split_at(at + 1).1;
+    let size = count_below(row[at].path(), rest) + 1;
+    let sized = row[at].sized(size);
+    row[at] = sized;
+}
+
+/// Gives each statement its size.
+fn size_all(row: &mut Vec<Statement<'_>>)
+    requires { Ordered row.old.items }
+    ensures counted { Counted row.new.items }
+    ensures same { pairs_of row.new.items ≡ pairs_of row.old.items }
+{
+    let mut at = row.len();
+    while at > 0 {
+        at -= 1;
+        size_at(row, at);
+    }
+}
+
+/// The statements, none with its size yet.
+fn gathered<'a>(alloc: Global, tree: &'a Tree) -> Result<Vec<Statement<'a>>, NoMemory>
+    ensures same { IfOk result (λ row. pairs_of row.items ≡ map.entries tree.now) }
+    ensures tree { IsTree tree.now }
+{
+    let mut row = Vec::with_capacity(alloc, tree.count() as usize)?;
+    let mut walk = tree.walk();
+    while let Some((path, value)) = walk.next() {
+        row.push(Statement {
+            path,
+            value,
+            size: 1,
+        })?;
+    }
+    Ok(row)
+}
+
+/// The statements of a configuration.
+pub fn row_of<'a>(alloc: Global, tree: &'a Tree) -> Result<Vec<Statement<'a>>, NoMemory>
+    ensures map { IfOk result (λ row. map_of row.items ≡ tree.now) }
+    ensures row { IfOk result (λ row. IsRow row.items) }
+{
+    let mut row = gathered(alloc, tree)?;
+    size_all(&mut row);
+    Ok(row)
+}
