@@ -1,5 +1,5 @@
 -- Of a typed map nothing stands below an apply statement.
-use Rattle.std.proofs.Common.{◌≡◌, ◌≢◌, ℕ, ◌+◌, ◌<◌, Bool, true, false, not, ◌&&◌, ◌||◌, List, [], ◌∷◌, ◌++◌, length, refl, sym, ap, subst, ◌∙◌, arith, length-append, Option, Some, None}
+use Rattle.std.proofs.Common.{◌≡◌, ◌<◌, Bool, true, false, not, ◌&&◌, ◌||◌, List, [], ◌∷◌, ◌++◌, length, refl, sym, ap, subst, ◌∙◌, arith, length-append, Option, Some, None}
 use Rattle.std.specs.Prelude.{IsSome}
 use Rattle.std.specs.List.{list_all}
 use Rattle.std.specs.FinMap as finite
@@ -7,17 +7,15 @@ use Rattle.cfg_base.specs.declared.path.Step.{Step}
 use Rattle.cfg_schema.specs.declared.place.Place.{Place}
 use Rattle.cfg_schema.specs.declared.table.Line.{Line}
 use Rattle.cfg_schema.specs.Keyword.{spelled}
-use Rattle.cfg_schema.specs.Profile.{profile, line_at, no_line, row_of, is_level, same_word}
+use Rattle.cfg_schema.specs.Profile.{profile, line_at, no_line, is_level}
 use Rattle.cfg_schema.specs.Place.{has_words, top_place, place_after, and_then, place_from, place_of}
 use Rattle.cfg_schema.proofs.TestLemmas.{same}
 use Rattle.cfg_schema.proofs.LevelLemmas.{led_to, all_at}
 use Rattle.cfg_tree.specs.Statements.{Statements, parent_of, last_of}
-use Rattle.cfg_tree.specs.Typed.{IsTypedPath}
 use Rattle.cfg_tree.specs.Tree.{IsTree}
 use Rattle.cfg_tree.specs.Resolve.{IsLevelPath}
 use Rattle.cfg_tree.proofs.PathLemmas.{split, same_ends}
 use Rattle.cfg_tree.proofs.FollowLemmas.{typed_place, typed_front, typed_last, parent_is_level}
-use Rattle.group_expand.specs.Live.{is_live}
 use Rattle.group_expand.specs.Sources.{apply_step, except_step, same_step}
 use Rattle.group_expand.specs.Expansion.{is_apply}
 use Rattle.group_expand.proofs.ClosedLemmas.{both}

@@ -1,6 +1,6 @@
 -- The steps that a path's children may have: each child that is in the expansion has one of them; they are in order.
-use Rattle.std.proofs.Common.{◌≡◌, ◌≢◌, ◌⊎◌, inl, inr, ℕ, ◌+◌, ◌<◌, Bool, true, false, not, cond, List, [], ◌∷◌, ◌++◌, length, filter, map, refl, sym, ap, subst, ◌∙◌, arith, Option, Some, None, is_some}
-use Rattle.std.specs.Prelude.{IsSome, ◌&&◌, ◌||◌}
+use Rattle.std.proofs.Common.{◌≡◌, ◌⊎◌, inl, inr, Bool, true, false, not, cond, List, [], ◌∷◌, ◌++◌, filter, map, refl, sym, ap, subst, ◌∙◌, arith, Option, Some, None}
+use Rattle.std.specs.Prelude.{IsSome, ◌||◌}
 use Rattle.std.specs.List.{flat_map, list_any, AllByRecursion}
 use Rattle.std.specs.List.Sorted.{IsStrictlySortedBy}
 use Rattle.std.specs.BTreeSet.{insert_key}
@@ -14,7 +14,7 @@ use Rattle.cfg_tree.proofs.MapLemmas.{step_same, same_step}
 use Rattle.group_expand.specs.Live.{Look, is_active, is_live, live_from}
 use Rattle.group_expand.specs.Sources.{source, is_wildcard, is_plain, live_ones, fits_wildcard, fitting_below}
 use Rattle.group_expand.specs.Expansion.{gift_at}
-use Rattle.group_expand.specs.Front.{grown, raw, front, live_kids, sorted, steps_at}
+use Rattle.group_expand.specs.Front.{grown, front, live_kids, sorted, steps_at}
 use Rattle.group_expand.proofs.FrontLemmas.{raw_more}
 use Rattle.group_expand.proofs.ClosedLemmas.{HasOne, some_of_append, gift_parts, both, negated}
 use Rattle.group_expand.proofs.ListedLemmas.{Among, Once}

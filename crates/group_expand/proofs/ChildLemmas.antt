@@ -1,5 +1,5 @@
 -- The children of a path in a listing: the steps that are there, in order.
-use Rattle.std.proofs.Common.{◌≡◌, ◌≢◌, ◌⊎◌, inl, inr, ℕ, zero, suc, ◌+◌, ◌<◌, ◌≤◌, Bool, true, false, cond, List, [], ◌∷◌, ◌++◌, length, filter, map, refl, sym, ap, subst, ◌∙◌, arith, append_assoc, length-append, Option, Some, None, is_some}
+use Rattle.std.proofs.Common.{◌≡◌, ◌≢◌, inl, inr, ℕ, zero, suc, ◌+◌, ◌<◌, ◌≤◌, Bool, true, false, cond, List, [], ◌∷◌, ◌++◌, length, filter, map, refl, sym, ap, subst, ◌∙◌, arith, append_assoc, length-append, Option, Some, None, is_some}
 use Rattle.std.specs.Prelude.{IsSome, ◌&&◌, ◌==◌}
 use Rattle.std.specs.List.{flat_map}
 use Rattle.std.specs.List.Sorted.{IsStrictlySortedBy}
@@ -13,7 +13,7 @@ use Rattle.cfg_tree.specs.Statements.{is_below}
 use Rattle.cfg_tree.specs.Children.{is_child}
 use Rattle.cfg_tree.proofs.MapLemmas.{same_step}
 use Rattle.group_expand.specs.Listed.{entry_and, listed}
-use Rattle.group_expand.proofs.ListedLemmas.{Among, Once, append_nil, closed_all, long}
+use Rattle.group_expand.proofs.ListedLemmas.{Among, Once, closed_all, long}
 use Rattle.group_expand.proofs.InOrderLemmas.{AreInside, AreUnder, inside_under, listed_both}
 use Rattle.group_expand.proofs.StepLemmas.{child_is}
 

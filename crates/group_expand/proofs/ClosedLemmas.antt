@@ -1,10 +1,10 @@
 -- Above a path of the expansion stand paths of the expansion.
-use Rattle.std.proofs.Common.{◌≡◌, ◌≢◌, ◌⊎◌, inl, inr, ℕ, ◌+◌, ◌<◌, Bool, true, false, not, cond, List, [], ◌∷◌, ◌++◌, length, filter, map, refl, sym, ap, subst, ◌∙◌, arith, Option, Some, None, is_some}
+use Rattle.std.proofs.Common.{◌≡◌, ◌≢◌, ◌⊎◌, inl, inr, ◌<◌, Bool, true, false, not, cond, List, [], ◌∷◌, ◌++◌, length, filter, map, refl, sym, ap, subst, ◌∙◌, arith, Some, is_some}
 use Rattle.std.specs.Prelude.{IsSome, ◌&&◌, ◌||◌}
 use Rattle.std.specs.List.{flat_map, list_any}
 use Rattle.cfg_base.specs.declared.path.Step.{Step}
-use Rattle.group_expand.specs.Live.{Look, is_active, is_live, live_from, live_words, words_of}
-use Rattle.group_expand.specs.Sources.{source, groups_step, apply_step, same_step, is_wildcard, has_word, is_outside, is_plain, applied, excepted, fitting, fitting_below, sources, sources_by, outward}
+use Rattle.group_expand.specs.Live.{Look, is_live, live_from, live_words, words_of}
+use Rattle.group_expand.specs.Sources.{source, apply_step, is_wildcard, has_word, is_outside, is_plain, applied, excepted, fitting, fitting_below, sources}
 use Rattle.group_expand.specs.Expansion.{is_apply, is_own, first_gift, gift_at}
 use Rattle.group_expand.specs.Front.{grown, raw, front, applied_at, kept_at}
 use Rattle.group_expand.proofs.FrontLemmas.{raw_more}

@@ -1,16 +1,13 @@
 -- What the code makes of a row is the expansion of its configuration.
-use Rattle.std.proofs.Common.{◌≡◌, ℕ, ◌<◌, ◌≤◌, List, [], ◌∷◌, length, refl, sym, ap, subst, ◌∙◌, Result, Ok, Err, IfOk}
+use Rattle.std.proofs.Common.{◌≡◌, List, [], length, sym, ap, subst, ◌∙◌, Result, Ok, Err, IfOk}
 use Rattle.std.specs.FinMap as finite
 use Rattle.std.specs.List.Sorted.{IsStrictlySortedBy}
 use Rattle.std.specs.Map.{keys_of}
 use Rattle.cfg_base.specs.Order.{path_cmp, paths_total}
-use Rattle.cfg_base.specs.declared.path.Step.{Step}
 use Rattle.cfg_base.specs.declared.value.Value.{Value}
 use Rattle.cfg_entries.specs.EntryMap.{Pair}
 use Rattle.cfg_tree.specs.Statements.{Statements}
 use Rattle.cfg_tree.specs.Tree.{IsTree}
-use Rattle.cfg_tree.specs.Full.{Expansion}
-use Rattle.cfg_tree.specs.declared.full.Given.{Given}
 use Rattle.cfg_tree.proofs.MapLemmas.{same_statements}
 use Rattle.cfg_tree.proofs.FullLemmas.{len_from}
 use Rattle.group_expand.specs.Expansion.{IsExpansion}

@@ -1,8 +1,7 @@
 -- One path more of the expansion, and one level.
-use Rattle.std.proofs.Common.{◌≡◌, ◌≢◌, ◌⊎◌, inl, inr, ℕ, zero, suc, ◌+◌, ◌-◌, ◌<◌, ◌≤◌, Bool, true, false, not, cond, List, [], ◌∷◌, ◌++◌, length, filter, map, refl, sym, ap, subst, ◌∙◌, arith, append_assoc, length-append, Option, Some, None, is_some, option_map}
-use Rattle.std.specs.Prelude.{IsSome, ◌&&◌, ◌||◌, flat_map}
+use Rattle.std.proofs.Common.{◌≡◌, inl, inr, ℕ, zero, suc, ◌+◌, ◌-◌, ◌<◌, Bool, true, false, not, cond, List, [], ◌∷◌, ◌++◌, length, filter, map, refl, sym, ap, subst, ◌∙◌, arith, append_assoc, length-append, Option, Some, None, option_map}
+use Rattle.std.specs.Prelude.{IsSome, ◌||◌, flat_map}
 use Rattle.std.specs.List.{AllByRecursion}
-use Rattle.std.specs.Ordering.{eq_by_cmp}
 use Rattle.cfg_base.specs.declared.path.Step.{Step}
 use Rattle.cfg_base.specs.declared.value.Value.{Value}
 use Rattle.cfg_schema.specs.Place.{place_of}
@@ -19,7 +18,7 @@ use Rattle.group_expand.specs.Made.{with_order, order_of, given_at}
 use Rattle.group_expand.specs.Row.{Stated}
 use Rattle.group_expand.specs.Node.{Node, children_of}
 use Rattle.group_expand.specs.Fronts.{front_of}
-use Rattle.group_expand.specs.Offer.{Offer, is_for, own_offer, IsLevel, offered}
+use Rattle.group_expand.specs.Offer.{Offer, own_offer, IsLevel, offered}
 use Rattle.group_expand.specs.Runs.{first_step, steps_of, is_apply_step, own_of, own_gift, own_nodes, source_gift, run_gift, order_for}
 use Rattle.group_expand.specs.Placed.{map_of, node_at, kids_at, offer_at, run_at, look_of, kids_of, given_below, given_for, IsRow, IsRight, IsLevelAt}
 use Rattle.group_expand.proofs.NodeLemmas.{append_nothing}

@@ -4,7 +4,7 @@ use Rattle.std.specs.Prelude.{◌||◌}
 use Rattle.std.specs.List.{flat_map}
 use Rattle.std.proofs.lemmas.List.Concat.{flat_map-append}
 use Rattle.cfg_base.specs.declared.path.Step.{Step}
-use Rattle.group_expand.specs.Front.{grown, raw, front, applied_at, kept_at}
+use Rattle.group_expand.specs.Front.{grown, raw, front}
 use Rattle.group_expand.specs.Live.{Look, is_live}
 use Rattle.group_expand.specs.Sources.{source, has_word, fitting_below, fitting_from, fitting, applied, excepted, sources_by, outward_from, outward}
 use Rattle.group_expand.specs.Sources.{Source}

@@ -1,8 +1,7 @@
 -- Excepted groups, as a set and as a list.
-use Rattle.std.proofs.Common.{◌≡◌, ℕ, Bool, true, false, not, cond, List, [], ◌∷◌, ◌++◌, filter, map, refl, sym, ap, subst, ◌∙◌, Option, Some, None}
+use Rattle.std.proofs.Common.{◌≡◌, ℕ, Bool, true, false, not, cond, List, [], ◌∷◌, ◌++◌, filter, refl, ap, subst, ◌∙◌, Option, Some, None}
 use Rattle.std.specs.Prelude.{flat_map, unwrap_or}
 use Rattle.std.specs.BTreeSet as set
-use Rattle.cfg_base.specs.Order.{word_cmp}
 use Rattle.cfg_base.specs.Words.{lists, Knows}
 use Rattle.cfg_base.specs.declared.path.Step.{Step}
 use Rattle.group_expand.specs.Sources.{apply_step, except_step}

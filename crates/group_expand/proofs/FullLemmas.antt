@@ -1,5 +1,5 @@
 -- What is made is the expansion.
-use Rattle.std.proofs.Common.{◌≡◌, ◌≢◌, ◌⊎◌, inl, inr, nat_lt, ℕ, zero, suc, ◌+◌, ◌<◌, ◌≤◌, Bool, true, false, not, cond, List, [], ◌∷◌, ◌++◌, length, filter, map, refl, sym, ap, subst, ◌∙◌, arith, length-append, Option, Some, None, is_some, option_map}
+use Rattle.std.proofs.Common.{◌≡◌, ◌≢◌, ◌⊎◌, inl, inr, nat_lt, ℕ, zero, suc, ◌+◌, ◌<◌, ◌≤◌, Bool, true, false, not, cond, List, [], ◌∷◌, ◌++◌, length, filter, map, refl, sym, ap, ◌∙◌, arith, length-append, Option, Some, None, is_some, option_map}
 use Rattle.std.specs.Prelude.{IsSome, ◌&&◌}
 use Rattle.std.specs.FinMap as finite
 use Rattle.std.specs.FinMap.{find}
@@ -25,7 +25,7 @@ use Rattle.group_expand.specs.Front.{steps_at}
 use Rattle.group_expand.specs.Listed.{entry_and, listed}
 use Rattle.group_expand.specs.Made.{with_order, present, order_of, given_at, made, expansion_made}
 use Rattle.group_expand.proofs.ClosedLemmas.{gift_above}
-use Rattle.group_expand.proofs.ListedLemmas.{Among, listed_at, listed_below}
+use Rattle.group_expand.proofs.ListedLemmas.{Among, listed_at}
 use Rattle.group_expand.proofs.InOrderLemmas.{AreInside, listed_both, listed_sorted}
 use Rattle.group_expand.proofs.CandidateLemmas.{steps_complete, steps_sorted, once_sorted}
 use Rattle.group_expand.proofs.ChildLemmas.{deep_children}

@@ -1,5 +1,5 @@
 -- What a path's children are given from, in the nodes of the row.
-use Rattle.std.proofs.Common.{◌≡◌, ◌≢◌, ℕ, Bool, true, false, not, cond, List, [], ◌∷◌, ◌++◌, filter, map, refl, sym, ap, subst, ◌∙◌, append_assoc, Option, Some, None, is_some, option_map}
+use Rattle.std.proofs.Common.{◌≡◌, ℕ, Bool, true, false, not, cond, List, [], ◌∷◌, ◌++◌, filter, map, refl, sym, ap, ◌∙◌, Option, Some, None, is_some, option_map}
 use Rattle.std.specs.Prelude.{◌&&◌, ◌||◌, flat_map, find, unwrap_or}
 use Rattle.std.specs.List.{AllByRecursion}
 use Rattle.std.specs.Ordering.{eq_by_cmp}
@@ -20,13 +20,13 @@ use Rattle.group_expand.specs.Row.{Stated}
 use Rattle.group_expand.specs.Node.{Node, children_of}
 use Rattle.group_expand.specs.Fitting.{exact, wild, fits_of, down, fitting_of}
 use Rattle.group_expand.specs.Offer.{Source, Offer, own_offer}
-use Rattle.group_expand.specs.Fronts.{words_if_any, words_with, source_of, brought_by, applied_sources, kept_of, front_of}
+use Rattle.group_expand.specs.Fronts.{words_with, source_of, brought_by, applied_sources, kept_of, front_of}
 use Rattle.group_expand.specs.Placed.{value_in, node_at, kids_at, offer_at, run_at}
 use Rattle.group_expand.proofs.StepLemmas.{last_is}
 use Rattle.group_expand.proofs.ApartLemmas.{step_is}
 use Rattle.group_expand.proofs.ClosedLemmas.{both}
 use Rattle.group_expand.proofs.PlacedLemmas.{live_more}
-use Rattle.group_expand.proofs.RunLemmas.{placed, filter_map, map_append, map_flat, map_map, flat_map_map, live_once}
+use Rattle.group_expand.proofs.RunLemmas.{placed, filter_map, map_append, map_map, live_once}
 
 pub step_told : (s t : Step) → same_step s t ≡ eq_by_cmp step_cmp s t
 step_told s t = by_tests (same_step s t) (eq_by_cmp step_cmp s t) refl refl

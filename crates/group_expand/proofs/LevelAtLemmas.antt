@@ -1,6 +1,6 @@
 -- The level that the code makes is that of the path.
-use Rattle.std.proofs.Common.{◌≡◌, ◌≢◌, ◌⊎◌, inl, inr, ℕ, ◌+◌, ◌<◌, Bool, true, false, not, cond, List, [], ◌∷◌, ◌++◌, length, filter, map, refl, sym, ap, subst, ◌∙◌, arith, append_assoc, Option, Some, None, is_some}
-use Rattle.std.specs.Prelude.{◌&&◌, ◌||◌, flat_map}
+use Rattle.std.proofs.Common.{◌≡◌, ◌⊎◌, inl, inr, ℕ, Bool, true, false, not, cond, List, [], ◌∷◌, ◌++◌, filter, map, refl, sym, ap, subst, ◌∙◌, arith, is_some}
+use Rattle.std.specs.Prelude.{◌||◌, flat_map}
 use Rattle.std.specs.List.{AllByRecursion, list_any}
 use Rattle.std.specs.List.Sorted.{IsStrictlySortedBy}
 use Rattle.std.specs.BTreeSet.{insert_key}
@@ -18,7 +18,7 @@ use Rattle.group_expand.specs.Sources.{is_wildcard, is_plain, fits_wildcard}
 use Rattle.group_expand.specs.Front.{front, live_kids, sorted, steps_at}
 use Rattle.group_expand.specs.Row.{Stated}
 use Rattle.group_expand.specs.Node.{Node, children_of}
-use Rattle.group_expand.specs.Offer.{Offer, own_offer, group_offer, has_wildcard, plain_offers, matched_offers, offers_of, offered, is_for, Climbs, comes_before, IsLevel}
+use Rattle.group_expand.specs.Offer.{Offer, own_offer, group_offer, has_wildcard, plain_offers, matched_offers, offers_of, offered, is_for, Climbs, IsLevel}
 use Rattle.group_expand.specs.Runs.{with_first, steps_of}
 use Rattle.group_expand.specs.Placed.{node_at, kids_at, IsRight, IsLevelAt}
 use Rattle.group_expand.proofs.StepLemmas.{last_is}

@@ -1,5 +1,5 @@
 -- The offers of a level by their steps.
-use Rattle.std.proofs.Common.{◌≡◌, ℕ, Bool, true, false, not, List, [], ◌∷◌, filter, refl, sym, ap, ◌∙◌, Option, None}
+use Rattle.std.proofs.Common.{◌≡◌, Bool, false, not, List, [], filter, refl, sym, ap, ◌∙◌, None}
 use Rattle.std.specs.Prelude.{◌&&◌}
 use Rattle.std.specs.List.Sorted.{IsSortedBy, IsStableBy}
 use Rattle.std.specs.Ordering.{is_lt, is_eq, eq_by_cmp, ordering_reverse}
@@ -9,7 +9,6 @@ use Rattle.std.specs.declared.cmp.Ordering.TheVariants.{Less, Equal, Greater}
 use Rattle.std.proofs.lemmas.List.Sorted.{ranks_by}
 use Rattle.cfg_base.specs.Order.{step_cmp, steps_total}
 use Rattle.cfg_base.specs.declared.path.Step.{Step}
-use Rattle.cfg_base.specs.declared.value.Value.{Value}
 use Rattle.group_expand.specs.Offer.{Offer, is_for, comes_before, IsLevel}
 
 pub ranks : IsStrictWeakOrder comes_before

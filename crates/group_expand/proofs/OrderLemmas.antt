@@ -1,6 +1,6 @@
 -- The offers for a step tell what the step has, and its place in the order of its level.
-use Rattle.std.proofs.Common.{◌≡◌, ◌≢◌, ◌⊎◌, inl, inr, ℕ, Bool, true, false, not, cond, List, [], ◌∷◌, ◌++◌, filter, map, refl, sym, ap, subst, ◌∙◌, Option, Some, None, is_some}
-use Rattle.std.specs.Prelude.{◌&&◌, ◌||◌, is_none, flat_map}
+use Rattle.std.proofs.Common.{◌≡◌, ℕ, Bool, true, false, not, cond, List, [], ◌∷◌, ◌++◌, filter, map, refl, sym, ap, ◌∙◌, Option, Some, None, is_some}
+use Rattle.std.specs.Prelude.{◌&&◌, ◌||◌, is_none}
 use Rattle.std.specs.List.{AllByRecursion, list_any}
 use Rattle.std.specs.Ordering.{eq_by_cmp}
 use Rattle.cfg_base.specs.Order.{step_cmp}
@@ -15,7 +15,7 @@ use Rattle.group_expand.specs.Sources as given
 use Rattle.group_expand.specs.Sources.{same_step, apply_step, except_step, is_outside, is_plain, is_wildcard, sources}
 use Rattle.group_expand.specs.Expansion.{Gift, is_apply, is_own, first_gift, gift_at}
 use Rattle.group_expand.specs.Front.{raw, live_kids, steps_at}
-use Rattle.group_expand.specs.Made.{present, order_of}
+use Rattle.group_expand.specs.Made.{order_of}
 use Rattle.group_expand.specs.Row.{Stated}
 use Rattle.group_expand.specs.Node.{Node}
 use Rattle.group_expand.specs.Offer.{Offer, own_offer, is_for}

@@ -1,30 +1,28 @@
 -- The nodes of the row at paths.
-use Rattle.std.proofs.Common.{◌≡◌, ◌≢◌, ℕ, ◌+◌, ◌<◌, Bool, true, false, not, cond, List, [], ◌∷◌, ◌++◌, length, filter, map, refl, sym, ap, subst, ◌∙◌, arith, append_assoc, Option, Some, None, is_some}
-use Rattle.std.specs.Prelude.{IsSome, ◌&&◌, ◌==◌}
+use Rattle.std.proofs.Common.{◌≡◌, ◌+◌, Bool, true, false, not, cond, List, [], ◌∷◌, ◌++◌, length, filter, map, refl, sym, ap, ◌∙◌, arith, append_assoc, Some}
+use Rattle.std.specs.Prelude.{◌&&◌, ◌==◌}
 use Rattle.std.specs.FinMap as finite
 use Rattle.std.specs.FinMap.{find}
 use Rattle.std.specs.List.{AllByRecursion}
 use Rattle.std.specs.List.Sorted.{IsStrictlySortedBy}
 use Rattle.std.specs.Map.{keys_of}
 use Rattle.std.specs.Ordering.{eq_by_cmp, is_eq, ordering_reverse}
-use Rattle.std.specs.declared.cmp.Ordering.{Ordering}
 use Rattle.std.specs.declared.cmp.Ordering.TheVariants.{Less}
 use Rattle.std.proofs.lemmas.Bool.{eqb-true}
 use Rattle.cfg_base.specs.Order.{path_cmp, step_cmp, paths_total, is_below}
 use Rattle.cfg_base.specs.declared.path.Step.{Step}
 use Rattle.cfg_base.specs.declared.value.Value.{Value}
 use Rattle.cfg_entries.specs.EntryMap.{Pair}
-use Rattle.cfg_tree.specs.Statements.{Statements, last_of}
+use Rattle.cfg_tree.specs.Statements.{last_of}
 use Rattle.cfg_tree.specs.Children.{is_child, steps_below}
 use Rattle.cfg_tree.proofs.MapLemmas.{same_path, same_step, entries_is}
 use Rattle.group_expand.specs.Live.{Look, is_active, live_from, is_live}
-use Rattle.group_expand.specs.Front.{live_kids}
 use Rattle.group_expand.specs.Row.{Stated, AreBehind, Ordered, pairs_of}
-use Rattle.group_expand.specs.Node.{Node, is_inside, inside_of, AreInside, node_of, is_live_child, live_children}
+use Rattle.group_expand.specs.Node.{Node, is_inside, inside_of, node_of, is_live_child, live_children}
 use Rattle.group_expand.specs.Placed.{map_of, value_in, node_at, kids_at}
 use Rattle.group_expand.proofs.ClosedLemmas.{both}
-use Rattle.group_expand.proofs.StepLemmas.{last_is, child_is}
-use Rattle.group_expand.proofs.NodeLemmas.{below_long, below_same, inside_longer}
+use Rattle.group_expand.proofs.StepLemmas.{last_is}
+use Rattle.group_expand.proofs.NodeLemmas.{below_long, inside_longer}
 
 -- one more step is live where the path is and the step isn't inactive
 live_more_from : (look : Look) (above rest : List Step) (s : Step)

@@ -1,6 +1,6 @@
 -- The row of a configuration: what is met at its top, and its groups.
-use Rattle.std.proofs.Common.{◌≡◌, ℕ, ◌<◌, Bool, true, false, not, cond, List, [], ◌∷◌, ◌++◌, length, filter, map, refl, sym, ap, subst, ◌∙◌, arith, Option, Some, None, is_some}
-use Rattle.std.specs.Prelude.{IsSome, ◌&&◌, find}
+use Rattle.std.proofs.Common.{◌≡◌, ◌<◌, Bool, true, false, cond, List, [], ◌∷◌, ◌++◌, length, filter, map, refl, sym, ap, ◌∙◌, arith, Some, None, is_some}
+use Rattle.std.specs.Prelude.{◌&&◌, find}
 use Rattle.std.specs.FinMap as finite
 use Rattle.std.specs.List.{AllByRecursion}
 use Rattle.std.specs.Ordering.{eq_by_cmp}
@@ -10,11 +10,9 @@ use Rattle.cfg_tree.specs.Statements.{last_of}
 use Rattle.cfg_tree.specs.Children.{step_if}
 use Rattle.cfg_tree.proofs.OnceLemmas.{steps_once}
 use Rattle.group_expand.specs.Live.{Look, is_active, is_live}
-use Rattle.group_expand.specs.Sources.{groups_step, same_step, live_ones}
-use Rattle.group_expand.specs.Front.{live_kids}
-use Rattle.group_expand.specs.Row.{Stated, Ordered}
-use Rattle.group_expand.specs.Node.{Node, is_inside, inside_of, AreInside, children_of, live_children}
-use Rattle.group_expand.specs.Fitting.{exact}
+use Rattle.group_expand.specs.Sources.{groups_step, same_step}
+use Rattle.group_expand.specs.Row.{Stated}
+use Rattle.group_expand.specs.Node.{is_inside, AreInside, children_of, live_children}
 use Rattle.group_expand.specs.Runs.{own_nodes}
 use Rattle.group_expand.specs.Placed.{map_of, node_at, kids_at, look_of, kids_of, IsRow}
 use Rattle.group_expand.proofs.PlacedLemmas.{live_more, all_pass, row_there, children_at}

@@ -1,6 +1,6 @@
 -- The offers for one step: the path's own statement where it is live, and then its sources, in order.
-use Rattle.std.proofs.Common.{◌≡◌, ◌≢◌, ℕ, Bool, true, false, not, cond, List, [], ◌∷◌, ◌++◌, length, filter, map, refl, sym, ap, subst, ◌∙◌, append_assoc, Option, Some, None, is_some}
-use Rattle.std.specs.Prelude.{◌&&◌, ◌||◌, IsSome, flat_map}
+use Rattle.std.proofs.Common.{◌≡◌, ℕ, Bool, true, false, not, cond, List, [], ◌∷◌, ◌++◌, filter, map, refl, sym, ap, ◌∙◌, Option, Some, None, is_some}
+use Rattle.std.specs.Prelude.{◌&&◌, flat_map}
 use Rattle.std.specs.List.{AllByRecursion}
 use Rattle.std.specs.Ordering.{eq_by_cmp}
 use Rattle.std.proofs.lemmas.List.Elements.{filter-append}
@@ -10,12 +10,11 @@ use Rattle.cfg_base.specs.declared.value.Value.{Value}
 use Rattle.cfg_base.specs.Words.{same_word}
 use Rattle.cfg_tree.specs.Statements.{last_of}
 use Rattle.cfg_tree.specs.Children.{step_if}
-use Rattle.cfg_tree.proofs.MapLemmas.{same_step}
 use Rattle.group_expand.specs.Live.{Look, is_active, is_live}
 use Rattle.group_expand.specs.Sources as given
 use Rattle.glob_name.specs.Glob.{glob}
 use Rattle.group_expand.specs.Sources.{inner_of, is_wildcard, fits_wildcard, fitting_below, live_ones}
-use Rattle.group_expand.specs.Front.{grown, raw, front, live_kids}
+use Rattle.group_expand.specs.Front.{grown, front, live_kids}
 use Rattle.group_expand.specs.Row.{Stated}
 use Rattle.group_expand.specs.Node.{Node, children_of}
 use Rattle.group_expand.specs.Offer.{Source, Offer, own_offer, group_offer, has_wildcard, plain_offers, matched_offers, offers_of, offered, is_for}

@@ -1,5 +1,5 @@
 -- The offers of a level, step by step.
-use Rattle.std.proofs.Common.{◌≡◌, ◌⊎◌, inl, inr, ℕ, zero, suc, ◌+◌, ◌<◌, ◌≤◌, Bool, true, false, not, cond, List, [], ◌∷◌, ◌++◌, length, filter, map, take, drop, get_or, refl, sym, ap, subst, ◌∙◌, arith, nat_lt, Option, Some, None}
+use Rattle.std.proofs.Common.{◌≡◌, ◌⊎◌, inl, inr, ℕ, zero, suc, ◌+◌, ◌<◌, ◌≤◌, Bool, true, false, not, cond, List, [], ◌∷◌, length, filter, take, drop, get_or, refl, sym, ap, subst, ◌∙◌, arith, nat_lt, Option, Some, None}
 use Rattle.std.specs.Prelude.{unwrap_or}
 use Rattle.std.specs.List.{AllByRecursion, prefix_len, position}
 use Rattle.std.specs.List.Sorted.{IsSortedBy, IsStrictlySortedBy}
@@ -9,13 +9,11 @@ use Rattle.std.specs.declared.cmp.Ordering.{Ordering}
 use Rattle.std.specs.declared.cmp.Ordering.TheVariants.{Less, Equal, Greater}
 use Rattle.cfg_base.specs.Order.{step_cmp, steps_total}
 use Rattle.cfg_base.specs.declared.path.Step.{Step}
-use Rattle.cfg_tree.proofs.MapLemmas.{same_step, step_same}
-use Rattle.group_expand.specs.Front.{sorted}
-use Rattle.group_expand.specs.Offer.{Offer, is_for, comes_before, Climbs, IsLevel}
+use Rattle.cfg_tree.proofs.MapLemmas.{same_step}
+use Rattle.group_expand.specs.Offer.{Offer, is_for, comes_before, Climbs}
 use Rattle.group_expand.specs.Runs.{first_step, run_length, with_first, steps_of}
 use Rattle.group_expand.proofs.OfferLemmas.{ranks}
 use Rattle.group_expand.proofs.ListedLemmas.{Among}
-use Rattle.group_expand.proofs.CandidateLemmas.{sorted_sorted, among_sorted}
 
 less_of : (o : Ordering) → is_le o ≡ true → is_eq o ≡ false → o ≡ Less
 less_of Less h e = refl

@@ -1,9 +1,9 @@
 -- Outside the groups of a configuration no name is a wildcard.
-use Rattle.std.proofs.Common.{◌≡◌, ◌≢◌, ℕ, ◌+◌, ◌<◌, Bool, true, false, not, cond, List, [], ◌∷◌, ◌++◌, length, get_or, refl, sym, ap, subst, ◌∙◌, arith, Option, Some, None, is_some}
+use Rattle.std.proofs.Common.{◌≡◌, ℕ, ◌<◌, Bool, true, false, not, List, [], ◌∷◌, ◌++◌, length, get_or, refl, sym, ap, subst, ◌∙◌, arith, Some}
 use Rattle.std.specs.Prelude.{IsSome, ◌&&◌, ◌||◌, ◌==◌}
 use Rattle.std.specs.List.{list_all, AllByRecursion}
 use Rattle.std.specs.FinMap as finite
-use Rattle.std.proofs.lemmas.Bool.{eqb-true, eq-eqb}
+use Rattle.std.proofs.lemmas.Bool.{eqb-true}
 use Rattle.cfg_base.specs.declared.kind.Shape.{Shape}
 use Rattle.cfg_base.specs.declared.kind.Shape.TheVariants.{Container, Fixed, Keyed, Bare, Leaf, Flag, Many}
 use Rattle.cfg_base.specs.declared.path.Step.{Step}
@@ -12,12 +12,12 @@ use Rattle.cfg_schema.specs.declared.table.Line.{Line}
 use Rattle.cfg_schema.specs.declared.rows.TheConstants.{GROUPS, GROUP, ROWS}
 use Rattle.cfg_schema.specs.Keyword.{spelled}
 use Rattle.cfg_schema.specs.Profile.{profile, line_at, no_line, row_of, stands, level_in, level_of, is_fixed, StandsBelow, same_word}
-use Rattle.cfg_schema.specs.Place.{has_words, top_place, place_after, entered}
-use Rattle.cfg_schema.proofs.TestLemmas.{same, same_is}
+use Rattle.cfg_schema.specs.Place.{has_words, top_place, place_after}
+use Rattle.cfg_schema.proofs.TestLemmas.{same}
 use Rattle.cfg_schema.proofs.LevelLemmas.{LedTo, led_to, all_at}
 use Rattle.cfg_schema.proofs.RowFacts.{profile_length, number_at}
 use Rattle.cfg_tree.specs.Statements.{Statements}
-use Rattle.cfg_tree.specs.Typed.{FollowsFrom, IsTypedPath, IsNamed, IsName}
+use Rattle.cfg_tree.specs.Typed.{FollowsFrom, IsNamed, IsName}
 use Rattle.cfg_tree.specs.Tree.{IsTree}
 use Rattle.cfg_tree.proofs.NameLemmas.{name_tame}
 use Rattle.group_expand.specs.Sources.{groups_step, same_step, is_outside, is_wildcard}

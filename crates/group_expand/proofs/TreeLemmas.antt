@@ -1,13 +1,13 @@
 -- Of each tree, what is made is the expansion.
-use Rattle.std.proofs.Common.{◌≡◌, ◌≢◌, ◌⊎◌, inl, inr, ℕ, ◌+◌, ◌<◌, ◌≤◌, Bool, true, false, not, cond, List, [], ◌∷◌, ◌++◌, length, filter, map, refl, sym, ap, subst, ◌∙◌, arith, length-append, Option, Some, None, is_some}
-use Rattle.std.specs.Prelude.{IsSome, ◌||◌, ◌&&◌, ◌==◌}
+use Rattle.std.proofs.Common.{◌≡◌, inl, inr, ℕ, ◌+◌, ◌<◌, ◌≤◌, Bool, true, false, not, cond, List, [], ◌∷◌, ◌++◌, length, filter, map, refl, sym, ap, subst, ◌∙◌, arith, length-append, Option, Some, None, is_some}
+use Rattle.std.specs.Prelude.{IsSome, ◌||◌}
 use Rattle.std.specs.List.{flat_map, AllByRecursion, list_any}
 use Rattle.std.specs.FinMap as finite
 use Rattle.std.specs.Ordering.{eq_by_cmp}
 use Rattle.cfg_base.specs.Order.{path_cmp}
 use Rattle.cfg_base.specs.declared.path.Step.{Step}
 use Rattle.cfg_base.specs.declared.value.Value.{Value}
-use Rattle.cfg_schema.specs.Place.{place_of, top_place}
+use Rattle.cfg_schema.specs.Place.{top_place}
 use Rattle.cfg_schema.proofs.LevelLemmas.{path_most}
 use Rattle.cfg_tree.specs.Statements.{Statements, parent_of, last_of}
 use Rattle.cfg_tree.specs.Children.{steps_below, is_child}
@@ -17,14 +17,13 @@ use Rattle.cfg_tree.proofs.PathLemmas.{split}
 use Rattle.cfg_tree.proofs.FollowLemmas.{typed_place}
 use Rattle.group_expand.specs.Live.{Look, is_live, live_from, is_active}
 use Rattle.group_expand.specs.Sources.{source, groups_step, has_word, live_ones, fits_wildcard, fitting_below, fitting_from, fitting, applied, excepted, sources_by}
-use Rattle.group_expand.specs.Expansion.{gift_at, is_apply, IsExpansion}
+use Rattle.group_expand.specs.Expansion.{gift_at, IsExpansion}
 use Rattle.group_expand.specs.Made.{given_at, made, expansion_made}
 use Rattle.group_expand.specs.Front.{steps_at}
 use Rattle.std.specs.List.Sorted.{IsStrictlySortedBy}
 use Rattle.std.specs.Map.{keys_of}
 use Rattle.group_expand.proofs.CandidateLemmas.{steps_sorted}
 use Rattle.group_expand.proofs.InOrderLemmas.{listed_sorted}
-use Rattle.group_expand.specs.Front.{raw}
 use Rattle.group_expand.proofs.ClosedLemmas.{HasOne, some_of_append, gift_parts, both}
 use Rattle.group_expand.proofs.ListedLemmas.{Among}
 use Rattle.group_expand.proofs.StepLemmas.{child_is, last_is}

@@ -3,7 +3,7 @@ use Rattle.std.proofs.Common.{◌≡◌, ℕ, ◌<◌, Bool, true, false, cond, 
 use Rattle.cfg_base.specs.declared.path.Step.{Step}
 use Rattle.cfg_tree.specs.Statements.{no_step}
 use Rattle.group_expand.specs.Offer.{Offer, is_for}
-use Rattle.group_expand.specs.Runs.{first_step, steps_of, is_inherited, inherited_in, name_of}
+use Rattle.group_expand.specs.Runs.{first_step, steps_of, is_inherited, name_of}
 use Rattle.group_expand.proofs.NodeLemmas.{append_nothing}
 use Rattle.group_expand.proofs.StepsLemmas.{IsRunStep}
 

@@ -1,5 +1,5 @@
 -- The nodes of a group that fit a path. For the inner functions.
-use Rattle.std.specs.Prelude.{ℕ, Bool, List, [], ◌∷◌, ◌++◌, filter, flat_map}
+use Rattle.std.specs.Prelude.{ℕ, List, [], ◌∷◌, ◌++◌, filter, flat_map}
 use Rattle.cfg_base.specs.declared.path.Step.{Step}
 use Rattle.cfg_tree.specs.Statements.{last_of}
 use Rattle.cfg_tree.specs.Tree.{step_of}

@@ -1,5 +1,5 @@
 -- What a path's children are given from, and which children it may have. For the inner functions.
-use Rattle.std.specs.Prelude.{Bool, not, ◌&&◌, ◌||◌, ◌==◌, ◌+◌, ℕ, false, List, [], ◌∷◌, ◌++◌, map, filter, length}
+use Rattle.std.specs.Prelude.{not, ◌||◌, ℕ, false, List, [], ◌∷◌, ◌++◌, map, filter}
 use Rattle.std.specs.List.{flat_map}
 use Rattle.std.specs.BTreeSet.{insert_key}
 use Rattle.cfg_base.specs.Order.{step_cmp}

@@ -1,15 +1,14 @@
 -- What a path's children are given from, in the nodes of the row. For the inner functions.
-use Rattle.std.specs.Prelude.{ℕ, Bool, not, List, [], ◌∷◌, ◌++◌, map, filter, flat_map, find, unwrap_or, Option, Some, None, if◌then◌else◌}
+use Rattle.std.specs.Prelude.{ℕ, not, List, [], ◌∷◌, ◌++◌, map, filter, flat_map, find, unwrap_or, Option, Some, None, if◌then◌else◌}
 use Rattle.std.specs.Option.{option_map}
 use Rattle.std.specs.BTreeSet as set
 use Rattle.cfg_base.specs.Order.{word_cmp}
 use Rattle.cfg_base.specs.Words.{lists}
 use Rattle.cfg_base.specs.declared.path.Step.{Step}
 use Rattle.cfg_tree.specs.Statements.{last_of}
-use Rattle.cfg_tree.specs.Tree.{step_of}
 use Rattle.group_expand.specs.Sources.{same_step, apply_step, except_step}
 use Rattle.group_expand.specs.Node.{Node}
-use Rattle.group_expand.specs.Fitting.{exact, fitting_of}
+use Rattle.group_expand.specs.Fitting.{fitting_of}
 use Rattle.group_expand.specs.Offer.{Source, Offer}
 
 -- the words of the first node with a step, where there is one, and none otherwise

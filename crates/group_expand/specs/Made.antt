@@ -1,8 +1,7 @@
 -- The expansion as it is made: what the code puts at a path. For the inner functions.
-use Rattle.std.specs.Prelude.{ℕ, Bool, not, ◌&&◌, List, [], ◌∷◌, ◌++◌, map, filter, is_some, Option, Some, None}
+use Rattle.std.specs.Prelude.{ℕ, not, ◌&&◌, List, [], ◌∷◌, ◌++◌, map, filter, is_some, Option, Some, None}
 use Rattle.std.specs.FinMap as finite
 use Rattle.std.specs.Option.{option_map}
-use Rattle.cfg_base.specs.Order.{path_cmp}
 use Rattle.cfg_base.specs.declared.path.Step.{Step}
 use Rattle.cfg_schema.specs.Profile.{same_word}
 use Rattle.cfg_schema.specs.Place.{place_of}

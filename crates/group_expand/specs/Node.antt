@@ -1,11 +1,10 @@
 -- A statement with what stands below it, and the live statements right below. For the inner functions.
-use Rattle.std.specs.Prelude.{◌≡◌, ℕ, ◌<◌, ◌==◌, ◌+◌, Bool, true, false, not, ◌&&◌, List, [], ◌∷◌, ◌++◌, length, filter, map, Option, Some, None}
+use Rattle.std.specs.Prelude.{◌≡◌, ◌<◌, Bool, true, false, not, ◌&&◌, List, [], ◌∷◌, length, filter, map}
 use Rattle.std.specs.List.{AllByRecursion}
 use Rattle.cfg_base.specs.Order.{is_below}
 use Rattle.cfg_base.specs.declared.path.Step.{Step}
 use Rattle.cfg_base.specs.declared.value.Value.{Value}
 use Rattle.cfg_tree.specs.Children.{is_child}
-use Rattle.group_expand.specs.Live.{Look}
 use Rattle.group_expand.specs.Row.{Stated, Counted, Ordered}
 
 -- a statement, and the part of the row that stands below it

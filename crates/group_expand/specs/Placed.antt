@@ -1,8 +1,7 @@
 -- The nodes of the row at paths, and the offers for a step. For the inner functions.
-use Rattle.std.specs.Prelude.{◌≡◌, ℕ, Bool, true, false, List, [], ◌∷◌, ◌++◌, map, filter, Option, Some, None, if◌then◌else◌}
+use Rattle.std.specs.Prelude.{◌≡◌, ℕ, true, false, List, [], ◌∷◌, ◌++◌, map, filter, Option, Some, None, if◌then◌else◌}
 use Rattle.std.specs.FinMap as finite
 use Rattle.std.specs.List.{AllByRecursion}
-use Rattle.cfg_base.specs.Order.{path_cmp}
 use Rattle.cfg_base.specs.declared.path.Step.{Step}
 use Rattle.cfg_base.specs.declared.value.Value.{Value}
 use Rattle.cfg_tree.specs.Statements.{Statements}
@@ -17,7 +16,7 @@ use Rattle.group_expand.specs.Made.{given_at}
 use Rattle.group_expand.specs.Runs.{steps_of}
 use Rattle.group_expand.specs.Front.{raw, live_kids, steps_at}
 use Rattle.group_expand.specs.Row.{Stated, Counted, Ordered, pairs_of}
-use Rattle.group_expand.specs.Node.{Node, inside_of, live_children}
+use Rattle.group_expand.specs.Node.{Node, inside_of}
 use Rattle.group_expand.specs.Offer.{Offer, own_offer, group_offer, is_for, Climbs}
 
 -- the map whose statements stand in a row

@@ -1,12 +1,11 @@
 -- The statements of a configuration in a row, in order, each with how many of the row stand at it and below it. For the inner functions.
-use Rattle.std.specs.Prelude.{◌≡◌, ℕ, ◌+◌, Bool, not, ◌&&◌, List, [], ◌∷◌, length, filter, map}
+use Rattle.std.specs.Prelude.{◌≡◌, ℕ, ◌+◌, Bool, not, List, [], ◌∷◌, length, filter, map}
 use Rattle.std.specs.List.{AllByRecursion}
 use Rattle.std.specs.declared.cmp.Ordering.TheVariants.{Less}
 use Rattle.cfg_base.specs.Order.{path_cmp, is_below}
 use Rattle.cfg_base.specs.declared.path.Step.{Step}
 use Rattle.cfg_base.specs.declared.value.Value.{Value}
 use Rattle.cfg_entries.specs.EntryMap.{Pair}
-use Rattle.cfg_tree.specs.Children.{is_child}
 
 -- a statement of the row, and how many stand at it and below it
 pub record Stated : Type 0 where

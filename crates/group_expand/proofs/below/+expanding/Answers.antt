@@ -1,5 +1,4 @@
-use Rattle.std.proofs.Common.{◌≡◌, ◌++◌, ◌∷◌, [], ◌<◌, ◌≤◌, ◌+◌, ◌-◌, ℕ, List, length, sym, ap, ◌∙◌, arith, rules, refl, Some, None}
-use Rattle.cfg_base.specs.declared.path.Step.{Step}
+use Rattle.std.proofs.Common.{◌++◌, sym, ap, ◌∙◌, arith, rules, refl}
 use Rattle.cfg_tree.specs.declared.limit.TheConstants.{MAX_EXPANDED}
 use Rattle.group_expand.proofs.NodeLemmas.{append_nothing}
 use Rattle.group_expand.proofs.StepsLemmas.{IsRunStep, run_step}

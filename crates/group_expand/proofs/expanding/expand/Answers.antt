@@ -1,4 +1,4 @@
-use Rattle.std.proofs.Common.{◌≡◌, ◌<◌, ℕ, List, [], length, sym, ap, subst, ◌∙◌}
+use Rattle.std.proofs.Common.{◌≡◌, ◌<◌, ℕ, List, [], sym, ap, subst, ◌∙◌}
 use Rattle.std.specs.FinMap as map
 use Rattle.cfg_base.specs.Order.{path_cmp}
 use Rattle.cfg_tree.specs.Full.{Expansion}

@@ -1,5 +1,4 @@
-use Rattle.std.proofs.Common.{sym, ap, ◌∙◌, rules}
-use Rattle.group_expand.specs.Node.{Node}
+use Rattle.std.proofs.Common.{rules}
 use Rattle.group_expand.specs.Fitting.{exact}
 use Rattle.group_expand.proofs.FittingLemmas.{down_more}
 use Rattle.group_expand.proofs.fitting.fitting.Goals as goal

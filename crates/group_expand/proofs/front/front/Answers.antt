@@ -1,7 +1,5 @@
-use Rattle.std.proofs.Common.{ap, ◌∙◌, rules}
+use Rattle.std.proofs.Common.{rules}
 use Rattle.std.specs.Option.{option_copied}
-use Rattle.cfg_tree.specs.Tree.{step_of}
-use Rattle.group_expand.specs.Fronts.{words_if_any}
 use Rattle.group_expand.proofs.FrontsLemmas.{front_told}
 use Rattle.group_expand.proofs.front.front.Goals as goal
 

@@ -1,8 +1,6 @@
-use Rattle.std.proofs.Common.{◌≡◌, ◌++◌, ◌∷◌, [], Bool, true, List, sym, ap, subst, ◌∙◌}
-use Rattle.cfg_base.specs.declared.path.Step.{Step}
+use Rattle.std.proofs.Common.{◌≡◌, List, sym, ap, subst, ◌∙◌}
 use Rattle.cfg_schema.specs.Place.{place_of}
 use Rattle.cfg_tree.specs.Tree.{ordered_head}
-use Rattle.cfg_tree.specs.declared.full.Given.{Given}
 use Rattle.cfg_tree.specs.Statements.{parent_of, last_of}
 use Rattle.cfg_tree.proofs.PathLemmas.{split}
 use Rattle.group_expand.specs.Sources.{is_plain}

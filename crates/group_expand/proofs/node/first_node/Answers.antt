@@ -1,6 +1,6 @@
-use Rattle.std.proofs.Common.{◌≡◌, List, sym, subst, ap, ◌∙◌, rules}
+use Rattle.std.proofs.Common.{◌≡◌, List, sym, subst, ◌∙◌}
 use Rattle.cfg_base.specs.declared.path.Step.{Step}
-use Rattle.group_expand.specs.Row.{Stated, path_in, below_of}
+use Rattle.group_expand.specs.Row.{Stated, path_in}
 use Rattle.group_expand.specs.Node.{IsPart}
 use Rattle.group_expand.proofs.NodeLemmas.{part_of_first, first_path}
 use Rattle.group_expand.proofs.node.first_node.Goals as goal

@@ -1,4 +1,4 @@
-use Rattle.std.proofs.Common.{◌≡◌, ◌++◌, ◌∷◌, [], ◌<◌, length, rules, sym, ◌∙◌, subst, List}
+use Rattle.std.proofs.Common.{◌≡◌, ◌++◌, ◌∷◌, [], rules, sym, ◌∙◌, subst, List}
 use Rattle.group_expand.specs.Node.{Node}
 use Rattle.group_expand.proofs.RowLemmas.{next_shorter}
 use Rattle.group_expand.proofs.NodeLemmas.{IsOnWay, way_on, way_past}

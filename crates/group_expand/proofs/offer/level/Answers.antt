@@ -1,7 +1,7 @@
-use Rattle.std.proofs.Common.{rules, of_calls, ◌≡◌, List, sym, subst}
+use Rattle.std.proofs.Common.{rules, of_calls, List, subst}
 use Rattle.std.specs.List.Sorted.{IsSortedBy, IsStableBy}
 use Rattle.std.proofs.lemmas.List.Sorted.{answers_always}
-use Rattle.group_expand.specs.Offer.{Offer, comes_before, offered, IsLevel}
+use Rattle.group_expand.specs.Offer.{Offer, comes_before, IsLevel}
 use Rattle.group_expand.proofs.OfferLemmas.{ranks, level_is}
 use Rattle.group_expand.proofs.offer.level.Goals as goal
 

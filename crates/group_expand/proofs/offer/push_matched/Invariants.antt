@@ -1,9 +1,7 @@
-use Rattle.std.proofs.Common.{◌≡◌, ◌++◌, take, map, filter, not}
-use Rattle.std.specs.Prelude.{flat_map}
+use Rattle.std.proofs.Common.{◌≡◌, ◌++◌, take, map, filter}
 use Rattle.cfg_tree.specs.Statements.{last_of}
 use Rattle.group_expand.specs.Sources.{fits_wildcard}
-use Rattle.group_expand.specs.Node.{Node}
-use Rattle.group_expand.specs.Offer.{own_offer, group_offer, plain_offers, matched_offers, offers_of}
+use Rattle.group_expand.specs.Offer.{group_offer}
 use Rattle.group_expand.proofs.offer.push_matched.Given as goal
 
 abbrev pub invariant-loop-other : goal.invariant-loop-other

@@ -1,5 +1,4 @@
-use Rattle.std.proofs.Common.{◌<◌, length, rules, ◌++◌, refl}
-use Rattle.group_expand.specs.Runs.{inherited_in}
+use Rattle.std.proofs.Common.{rules, refl}
 use Rattle.group_expand.proofs.StepsLemmas.{IsRunStep, run_step}
 use Rattle.group_expand.proofs.WalkLemmas.{names_more}
 use Rattle.group_expand.proofs.order.push_inherited.Goals as goal

@@ -1,4 +1,4 @@
-use Rattle.std.proofs.Common.{◌≡◌, ◌++◌, filter, map, length, ℕ}
+use Rattle.std.proofs.Common.{◌≡◌, ◌++◌, filter, map, length}
 use Rattle.cfg_base.specs.declared.path.Step.{Step}
 use Rattle.group_expand.specs.Offer.{is_for}
 use Rattle.group_expand.specs.Runs.{is_inherited, inherited_in, steps_of}

@@ -1,4 +1,4 @@
-use Rattle.std.proofs.Common.{◌≡◌, List, [], sym, ap, subst, ◌∙◌, IfOk, rules}
+use Rattle.std.proofs.Common.{◌≡◌, List, [], ap, subst, ◌∙◌, IfOk, rules}
 use Rattle.std.specs.Prelude.{find}
 use Rattle.cfg_tree.specs.Statements.{last_of}
 use Rattle.group_expand.specs.Sources.{groups_step, same_step}

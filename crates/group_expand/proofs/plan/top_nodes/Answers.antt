@@ -1,4 +1,4 @@
-use Rattle.std.proofs.Common.{◌≡◌, List, [], sym, ap, subst, ◌∙◌, Result, Ok, Err, IfOk, rules}
+use Rattle.std.proofs.Common.{◌≡◌, List, [], sym, ap, subst, ◌∙◌, IfOk}
 use Rattle.cfg_base.specs.declared.path.Step.{Step}
 use Rattle.group_expand.specs.Node.{Node, AreInside, live_children}
 use Rattle.group_expand.specs.Placed.{kids_at, look_of, kids_of}

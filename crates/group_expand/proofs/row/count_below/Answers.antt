@@ -1,4 +1,4 @@
-use Rattle.std.proofs.Common.{◌≡◌, ◌<◌, List, length, rules, arith, sym, ap, ◌∙◌}
+use Rattle.std.proofs.Common.{rules, arith, sym, ap, ◌∙◌}
 use Rattle.cfg_base.specs.Order.{is_below}
 use Rattle.group_expand.proofs.RowLemmas.{so_far_more, so_far_ends, next_shorter}
 use Rattle.group_expand.proofs.row.count_below.Goals as goal

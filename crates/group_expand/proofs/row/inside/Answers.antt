@@ -1,4 +1,4 @@
-use Rattle.std.proofs.Common.{ℕ, List, take, drop, ap, arith, ◌∙◌}
+use Rattle.std.proofs.Common.{List, take, drop, ap, arith, ◌∙◌}
 use Rattle.group_expand.specs.Row.{Stated}
 use Rattle.group_expand.proofs.RowLemmas.{hop_room, hop_inside}
 use Rattle.group_expand.proofs.row.inside.Goals as goal

@@ -1,4 +1,4 @@
-use Rattle.std.proofs.Common.{◌≡◌, ◌+◌, ℕ, List, drop, sym, ap, ◌∙◌, subst, rules}
+use Rattle.std.proofs.Common.{◌≡◌, ◌+◌, List, drop, sym, ap, ◌∙◌, subst}
 use Rattle.group_expand.specs.Row.{Stated, Ordered}
 use Rattle.group_expand.proofs.RowLemmas.{ordered_at, pairs_set, path_behind, counted_at}
 use Rattle.group_expand.proofs.row.size_at.Goals as goal

@@ -1,4 +1,4 @@
-use Rattle.std.proofs.Common.{◌≡◌, length, ap, sym, ◌∙◌, Option, Some, None, ℕ}
+use Rattle.std.proofs.Common.{length, ap, sym, ◌∙◌, Option, ℕ}
 use Rattle.std.specs.Prelude.{unwrap_or}
 use Rattle.group_expand.proofs.StepsLemmas.{run_told}
 use Rattle.group_expand.proofs.run.run_length.Goals as goal
