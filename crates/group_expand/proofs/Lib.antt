@@ -26,3 +26,4 @@ pub mod PlanLemmas
 pub mod TameLemmas
 pub mod ExpandLemmas
 pub mod EndLemmas
+pub mod LivePartLemmas

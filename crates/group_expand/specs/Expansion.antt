@@ -64,3 +64,17 @@ pub record IsExpansionOf (look : Look) (kids : List Step → List Step) (full : 
 -- the same of a map
 abbrev pub IsExpansion : Statements → Expansion → Type 0
 IsExpansion m full = IsExpansionOf (finite.get m) (steps_below m) full
+
+-- what the configuration has itself at a path
+abbrev pub own_part : Look → List Step → Option Gift
+own_part look path = (if is_own look path then Some (record { words = words_of (look path); group = [] }) else None)
+
+-- the live names of a level, in their order
+abbrev pub own_order : Look → List Step → Option (List ℕ) → List (List ℕ)
+own_order look path None = []
+own_order look path (Some head) = filter (λ name. is_live look (path ++ step_of head name ∷ [])) (order_in (look path))
+
+-- the live part of a configuration: what it has itself, and at each level its live names
+pub record IsLivePart (m : Statements) (full : Expansion) : Type 0 where
+  pub gifts : (path : List Step) → path ≢ [] → option_map gift_of (finite.get full path) ≡ own_part (finite.get m) path
+  pub orders : (path : List Step) (given : Given) → finite.get full path ≡ Some given → given.order ≡ own_order (finite.get m) path (ordered_head (place_of path))

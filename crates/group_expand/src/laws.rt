@@ -1,14 +1,15 @@
 //! What holds of each expansion.
 
-ghost use Rattle.std.specs.Prelude.{◌≡◌, ◌≢◌, ◌⊎◌, ◌↔◌, List, [], true, IsSome};
+ghost use Rattle.std.specs.Prelude.{◌≡◌, ◌≢◌, ◌⊎◌, ◌↔◌, List, [], ◌∷◌, true, IsSome, None};
 ghost use Rattle.std.specs.FinMap as map;
 ghost use Rattle.cfg_base.specs.declared.path.Step.{Step};
 ghost use Rattle.cfg_tree.specs.Statements.{Statements};
 ghost use Rattle.cfg_tree.specs.Tree.{IsTree};
 ghost use Rattle.cfg_tree.specs.Children.{steps_below};
 ghost use Rattle.cfg_tree.specs.Full.{Expansion};
-ghost use Rattle.group_expand.specs.Sources.{sources};
-ghost use Rattle.group_expand.specs.Expansion.{is_own, IsExpansion};
+ghost use Rattle.cfg_tree.specs.declared.limit.TheConstants.{MAX_EXPANDED};
+ghost use Rattle.group_expand.specs.Sources.{groups_step, sources};
+ghost use Rattle.group_expand.specs.Expansion.{is_own, IsExpansion, IsLivePart};
 
 /// A path is in the expansion where it is local or has a source, and no other path is in it.
 pub fn expansion_is_what_is_local_or_has_a_source()
@@ -20,4 +21,14 @@ pub fn expansion_is_what_is_local_or_has_a_source()
 pub fn expansion_is_one()
     ensures there { (m : Statements) → IsTree m → (full : Expansion) × IsExpansion m full }
     ensures one { (m : Statements) (full other : Expansion) → IsExpansion m full → IsExpansion m other → full ≡ other }
+{}
+
+/// Without groups the expansion is the live part of the configuration.
+pub fn expansion_without_groups_is_the_live_part()
+    ensures { (m : Statements) (full : Expansion) → map.get m (groups_step ∷ []) ≡ None → IsExpansion m full → IsLivePart m full }
+{}
+
+/// The limit that the clauses of this crate cite, by its number.
+pub fn limit_is_stated()
+    ensures { MAX_EXPANDED ≡ 65536 }
 {}
