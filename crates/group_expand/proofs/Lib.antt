@@ -27,3 +27,5 @@ pub mod TameLemmas
 pub mod ExpandLemmas
 pub mod EndLemmas
 pub mod LivePartLemmas
+pub mod AlikeLemmas
+pub mod KidsLemmas

@@ -1,5 +1,5 @@
 -- Without groups nothing is inherited.
-use Rattle.std.proofs.Common.{◌≡◌, ◌≢◌, ◌⊎◌, inl, inr, ℕ, Bool, true, false, not, cond, List, [], ◌∷◌, ◌++◌, filter, map, refl, sym, ap, subst, ◌∙◌, Option, Some, None, is_some, option_map}
+use Rattle.std.proofs.Common.{◌≡◌, ℕ, Bool, true, false, not, cond, List, [], ◌∷◌, ◌++◌, filter, map, refl, sym, ap, ◌∙◌, Option, Some, None, is_some}
 use Rattle.std.specs.Prelude.{◌&&◌, ◌||◌, flat_map}
 use Rattle.std.specs.FinMap as finite
 use Rattle.std.specs.List.{AllByRecursion, list_any}
@@ -13,11 +13,10 @@ use Rattle.cfg_tree.specs.Statements.{Statements, last_of}
 use Rattle.cfg_tree.specs.Tree.{step_of, ordered_head}
 use Rattle.cfg_tree.specs.Children.{is_child, order_in, steps_below}
 use Rattle.cfg_tree.specs.Full.{Expansion}
-use Rattle.cfg_tree.specs.declared.full.Given.{Given}
 use Rattle.cfg_tree.proofs.MapLemmas.{same_path}
 use Rattle.group_expand.specs.Live.{Look, is_active, is_live, words_of}
-use Rattle.group_expand.specs.Sources.{Source, source, groups_step, fitting_from, fitting, fitting_below, live_ones, applied, excepted, has_word, sources_by, sources, is_outside, is_plain, outward}
-use Rattle.group_expand.specs.Expansion.{Gift, is_own, first_gift, gift_of, gift_at, own_part, own_order, order_by, inherited_names, IsExpansion, IsLivePart}
+use Rattle.group_expand.specs.Sources.{Source, source, groups_step, fitting_from, fitting, applied, excepted, has_word, sources_by, is_outside, is_plain, outward}
+use Rattle.group_expand.specs.Expansion.{Gift, is_own, first_gift, gift_at, own_part, own_order, order_by, inherited_names, IsExpansion, IsLivePart}
 use Rattle.group_expand.proofs.NodeLemmas.{append_nothing}
 use Rattle.group_expand.proofs.SourceLemmas.{some_gift}
 

@@ -1,6 +1,6 @@
 -- The expansion of a configuration. Junos OS CLI User Guide, on configuration groups and on displaying what is inherited.
 -- What the expansion has at a path, asked path by path, by a look-up of values and the steps of the statements right below a path.
-use Rattle.std.specs.Prelude.{◌≡◌, ◌≢◌, ℕ, Bool, false, not, ◌&&◌, ◌||◌, List, [], ◌∷◌, ◌++◌, map, filter, Option, Some, None, if◌then◌else◌}
+use Rattle.std.specs.Prelude.{◌≡◌, ◌≢◌, ℕ, Bool, true, false, not, ◌&&◌, ◌||◌, List, [], ◌∷◌, ◌++◌, map, filter, Option, Some, None, if◌then◌else◌}
 use Rattle.std.specs.FinMap as finite
 use Rattle.std.specs.Option.{option_map}
 use Rattle.cfg_base.specs.declared.path.Step.{Step}
@@ -12,7 +12,7 @@ use Rattle.cfg_tree.specs.Full.{Expansion}
 use Rattle.cfg_tree.specs.Tree.{ordered_head, step_of}
 use Rattle.cfg_tree.specs.Children.{is_child, steps_below, order_in}
 use Rattle.group_expand.specs.Live.{Look, is_live, words_of}
-use Rattle.group_expand.specs.Sources.{apply_step, except_step, same_step, is_outside, Source, sources}
+use Rattle.group_expand.specs.Sources.{groups_step, has_word, applied, apply_step, except_step, same_step, is_outside, Source, sources}
 
 -- a statement that applies or excepts groups
 abbrev pub is_apply : List Step → Bool
@@ -78,3 +78,11 @@ own_order look path (Some head) = filter (λ name. is_live look (path ++ step_of
 pub record IsLivePart (m : Statements) (full : Expansion) : Type 0 where
   pub gifts : (path : List Step) → path ≢ [] → option_map gift_of (finite.get full path) ≡ own_part (finite.get m) path
   pub orders : (path : List Step) (given : Given) → finite.get full path ≡ Some given → given.order ≡ own_order (finite.get m) path (ordered_head (place_of path))
+
+-- two configurations differ only in what no live statement applies: outside `groups` they are the same, and so is each group that is
+-- applied at a level
+pub record DifferUnapplied (m n : Statements) : Type 0 where
+  pub outside : (path : List Step) → is_outside path ≡ true → finite.get m path ≡ finite.get n path
+  pub groups : finite.get m (groups_step ∷ []) ≡ finite.get n (groups_step ∷ [])
+  pub given : (level : List Step) (group : List ℕ) → is_outside level ≡ true → has_word (applied (finite.get m) (steps_below m) level) group ≡ true
+      → (path : List Step) → finite.get m (groups_step ∷ step_of [] group ∷ path) ≡ finite.get n (groups_step ∷ step_of [] group ∷ path)

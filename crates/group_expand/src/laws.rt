@@ -9,7 +9,7 @@ ghost use Rattle.cfg_tree.specs.Children.{steps_below};
 ghost use Rattle.cfg_tree.specs.Full.{Expansion};
 ghost use Rattle.cfg_tree.specs.declared.limit.TheConstants.{MAX_EXPANDED};
 ghost use Rattle.group_expand.specs.Sources.{groups_step, sources};
-ghost use Rattle.group_expand.specs.Expansion.{is_own, IsExpansion, IsLivePart};
+ghost use Rattle.group_expand.specs.Expansion.{is_own, IsExpansion, IsLivePart, DifferUnapplied};
 
 /// A path is in the expansion where it is local or has a source, and no other path is in it.
 pub fn expansion_is_what_is_local_or_has_a_source()
@@ -26,6 +26,11 @@ pub fn expansion_is_one()
 /// Without groups the expansion is the live part of the configuration.
 pub fn expansion_without_groups_is_the_live_part()
     ensures { (m : Statements) (full : Expansion) → map.get m (groups_step ∷ []) ≡ None → IsExpansion m full → IsLivePart m full }
+{}
+
+/// Configurations that differ only in what no live statement applies have one expansion.
+pub fn expansion_is_of_what_is_applied()
+    ensures { (m n : Statements) (full : Expansion) → DifferUnapplied m n → IsExpansion m full → IsExpansion n full }
 {}
 
 /// The limit that the clauses of this crate cite, by its number.
