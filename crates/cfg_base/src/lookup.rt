@@ -24,12 +24,12 @@ pub(crate) fn has_word(words: &[Word], word: &Word) -> bool
         .any(|other| word.as_bytes() == other.as_bytes())
 }
 
-/// Adds a word to the known ones.
-fn learn(known: &mut BTreeSet<Word>, word: &Word) -> Result<(), NoMemory>
-    ensures { OnOk result ((other : List ℕ) → set.contains word_cmp known.new other ≡ (same_word other word.now || set.contains word_cmp known.old other)) }
+/// Adds a word to a set of words, and tells whether it is new there.
+pub fn learn(known: &mut BTreeSet<Word>, word: &Word) -> Result<bool, NoMemory>
+    ensures new { IfOk result (λ new. new ≡ not (set.contains word_cmp known.old word.now)) }
+    ensures knows { OnOk result ((other : List ℕ) → set.contains word_cmp known.new other ≡ (same_word other word.now || set.contains word_cmp known.old other)) }
 {
-    let _ = known.insert(word.clone()?)?;
-    Ok(())
+    Ok(known.insert(word.clone()?)?)
 }
 
 /// The set of these words.
@@ -38,7 +38,7 @@ pub(crate) fn set_of(alloc: Global, words: &[Word]) -> Result<BTreeSet<Word>, No
 {
     let mut known = BTreeSet::new(alloc);
     for word in words {
-        learn(&mut known, word)?;
+        let _ = learn(&mut known, word)?;
     }
     Ok(known)
 }

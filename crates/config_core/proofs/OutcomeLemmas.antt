@@ -1,10 +1,10 @@
 -- A step has one outcome.
 use Rattle.std.proofs.Common.{◌≡◌, ◌≢◌, ◌⊎◌, ℕ, Bool, true, false, ◌==◌, List, [], length, refl, sym, ap, ◌∙◌, inl, inr, Some, None, Result, Ok, Err}
 use Rattle.std.specs.Prelude.{MatchBool}
-use Rattle.cfg_base.specs.declared.command.Command.{Command}
-use Rattle.cfg_base.specs.declared.command.Command.TheVariants.{Configure, ShowActive, Logout, Edit, Up, Top, Exit, ExitAll, Show, Change, Commit as CommitOf}
-use Rattle.cfg_base.specs.declared.command.Form.{Form}
-use Rattle.cfg_base.specs.declared.command.Op.{Op}
+use Rattle.commands.specs.declared.command.Command.{Command}
+use Rattle.commands.specs.declared.command.Command.TheVariants.{Configure, ShowActive, Logout, Edit, Up, Top, Exit, ExitAll, Show, Change, Commit as CommitOf}
+use Rattle.commands.specs.declared.command.Form.{Form}
+use Rattle.commands.specs.declared.command.Op.{Op}
 use Rattle.cfg_base.specs.declared.path.Step.{Step}
 use Rattle.cfg_tree.specs.declared.target.Target.{Target}
 use Rattle.cfg_tree.specs.declared.target.WordsFault.{WordsFault}

@@ -1,9 +1,9 @@
 -- Prepared steps.
 use Rattle.std.proofs.Common.{◌≡◌, ◌⊎◌, ◌==◌, ℕ, List, length, Bool, true, false, cond, refl, sym, ap, subst, ◌∙◌, inl, inr, Result, Ok, Err}
 use Rattle.std.specs.Prelude.{MatchBool, IfOk}
-use Rattle.cfg_base.specs.declared.command.Form.{Form}
-use Rattle.cfg_base.specs.declared.command.Op.{Op}
-use Rattle.cfg_base.specs.declared.command.Command.TheVariants.{Change}
+use Rattle.commands.specs.declared.command.Form.{Form}
+use Rattle.commands.specs.declared.command.Op.{Op}
+use Rattle.commands.specs.declared.command.Command.TheVariants.{Change}
 use Rattle.cfg_base.specs.declared.path.Step.{Step}
 use Rattle.cfg_tree.specs.Statements.{Statements}
 use Rattle.edit_ops.specs.Answer.{IsChange}

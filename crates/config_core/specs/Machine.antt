@@ -2,12 +2,12 @@
 -- Junos OS CLI User Guide, on entering and leaving configuration mode, on moves through levels, on changes of the candidate,
 -- on commit, on show and on display set.
 use Rattle.std.specs.Prelude.{◌≡◌, ◌⊎◌, ℕ, ◌+◌, ◌-◌, ◌≤◌, ◌<◌, nat_lt, List, [], length, Bool, ◌==◌, if◌then◌else◌, MatchBool, Option, None, Some, is_some, slice_get, slice_set, Ok, Err}
-use Rattle.cfg_base.specs.declared.command.Mode.{Mode}
-use Rattle.cfg_base.specs.declared.command.Form.{Form}
-use Rattle.cfg_base.specs.declared.command.Form.TheVariants.{Curly, SetLines}
-use Rattle.cfg_base.specs.declared.command.Op.{Op}
-use Rattle.cfg_base.specs.declared.command.Command.{Command}
-use Rattle.cfg_base.specs.declared.command.Command.TheVariants.{Configure, ShowActive, Logout, Edit, Up, Top, Exit, ExitAll, Show, Change, Commit as CommitOf}
+use Rattle.commands.specs.declared.command.Mode.{Mode}
+use Rattle.commands.specs.declared.command.Form.{Form}
+use Rattle.commands.specs.declared.command.Form.TheVariants.{Curly, SetLines}
+use Rattle.commands.specs.declared.command.Op.{Op}
+use Rattle.commands.specs.declared.command.Command.{Command}
+use Rattle.commands.specs.declared.command.Command.TheVariants.{Configure, ShowActive, Logout, Edit, Up, Top, Exit, ExitAll, Show, Change, Commit as CommitOf}
 use Rattle.cfg_base.specs.declared.path.Step.{Step}
 use Rattle.cfg_tree.specs.declared.target.Target.{Target}
 use Rattle.cfg_tree.specs.declared.target.WordsFault.{WordsFault}

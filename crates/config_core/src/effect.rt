@@ -1,7 +1,7 @@
 use crate::commit::Commit;
 use crate::position::Position;
-use cfg_base::Mode;
 use cfg_tree::Tree;
+use commands::Mode;
 
 /// What a step does to the state beside the moment.
 #[derive(Debug, Drop)]

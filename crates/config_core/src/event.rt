@@ -1,4 +1,4 @@
-use cfg_base::Command;
+use commands::Command;
 
 /// What the machine is told: a command of a caller.
 #[derive(Clone, Debug, Drop, PartialEq, Eq)]

@@ -1,4 +1,5 @@
-use cfg_base::{Bytes, Mode, Path};
+use cfg_base::{Bytes, Path};
+use commands::Mode;
 
 /// Why a command was refused; nothing changed but the moment.
 #[derive(Debug, Drop, PartialEq, Eq)]

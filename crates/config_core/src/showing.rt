@@ -3,8 +3,9 @@
 ghost use Rattle.std.specs.Prelude.{◌≡◌, IfOk};
 ghost use Rattle.config_core.specs.Machine.{text_as};
 
-use cfg_base::{Bytes, Form, NoMemory, Path};
+use cfg_base::{Bytes, NoMemory, Path};
 use cfg_tree::Tree;
+use commands::Form;
 use curly_print::print;
 use set_text::print_lines;
 use std::alloc::Global;

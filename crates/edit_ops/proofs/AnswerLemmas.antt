@@ -3,7 +3,7 @@ use Rattle.std.proofs.Common.{inr, List, Option, Result, Err}
 use Rattle.cfg_base.specs.declared.path.Step.{Step}
 use Rattle.cfg_tree.specs.declared.target.Target.{Target}
 use Rattle.cfg_tree.specs.Statements.{Statements}
-use Rattle.cfg_base.specs.declared.command.Op.{Op}
+use Rattle.commands.specs.declared.command.Op.{Op}
 use Rattle.edit_ops.specs.declared.fault.EditFault.{EditFault}
 use Rattle.edit_ops.specs.declared.fault.EditFault.TheVariants.{Unknown, BadValue, Incomplete, Extra, NotThere, Protected, TooMany, NoMemory}
 use Rattle.edit_ops.specs.Change.{changed}

@@ -13,7 +13,7 @@ use Rattle.cfg_tree.specs.Statements.{Statements, size_of}
 use Rattle.cfg_tree.specs.Resolve.{ResolvesTo, IsLevelPath}
 use Rattle.cfg_tree.proofs.MapLemmas.{path_same}
 use Rattle.cfg_tree.proofs.UniqueLemmas.{resolved_once}
-use Rattle.cfg_base.specs.declared.command.Op.{Op}
+use Rattle.commands.specs.declared.command.Op.{Op}
 use Rattle.edit_ops.specs.declared.fault.EditFault.{EditFault}
 use Rattle.edit_ops.specs.declared.fault.EditFault.TheVariants.{Unknown, BadValue, Incomplete, Extra, NotThere, Protected, TooMany, NoMemory}
 use Rattle.edit_ops.specs.Change.{words_of, changed}

@@ -12,8 +12,9 @@ use crate::delete::delete;
 use crate::fault::EditFault;
 use crate::mark::{mark_inactive, mark_protected};
 use crate::set::set;
-use cfg_base::{Op, Path};
+use cfg_base::Path;
 use cfg_tree::{Target, Tree};
+use commands::Op;
 use std::alloc::Global;
 
 /// The statements after a change of what its words name; none where it changes nothing.

@@ -8,8 +8,9 @@ ghost use Rattle.edit_ops.specs.Made.{IsTarget};
 
 use crate::fault::EditFault;
 use crate::words::has_words;
-use cfg_base::{Op, Path, Words};
+use cfg_base::{Path, Words};
 use cfg_tree::{Target, resolve};
+use commands::Op;
 use std::alloc::Global;
 
 fn words_of(op: &Op) -> &Words

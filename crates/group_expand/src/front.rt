@@ -14,7 +14,7 @@ use crate::fitting::fitting;
 use crate::node::Node;
 use crate::offer::{Offer, Source};
 use crate::step::{apply_groups, apply_groups_except, is_head};
-use cfg_base::{NoMemory, Path, Step, Word, WordList};
+use cfg_base::{NoMemory, Path, Step, Word, WordList, learn};
 use std::alloc::Global;
 use std::collections::BTreeSet;
 
@@ -35,14 +35,6 @@ fn words_with<'a>(nodes: &[Node<'a>], head: &[u8]) -> Option<&'a WordList>
     }
 }
 
-/// Adds a word to the known ones.
-pub fn learn(known: &mut BTreeSet<Word>, word: &Word) -> Result<(), NoMemory>
-    ensures { OnOk result ((other : List ℕ) → set.contains word_cmp known.new other ≡ (same_word other word.now || set.contains word_cmp known.old other)) }
-{
-    let _ = known.insert(word.clone()?)?;
-    Ok(())
-}
-
 /// Adds the words of a list to the known ones.
 fn learn_all(known: &mut BTreeSet<Word>, words: &WordList) -> Result<(), NoMemory>
     requires { Knows [] known.old }
@@ -50,7 +42,7 @@ fn learn_all(known: &mut BTreeSet<Word>, words: &WordList) -> Result<(), NoMemor
 {
     let mut left = words.iter();
     while let Some(word) = left.next() {
-        learn(known, word)?;
+        let _ = learn(known, word)?;
     }
     Ok(())
 }

@@ -2,7 +2,7 @@
 use Rattle.std.specs.Prelude.{ℕ, Bool, true, false, List, [], ◌∷◌, ◌++◌, if◌then◌else◌, codes, decimal}
 use Rattle.std.specs.List.{join_by}
 use Rattle.cfg_base.specs.declared.path.Step.{Step}
-use Rattle.cfg_base.specs.declared.command.Mode.TheVariants.{Shared}
+use Rattle.commands.specs.declared.command.Mode.TheVariants.{Shared}
 use Rattle.config_core.specs.declared.reply.Refusal.{Refusal}
 use Rattle.config_core.specs.declared.reply.Refusal.TheVariants.{WrongMode, Unknown, BadValue, Incomplete, Extra, NotThere, NotALevel, Protected, TooMany, Exhausted}
 use Rattle.config_core.specs.declared.reply.Reply.{Reply}

@@ -9,8 +9,9 @@ ghost use Rattle.reply_text.specs.declared.fault.ShellFault.TheVariants.{Syntax}
 ghost use Rattle.reply_text.specs.Texts.{no_memory_text, printed_path, printed_step, text_of_fault, text_of_refusal, text_of_reply};
 
 use crate::fault::ShellFault;
-use cfg_base::{Mode, Path, Step, Word};
+use cfg_base::{Path, Step, Word};
 use cfg_lex::is_plain;
+use commands::Mode;
 use config_core::{Refusal, Reply};
 use io_edge::{PutFailed, Sink, put_all};
 use itoa::Buffer;

@@ -4,9 +4,9 @@ use crate::answers::{say, say_bytes, say_flag, say_number};
 use crate::fault::Fault;
 use crate::words::{Arg, halves, number, words_of};
 use cfg_base::{
-    Bytes, Command, Moment, NoMemory, Op, Path, PathFault, Step, UserName, Users, Word, WordFault,
-    Words,
+    Bytes, Moment, NoMemory, Path, PathFault, Step, UserName, Users, Word, WordFault, Words,
 };
+use commands::{Command, Op};
 use std::alloc::Global;
 use std::cmp::Ordering;
 

@@ -2,7 +2,7 @@
 
 use crate::answers::{say, say_number, say_words};
 use crate::fault::Fault;
-use cfg_base::{Command, Form, Mode, Op};
+use commands::{Command, Form, Mode, Op};
 
 pub(crate) fn say_change(out: &mut String, op: &Op) -> Result<(), Fault> {
     match op {

@@ -1,7 +1,7 @@
 -- How a session ends.
 use Rattle.std.proofs.Common.{◌≡◌, ℕ, ◌≤◌, ◌⊎◌, List, [], ◌∷◌, ◌++◌, length, Bool, true, false, refl, sym, ap, subst, ◌∙◌, Option, None, Some, Result, Ok, Err, is_ok, OnErr, inl, inr}
 use Rattle.std.specs.List.{flat_map}
-use Rattle.cfg_base.specs.declared.command.Command.TheVariants.{Logout}
+use Rattle.commands.specs.declared.command.Command.TheVariants.{Logout}
 use Rattle.config_core.specs.declared.reply.Reply.{Reply}
 use Rattle.config_core.specs.State.{State}
 use Rattle.io_edge.specs.Ends.{behind, onto}

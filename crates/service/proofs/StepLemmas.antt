@@ -1,7 +1,7 @@
 -- What a session's steps add to its sides.
 use Rattle.std.proofs.Common.{◌≡◌, ℕ, List, [], ◌∷◌, ◌++◌, length, Bool, refl, sym, ap, subst, ◌∙◌, zero-add, Option, None, Some, Result, Ok, Err, is_ok}
 use Rattle.std.proofs.lemmas.List.{append-nil}
-use Rattle.cfg_base.specs.declared.command.Command.{Command}
+use Rattle.commands.specs.declared.command.Command.{Command}
 use Rattle.config_core.specs.declared.reply.Reply.{Reply}
 use Rattle.config_core.specs.State.{State}
 use Rattle.io_edge.specs.Ends.{TakesAnswer}

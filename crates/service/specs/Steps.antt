@@ -1,8 +1,8 @@
 -- The steps of a session: what one line, or the stop of the input, does to its sides.
 use Rattle.std.specs.Prelude.{◌≡◌, ◌<◌, ◌≤◌, ◌+◌, ◌↔◌, ◌⊎◌, ℕ, List, [], ◌∷◌, ◌++◌, length, Bool, true, false, Option, None, Some}
 use Rattle.std.specs.List.{AllByRecursion}
-use Rattle.cfg_base.specs.declared.command.Command.{Command}
-use Rattle.cfg_base.specs.declared.command.Command.TheVariants.{Logout}
+use Rattle.commands.specs.declared.command.Command.{Command}
+use Rattle.commands.specs.declared.command.Command.TheVariants.{Logout}
 use Rattle.config_core.specs.declared.reply.Reply.{Reply}
 use Rattle.config_core.specs.State.{State}
 use Rattle.io_edge.specs.declared.lines.Line.{Line}

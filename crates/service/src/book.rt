@@ -5,7 +5,8 @@ ghost use Rattle.config_core.specs.Kept.{factory};
 ghost use Rattle.session_history.specs.Events.{IsLegal};
 ghost use Rattle.service.specs.Log.{Adds, opened};
 
-use cfg_base::{Calls, Command, Moment, NoMemory, UserName, Users};
+use cfg_base::{Calls, Moment, NoMemory, UserName, Users};
+use commands::Command;
 use config_core::{Core, Event, Ledger, Outcome, Reply};
 use session_history::{Happened, History};
 use std::alloc::Global;

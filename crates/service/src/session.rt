@@ -12,7 +12,8 @@ ghost use Rattle.service.specs.Log.{opened};
 ghost use Rattle.service.specs.Steps.{Asks, Ends, Finishes, LastTurn, MovesOn, ReadsLine, ServesItem, Unread, after_answer, how_next, text_of_answer};
 
 use crate::book::Book;
-use cfg_base::{Command, Limits, NoMemory, UserName};
+use cfg_base::{Limits, NoMemory, UserName};
+use commands::Command;
 use config_core::Reply;
 use io_edge::{Clock, Line, Lines, PutFailed, Sink, Source};
 use reply_text::{ShellFault, put_fault, put_no_memory, put_reply};

@@ -2,10 +2,10 @@
 use Rattle.std.proofs.Common.{◌≡◌, ℕ, ◌-◌, ◌⊎◌, List, [], ◌∷◌, length, map, take, Bool, true, false, MatchBool, cond, refl, sym, ap, subst, ◌∙◌, zero, suc, nat_lt, Option, Some, inl, inr, slice_get, slice_set}
 use Rattle.std.specs.List.{All, AllByRecursion}
 use Rattle.std.proofs.lemmas.List.Elements.{All-nil, All-cons, All-head, All-tail}
-use Rattle.cfg_base.specs.declared.command.Form.{Form}
-use Rattle.cfg_base.specs.declared.command.Mode.{Mode}
-use Rattle.cfg_base.specs.declared.command.Command.{Command}
-use Rattle.cfg_base.specs.declared.command.Command.TheVariants.{Configure, ShowActive, Logout, Edit, Up, Top, Exit, ExitAll, Show, Change, Commit}
+use Rattle.commands.specs.declared.command.Form.{Form}
+use Rattle.commands.specs.declared.command.Mode.{Mode}
+use Rattle.commands.specs.declared.command.Command.{Command}
+use Rattle.commands.specs.declared.command.Command.TheVariants.{Configure, ShowActive, Logout, Edit, Up, Top, Exit, ExitAll, Show, Change, Commit}
 use Rattle.cfg_base.specs.declared.path.Step.{Step}
 use Rattle.cfg_tree.specs.Statements.{Statements}
 use Rattle.cfg_tree.specs.Typed.{IsTypedPath}

@@ -1,6 +1,6 @@
 -- The events of a run, as the machine takes them one by one.
 use Rattle.std.specs.Prelude.{◌≡◌, ℕ, ◌+◌, ◌==◌, ◌<◌, List, [], ◌∷◌, length, take, if◌then◌else◌, Some, slice_get, max}
-use Rattle.cfg_base.specs.declared.command.Command.{Command}
+use Rattle.commands.specs.declared.command.Command.{Command}
 use Rattle.config_core.specs.declared.event.Event.TheVariants.{Command as CommandOf}
 use Rattle.config_core.specs.declared.event.Outcome.TheVariants.{Done}
 use Rattle.config_core.specs.declared.reply.Reply.{Reply}

@@ -1,7 +1,7 @@
 -- One session, from the bytes read to the bytes written.
 use Rattle.std.specs.Prelude.{◌≡◌, ◌<◌, ◌+◌, ◌↔◌, ℕ, List, [], ◌∷◌, ◌++◌, length, map, take, Bool, true, false, Option, None, Some, ◌⊎◌}
 use Rattle.std.specs.List.{flat_map, AllByRecursion}
-use Rattle.cfg_base.specs.declared.command.Command.TheVariants.{Logout}
+use Rattle.commands.specs.declared.command.Command.TheVariants.{Logout}
 use Rattle.config_core.specs.State.{State}
 use Rattle.io_edge.specs.declared.lines.Line.{Line}
 use Rattle.io_edge.specs.Ends.{behind}

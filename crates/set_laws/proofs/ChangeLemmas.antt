@@ -20,7 +20,7 @@ use Rattle.cfg_tree.proofs.OwnLemmas.{below_named}
 use Rattle.edit_ops.specs.Answer.{IsChange}
 use Rattle.edit_ops.specs.Block.{IsFree}
 use Rattle.set_text.specs.Printed.{Line}
-use Rattle.set_text.specs.Form.{op_of}
+use Rattle.commands.specs.Verb.{op_of}
 use Rattle.set_text.specs.Back.{changes_of}
 use Rattle.set_laws.specs.Made.{AreMade}
 use Rattle.set_laws.proofs.LookLemmas.{Unprotected, set_grows}

@@ -13,10 +13,11 @@ use Rattle.cfg_lex.specs.Tokens.{token_at, tokens_at, word_in, word_at, words_of
 use Rattle.cfg_lex.specs.Printed.{escaped, is_plain, printed_kind, printed_word, IsPrintable}
 use Rattle.cfg_lex.proofs.WordLemmas.{printed_as, words_are}
 use Rattle.set_text.specs.declared.form.Form.{Form}
-use Rattle.set_text.specs.declared.verb.Verb.{Verb}
-use Rattle.set_text.specs.declared.verb.Verb.TheVariants.{Set, Delete, Activate, Deactivate, Protect, Unprotect}
-use Rattle.set_text.specs.Printed.{Line, keyword, spaced, printed_lines}
-use Rattle.set_text.specs.Form.{form_of, op_of, Part, parts_in, kinds_of, is_word, IsPlain, IsTail, words_among, Spells}
+use Rattle.commands.specs.declared.verb.Verb.{Verb}
+use Rattle.commands.specs.declared.verb.Verb.TheVariants.{Set, Delete, Activate, Deactivate, Protect, Unprotect}
+use Rattle.set_text.specs.Printed.{Line, spaced, printed_lines}
+use Rattle.commands.specs.Verb.{keyword, op_of}
+use Rattle.set_text.specs.Form.{form_of, Part, parts_in, kinds_of, is_word, IsPlain, IsTail, words_among, Spells}
 use Rattle.set_text.specs.Lines.{lines_in, Asks, AreRead, AsksFor}
 use Rattle.set_text.specs.Stop.{without_cr}
 use Rattle.set_text.specs.Back.{changes_of, IsReadable, AreReadable}

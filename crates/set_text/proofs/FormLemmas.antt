@@ -2,7 +2,7 @@
 use Rattle.std.proofs.Common.{◌≡◌, ◌<◌, ◌≤◌, ◌-◌, ◌+◌, ℕ, Bool, true, false, List, [], ◌∷◌, ◌++◌, length, take, drop, Some, None, refl, sym, ap, ◌∙◌, subst, append_assoc, get_or, arith, add-one}
 use Rattle.std.specs.Prelude.{codes}
 use Rattle.std.proofs.lemmas.List.{map-append, take_all, take_more, drop_more, length-drop}
-use Rattle.cfg_base.specs.declared.command.Op.{Op}
+use Rattle.commands.specs.declared.command.Op.{Op}
 use Rattle.cfg_lex.specs.Tokens.{word_in}
 use Rattle.cfg_lex.specs.declared.token.Token.{Token}
 use Rattle.cfg_lex.specs.declared.token.TokenKind.{TokenKind}
@@ -10,10 +10,11 @@ use Rattle.cfg_lex.specs.declared.token.TokenKind.TheVariants as kind
 use Rattle.set_text.specs.declared.form.Form.{Form}
 use Rattle.set_text.specs.declared.fit.Fit.{Fit}
 use Rattle.set_text.specs.declared.fit.Fit.TheVariants.{Stops, More, Whole}
-use Rattle.set_text.specs.declared.verb.Verb.TheVariants.{Set}
+use Rattle.commands.specs.declared.verb.Verb.TheVariants.{Set}
 use Rattle.set_text.specs.declared.phase.Phase.{Phase}
 use Rattle.set_text.specs.declared.phase.Phase.TheVariants.{Bare}
-use Rattle.set_text.specs.Form.{Part, part_in, parts_in, kinds_of, is_word, form_of, op_of, words_among, Spells, Begins, IsNoLine}
+use Rattle.set_text.specs.Form.{Part, part_in, parts_in, kinds_of, is_word, form_of, words_among, Spells, Begins, IsNoLine}
+use Rattle.commands.specs.Verb.{op_of}
 use Rattle.set_text.specs.Phase.{next, ends_at, kinds_in, Leads, StopsFrom}
 use Rattle.set_text.specs.Fit.{form_at, FitsBehind, StopsBehind, Fits}
 use Rattle.set_text.proofs.PhaseLemmas.{leads_both, leads_parted, leads_once, none_or_some, Ends, tail_ends, tail_of, completes}

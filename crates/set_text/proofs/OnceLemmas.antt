@@ -2,7 +2,7 @@
 use Rattle.std.proofs.Common.{◌≡◌, ◌≢◌, ◌<◌, ◌≤◌, ◌+◌, ◌⊎◌, inl, inr, ℕ, List, [], ◌∷◌, ◌++◌, length, take, drop, Option, None, Some, refl, sym, ap, ◌∙◌, subst, arith, append_assoc}
 use Rattle.std.proofs.lemmas.Bool.{cases_lt}
 use Rattle.std.proofs.lemmas.List.{map-append, take_all, take-append-drop, take-take, drop_all, length-drop}
-use Rattle.cfg_base.specs.declared.command.Op.{Op}
+use Rattle.commands.specs.declared.command.Op.{Op}
 use Rattle.cfg_lex.specs.declared.token.Token.{Token}
 use Rattle.cfg_lex.specs.declared.fault.LexFault.{LexFault}
 use Rattle.cfg_lex.specs.declared.fault.LexFault.TheVariants as lexical
@@ -12,7 +12,8 @@ use Rattle.set_text.specs.declared.form.Form.{Form}
 use Rattle.set_text.specs.declared.op_lines.OpLine.{OpLine}
 use Rattle.set_text.specs.declared.fault.LineFault.{LineFault}
 use Rattle.set_text.specs.declared.fault.LineFault.TheVariants.{Line, NoMemory}
-use Rattle.set_text.specs.Form.{Part, part_in, parts_in, form_of, op_of, words_among, Spells, Begins}
+use Rattle.set_text.specs.Form.{Part, part_in, parts_in, form_of, words_among, Spells, Begins}
+use Rattle.commands.specs.Verb.{op_of}
 use Rattle.set_text.specs.Lines.{op_line, IsPlaceOf, IsSkipped, Asks, EndsAt, StopsAt, IsRefused, AreRead, AsksFor, IsLineFault}
 use Rattle.set_text.proofs.FormLemmas.{nothing_is_no_line}
 use Rattle.set_text.proofs.ReadLemmas.{whole_begun}

@@ -1,7 +1,7 @@
 -- What a line says, and the lines of a text one after another.
 use Rattle.std.proofs.Common.{◌≡◌, ◌<◌, ◌+◌, ◌==◌, false, inl, inr, ℕ, List, [], ◌∷◌, ◌++◌, length, get_or, Option, None, Some, Ok, Err, refl, sym, ap, ◌∙◌, subst, arith, append_assoc, length-append}
 use Rattle.std.proofs.lemmas.List.{append-nil, take_all, drop_all, drop_more}
-use Rattle.cfg_base.specs.declared.command.Op.{Op}
+use Rattle.commands.specs.declared.command.Op.{Op}
 use Rattle.cfg_lex.specs.declared.token.Token.{Token}
 use Rattle.cfg_lex.specs.declared.fault.LexFault.{LexFault}
 use Rattle.cfg_lex.specs.Tokens.{IsCut}

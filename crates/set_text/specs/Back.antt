@@ -3,7 +3,7 @@ use Rattle.std.specs.Prelude.{ℕ, ◌<◌, ◌+◌, List, [], ◌∷◌, length
 use Rattle.std.specs.List.{AllByRecursion}
 use Rattle.cfg_lex.specs.Printed.{IsPrintable}
 use Rattle.set_text.specs.declared.op_lines.OpLine.{OpLine}
-use Rattle.set_text.specs.Form.{op_of}
+use Rattle.commands.specs.Verb.{op_of}
 use Rattle.set_text.specs.Lines.{op_line}
 use Rattle.set_text.specs.Printed.{Line}
 

@@ -6,7 +6,8 @@ use Rattle.set_text.specs.declared.phase.Phase.{Phase}
 use Rattle.set_text.specs.declared.phase.Phase.TheVariants.{Bare}
 use Rattle.set_text.specs.declared.fit.Fit.{Fit}
 use Rattle.set_text.specs.declared.fit.Fit.TheVariants.{Stops, More, Whole}
-use Rattle.set_text.specs.Form.{parts_in, form_of, op_of, words_among, Spells, Begins, IsNoLine}
+use Rattle.set_text.specs.Form.{parts_in, form_of, words_among, Spells, Begins, IsNoLine}
+use Rattle.commands.specs.Verb.{op_of}
 use Rattle.set_text.specs.Phase.{Leads, StopsFrom, ends_at, kinds_in}
 
 -- the form that a token begins: one that is no word begins none

@@ -2,30 +2,18 @@
 use Rattle.std.specs.Prelude.{◌≡◌, ◌⊎◌, ◌<◌, ℕ, Bool, true, false, List, [], ◌∷◌, ◌++◌, length, map, filter, Option, Some, find}
 use Rattle.std.specs.List.{list_all}
 use Rattle.cfg_base.specs.Words.{same_word}
-use Rattle.cfg_base.specs.declared.command.Op.{Op}
-use Rattle.cfg_base.specs.declared.command.Op.TheVariants as op
+use Rattle.commands.specs.declared.command.Op.{Op}
 use Rattle.cfg_lex.specs.declared.token.Token.{Token}
 use Rattle.cfg_lex.specs.declared.token.TokenKind.{TokenKind}
 use Rattle.cfg_lex.specs.declared.token.TokenKind.TheVariants.{OpenBrace, CloseBrace, OpenBracket, CloseBracket, Semicolon, Bare, Quoted}
 use Rattle.cfg_lex.specs.Tokens.{word_in}
 use Rattle.set_text.specs.declared.form.Form.{Form}
 use Rattle.set_text.specs.declared.form.TheConstants.{FORMS}
-use Rattle.set_text.specs.declared.verb.Verb.{Verb}
-use Rattle.set_text.specs.declared.verb.Verb.TheVariants.{Set, Delete, Activate, Deactivate, Protect, Unprotect}
-use Rattle.set_text.specs.Printed.{keyword}
+use Rattle.commands.specs.Verb.{keyword, op_of}
 
 -- the form that a keyword begins, where there is one
 abbrev pub form_of : List ℕ → Option Form
 form_of word = find (λ form. same_word (keyword form.verb) word) FORMS
-
--- what a line asks of the words behind its keyword
-abbrev pub op_of : Verb → List (List ℕ) → Op
-op_of Set words = op.Set words
-op_of Delete words = op.Delete words
-op_of Activate words = op.Activate words
-op_of Deactivate words = op.Deactivate words
-op_of Protect words = op.Protect words
-op_of Unprotect words = op.Unprotect words
 
 -- a token as it is read: its kind, and its word
 pub record Part : Type 0 where

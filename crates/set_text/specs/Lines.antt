@@ -1,7 +1,7 @@
 -- The lines of a text, and the changes that they ask for. Junos OS CLI User Guide, on load set; which token of a line is refused is this
 -- project's own.
 use Rattle.std.specs.Prelude.{◌≡◌, ◌⊎◌, ◌<◌, ◌≤◌, ◌+◌, ℕ, ◌==◌, ◌&&◌, List, [], ◌∷◌, ◌++◌, length, take, drop, min, Option, Some, None, if◌then◌else◌}
-use Rattle.cfg_base.specs.declared.command.Op.{Op}
+use Rattle.commands.specs.declared.command.Op.{Op}
 use Rattle.cfg_lex.specs.declared.token.Token.{Token}
 use Rattle.cfg_lex.specs.declared.fault.LexFault.{LexFault}
 use Rattle.cfg_lex.specs.declared.fault.LexFault.TheVariants as lexical

@@ -1,6 +1,6 @@
 -- Statements as the lines that make them. Junos OS CLI User Guide, on display set; that the marks come behind all `set` lines is this
 -- project's own.
-use Rattle.std.specs.Prelude.{ℕ, zero, suc, ◌-◌, ◌==◌, Bool, true, false, List, [], ◌∷◌, ◌++◌, length, map, codes, Option, Some, None}
+use Rattle.std.specs.Prelude.{ℕ, zero, suc, ◌-◌, ◌==◌, Bool, true, false, List, [], ◌∷◌, ◌++◌, length, map, Option, Some, None}
 use Rattle.std.specs.List.{flat_map}
 use Rattle.std.specs.FinMap as finite
 use Rattle.cfg_base.specs.declared.kind.Shape.{Shape}
@@ -15,17 +15,8 @@ use Rattle.cfg_tree.specs.Statements.{Statements}
 use Rattle.cfg_tree.specs.Children.{children_of}
 use Rattle.cfg_tree.specs.OwnWords.{own_words}
 use Rattle.cfg_lex.specs.Printed.{printed_word}
-use Rattle.set_text.specs.declared.verb.Verb.{Verb}
-use Rattle.set_text.specs.declared.verb.Verb.TheVariants.{Set, Delete, Activate, Deactivate, Protect, Unprotect}
-
--- the keyword of a line
-abbrev pub keyword : Verb → List ℕ
-keyword Set = codes "set"
-keyword Delete = codes "delete"
-keyword Activate = codes "activate"
-keyword Deactivate = codes "deactivate"
-keyword Protect = codes "protect"
-keyword Unprotect = codes "unprotect"
+use Rattle.commands.specs.declared.verb.Verb.{Verb}
+use Rattle.commands.specs.declared.verb.Verb.TheVariants.{Set, Deactivate, Protect}
 
 -- a line: what its keyword asks of the words behind it
 pub record Line : Type 0 where

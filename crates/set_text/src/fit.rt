@@ -8,9 +8,9 @@ ghost use Rattle.set_text.specs.Fit.{Fits, FitsBehind, form_at};
 
 use crate::form::{Form, form_of};
 use crate::phase::{is_word, phase_of};
-use crate::verb::Verb;
 use cfg_base::{NoMemory, Word, Words};
 use cfg_lex::Token;
+use commands::Verb;
 use std::alloc::Global;
 
 /// How far the tokens of a line fit a form: the first so many begin a line, and the next one doesn't fit; all of

@@ -2,10 +2,10 @@
 
 ghost use Rattle.std.specs.Prelude.{◌≡◌, find};
 ghost use Rattle.cfg_base.specs.Words.{same_word};
-ghost use Rattle.set_text.specs.Printed.{keyword};
+ghost use Rattle.commands.specs.Verb.{keyword};
 ghost use Rattle.set_text.specs.Form.{form_of};
 
-use crate::verb::Verb;
+use commands::Verb;
 
 /// A form: its keyword, and whether brackets may stand round the last of the words behind it.
 #[derive(Clone, Copy, Debug, PartialEq, Eq)]

@@ -8,10 +8,10 @@ ghost use Rattle.set_text.specs.Printed.{printed_lines, sets_at};
 ghost use Rattle.set_text.specs.Groups.{IsPrinted};
 
 use crate::line::{push_bytes, push_own_line_if, push_sets};
-use crate::verb::Verb;
 use cfg_base::{NoMemory, Path, Value, WordList};
 use cfg_schema::{Place, row};
 use cfg_tree::Tree;
+use commands::Verb;
 use std::alloc::Global;
 
 /// The three groups, each as far as it is written.

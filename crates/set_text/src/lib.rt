@@ -18,7 +18,6 @@ mod phase;
 mod printing;
 mod reading;
 mod stop;
-mod verb;
 
 pub use fault::LineFault;
 pub use laws::{printed_lines_are_read_back, texts_have_one_answer};

@@ -3,12 +3,12 @@
 ghost use Rattle.std.specs.Prelude.{◌≡◌, ◌++◌, ◌∷◌, [], OnOk};
 ghost use Rattle.std.specs.List.{flat_map};
 ghost use Rattle.cfg_tree.specs.OwnWords.{own_words, word_if_any, words_of_step};
-ghost use Rattle.set_text.specs.declared.verb.Verb.TheVariants as verb;
+ghost use Rattle.commands.specs.declared.verb.Verb.TheVariants as verb;
 ghost use Rattle.set_text.specs.Printed.{line, own_line_if, printed_line, printed_lines, sets_by, spaced, word_lines};
 
-use crate::verb::Verb;
 use cfg_base::{NoMemory, Path, Shape, Step, Word, WordList};
 use cfg_lex::push_word;
+use commands::Verb;
 
 pub(crate) fn push_bytes(text: &mut Vec<u8>, bytes: &[u8]) -> Result<(), NoMemory>
     ensures { OnOk result (text.new.items ≡ text.old.items ++ bytes.now) }

@@ -1,6 +1,6 @@
 ghost use Rattle.std.specs.Prelude.{◌≡◌};
 
-use cfg_base::Op;
+use commands::Op;
 use std::marker::Model;
 
 /// The change that a line asks for, and the line's number, counted from 1. A number past 2^32 - 1 is told as

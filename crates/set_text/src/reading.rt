@@ -4,29 +4,16 @@ ghost use Rattle.std.specs.Prelude.{◌≡◌, ◌<◌, ◌∷◌, ◌==◌, len
 ghost use Rattle.std.specs.List.{All};
 ghost use Rattle.cfg_lex.specs.Tokens.{IsCut, IsPlaced};
 ghost use Rattle.set_text.specs.declared.fit.Fit.TheVariants.{More, Whole};
-ghost use Rattle.set_text.specs.Form.{op_of};
+ghost use Rattle.commands.specs.Verb.{op_of};
 ghost use Rattle.set_text.specs.Fit.{Fits};
 ghost use Rattle.set_text.specs.Stop.{Says};
 
 use crate::fit::{Fit, fit_of, words_of};
 use crate::stop::{Stop, stop_of, told};
-use crate::verb::Verb;
-use cfg_base::{Op, Words};
+use cfg_base::Words;
 use cfg_lex::{LexFault, Token, cut_text};
+use commands::{Op, Verb};
 use std::alloc::Global;
-
-fn op_of(verb: Verb, words: Words) -> Op
-    ensures { result ≡ op_of verb words }
-{
-    match verb {
-        Verb::Set => Op::Set(words),
-        Verb::Delete => Op::Delete(words),
-        Verb::Activate => Op::Activate(words),
-        Verb::Deactivate => Op::Deactivate(words),
-        Verb::Protect => Op::Protect(words),
-        Verb::Unprotect => Op::Unprotect(words),
-    }
-}
 
 /// What a line says whose tokens begin a line of a form and are none.
 fn read_more(line: &[u8], tokens: &[Token], fault: Option<LexFault>) -> Result<Option<Op>, Stop>
@@ -63,7 +50,7 @@ fn read_whole(
         Some(fault) => Err(stop_of(fault)),
         None => {
             let words = words_of(alloc, line, &tokens[1..])?;
-            Ok(Some(op_of(verb, words)))
+            Ok(Some(verb.op_of(words)))
         }
     }
 }

@@ -1,10 +1,10 @@
 -- What a line asks, in operational and in configuration mode.
 -- Junos OS CLI User Guide, on the commands of operational and of configuration mode; the places of faults are this project's own.
 use Rattle.std.specs.Prelude.{◌≡◌, ◌⊎◌, ◌<◌, ◌≤◌, ◌+◌, ℕ, List, [], ◌∷◌, length, map, min, take, drop, Bool, Option, None, Some, unwrap_or, Result, Ok, Err}
-use Rattle.cfg_base.specs.declared.command.Mode.TheVariants.{Shared}
-use Rattle.cfg_base.specs.declared.command.Op.TheVariants as op
-use Rattle.cfg_base.specs.declared.command.Command.{Command}
-use Rattle.cfg_base.specs.declared.command.Command.TheVariants as command
+use Rattle.commands.specs.declared.command.Mode.TheVariants.{Shared}
+use Rattle.commands.specs.declared.command.Op.TheVariants as op
+use Rattle.commands.specs.declared.command.Command.{Command}
+use Rattle.commands.specs.declared.command.Command.TheVariants as command
 use Rattle.cfg_lex.specs.declared.token.Token.{Token}
 use Rattle.cfg_lex.specs.declared.fault.LexFault.{LexFault}
 use Rattle.cfg_lex.specs.declared.fault.LexFault.TheVariants as lex

@@ -4,7 +4,7 @@ ghost use Rattle.std.specs.Prelude.{◌≡◌};
 ghost use Rattle.shell_words.specs.Form.{forms_of, parts_of};
 
 use crate::keyword::Keyword;
-use cfg_base::Form;
+use commands::Form;
 
 /// Which tokens may stand at a place of a line.
 #[derive(Clone, Copy, Debug, PartialEq, Eq)]

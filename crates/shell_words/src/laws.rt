@@ -1,6 +1,6 @@
 ghost use Rattle.std.specs.Prelude.{◌≡◌, ℕ, List, Bool, Option, None, Result, map};
 ghost use Rattle.std.specs.List.{Contains};
-ghost use Rattle.cfg_base.specs.declared.command.Command.{Command};
+ghost use Rattle.commands.specs.declared.command.Command.{Command};
 ghost use Rattle.cfg_lex.specs.declared.token.Token.{Token};
 ghost use Rattle.cfg_lex.specs.Tokens.{IsCut};
 ghost use Rattle.shell_words.specs.declared.form.CommandForm.{CommandForm};

@@ -10,8 +10,9 @@ use crate::form::{CommandForm, Makes, forms_of};
 use crate::item::{Item, items};
 use crate::number::number_of;
 use crate::walk::{form_for, furthest, give};
-use cfg_base::{Command, Mode, NoMemory, Op, Words};
+use cfg_base::{NoMemory, Words};
 use cfg_lex::{LexFault, cut_text};
+use commands::{Command, Mode, Op};
 use std::alloc::Global;
 use thiserror::Error;
 

@@ -1,5 +1,5 @@
 use Rattle.std.proofs.Common.{sym, subst}
-use Rattle.cfg_base.specs.declared.command.Op.{Op}
+use Rattle.commands.specs.declared.command.Op.{Op}
 use Rattle.edit_ops.specs.Change.{changed}
 use Rattle.edit_ops.specs.Block.{IsSpared}
 use Rattle.edit_ops.specs.Made.{IsMade}

@@ -1,5 +1,5 @@
 use Rattle.std.proofs.Common.{◌≡◌, None, Some, Result, Ok, Err, Option, ℕ, refl, sym, subst, inl}
-use Rattle.cfg_base.specs.declared.command.Command.{Command}
+use Rattle.commands.specs.declared.command.Command.{Command}
 use Rattle.io_edge.specs.declared.lines.Line.TheVariants.{Text}
 use Rattle.reply_text.specs.declared.fault.ShellFault.TheVariants.{Syntax}
 use Rattle.session_history.specs.Items.{IsRead, item_read}

@@ -2,7 +2,7 @@ use Rattle.std.proofs.Common.{drop, ◌≡◌}
 use Rattle.std.specs.Prelude.{find}
 use Rattle.cfg_base.specs.Words.{same_word}
 use Rattle.set_text.specs.declared.form.Form.{Form}
-use Rattle.set_text.specs.Printed.{keyword}
+use Rattle.commands.specs.Verb.{keyword}
 use Rattle.set_text.proofs.form.form_in.Given as goal
 
 abbrev pub invariant-loop-form : goal.invariant-loop-form

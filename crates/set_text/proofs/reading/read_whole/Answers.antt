@@ -1,7 +1,8 @@
 use Rattle.std.proofs.Common.{subst, Option, drop}
 use Rattle.cfg_lex.specs.declared.fault.LexFault.{LexFault}
 use Rattle.cfg_lex.specs.Tokens.{IsCut}
-use Rattle.set_text.specs.Form.{op_of, parts_in, words_among}
+use Rattle.set_text.specs.Form.{parts_in, words_among}
+use Rattle.commands.specs.Verb.{op_of}
 use Rattle.set_text.proofs.ReadLemmas.{refused_at_fault, whole_begun}
 use Rattle.set_text.proofs.reading.read_whole.Goals as goal
 

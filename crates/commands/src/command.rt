@@ -1,6 +1,6 @@
 //! What a session asks. Each command and each of its parts stands here from the stage on that serves it.
 
-use crate::words::Words;
+use cfg_base::Words;
 
 /// How a session edits: the one candidate that sessions share.
 #[derive(Clone, Copy, Debug, PartialEq, Eq)]
@@ -15,6 +15,8 @@ pub enum Form {
     Curly,
     /// As the `set` lines that make them.
     SetLines,
+    /// As curly text of the configuration that is in force, with the groups that its statements were inherited from.
+    Inherited,
 }
 
 /// A change of the candidate. The words name a statement from the level on, and then the words of its value.
@@ -57,6 +59,8 @@ pub enum Command {
     Show { words: Words, form: Form },
     /// Changes the candidate.
     Change(Op),
+    /// Asks whether the candidate keeps the rules that a commit asks of it.
+    CheckOnly,
     /// Makes the candidate the active configuration.
     Commit,
 }

@@ -1,0 +1,11 @@
+//! What a session asks: commands, changes of the candidate, and the words that changes are written with.
+//!
+//! Guarantees: each kind of change has one keyword, and one reading of the words behind it.
+//! Leaves to others: which lines ask what (`shell_words`, `set_text`), and what a command does (`config_core`).
+#![tactic(auto)]
+
+mod command;
+mod verb;
+
+pub use command::{Command, Form, Mode, Op};
+pub use verb::Verb;
