@@ -10,12 +10,11 @@ ghost use Rattle.cfg_tree.specs.Tree.{ordered_head};
 ghost use Rattle.group_expand.specs.Runs.{has_source, is_inherited, inherited_in, names_with, order_if, order_for, name_of};
 ghost use Rattle.group_expand.specs.Offer.{Climbs};
 
-use crate::front::learn;
 use crate::node::Node;
 use crate::offer::Offer;
 use crate::run::{behind_run, first_run, own_of};
 use crate::step::is_apply;
-use cfg_base::{NoMemory, Path, Step, Word, WordList};
+use cfg_base::{NoMemory, Path, Step, Word, WordList, learn};
 use cfg_schema::{Place, head};
 use std::alloc::Global;
 use std::collections::BTreeSet;
@@ -36,7 +35,7 @@ fn names_with(alloc: Global, head: &[u8], nodes: &[Node<'_>]) -> Result<BTreeSet
     let mut names = BTreeSet::new(alloc);
     for node in nodes {
         if head == node.step().head.as_bytes() {
-            learn(&mut names, &node.step().name)?;
+            let _ = learn(&mut names, &node.step().name)?;
         }
     }
     Ok(names)

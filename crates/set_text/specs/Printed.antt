@@ -15,6 +15,7 @@ use Rattle.cfg_tree.specs.Statements.{Statements}
 use Rattle.cfg_tree.specs.Children.{children_of}
 use Rattle.cfg_tree.specs.OwnWords.{own_words}
 use Rattle.cfg_lex.specs.Printed.{printed_word}
+use Rattle.commands.specs.Verb.{keyword}
 use Rattle.commands.specs.declared.verb.Verb.{Verb}
 use Rattle.commands.specs.declared.verb.Verb.TheVariants.{Set, Deactivate, Protect}
 
