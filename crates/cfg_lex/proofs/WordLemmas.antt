@@ -9,7 +9,8 @@ use Rattle.cfg_lex.specs.declared.token.TokenKind.TheVariants.{OpenBrace, CloseB
 use Rattle.cfg_lex.specs.Bytes.{sign_of, is_inside, is_printing, is_run, is_angle_byte, goes_on, unescaped}
 use Rattle.cfg_lex.specs.Lexeme.{Lexeme, Space, LineComment, Comment, Sign, BareWord, AngleWord, QuotedWord, spelled, kind_of, word_of, IsShaped, Stands, BeginsWith}
 use Rattle.cfg_lex.specs.Tokens.{token_at, tokens_at, IsTokens, between, word_spelled, word_in, word_at, words_of}
-use Rattle.cfg_lex.specs.Printed.{is_mark, is_wildcard, is_plain, escaped, printed_word, printed_kind, printed_token, IsPrintable, IsPrintedAs}
+use Rattle.cfg_lex.specs.Mark.{is_mark}
+use Rattle.cfg_lex.specs.Printed.{is_wildcard, is_plain, escaped, printed_word, printed_kind, printed_token, IsPrintable, IsPrintedAs}
 use Rattle.cfg_lex.proofs.RunLemmas.{or_parts}
 
 -- bytes without a backslash are the word

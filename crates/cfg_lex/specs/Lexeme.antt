@@ -1,5 +1,5 @@
--- What a configuration text is made of. Junos OS CLI User Guide, on configuration statements and on comments; the quotes' escapes, angle words
--- and the longest word are this project's own.
+-- What a configuration text is made of. Junos OS CLI User Guide, on configuration statements and on comments; the quotes' escapes, angle
+-- words and the longest word are this project's own.
 use Rattle.std.specs.Prelude.{◌≡◌, ◌<◌, ◌≤◌, ℕ, List, [], ◌∷◌, ◌++◌, length, true, false, Option, Some, None}
 use Rattle.std.specs.List.{list_all}
 use Rattle.cfg_lex.specs.declared.token.TokenKind.{TokenKind}
@@ -51,8 +51,8 @@ abbrev pub EndsLine : List ℕ → Type 0
 EndsLine [] = Unit {0}
 EndsLine (b ∷ bytes) = b ≡ 10
 
--- the lexeme may stand in front of what follows: a comment is closed by the first `*/`, a quoted word by the first quote that no backslash takes
--- up, and a bare word is as long as it can be
+-- the lexeme may stand in front of what follows: a comment is closed by the first `*/`, a quoted word by the first quote that no backslash
+-- takes up, and a bare word is as long as it can be
 abbrev pub IsShaped : Lexeme → List ℕ → Type 0
 IsShaped (Space byte) rest = is_space byte ≡ true
 IsShaped (LineComment bytes) rest = (list_all is_in_line bytes ≡ true) × EndsLine rest

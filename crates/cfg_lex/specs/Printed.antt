@@ -1,21 +1,14 @@
 -- How a word is printed, so that it is read again as that word. This project's own.
-use Rattle.std.specs.Prelude.{◌≡◌, ◌≤◌, Some, ℕ, List, [], ◌∷◌, ◌++◌, length, ◌-◌, Bool, true, ◌||◌, ◌&&◌, ◌==◌, nat_eq, nat_lt, not, if◌then◌else◌, codes, slice_index}
-use Rattle.std.specs.List.{flat_map, list_all, list_any}
-use Rattle.std.specs.Cmp.Lexicographic.{pointwise}
+use Rattle.std.specs.Prelude.{◌≡◌, ◌≤◌, Some, ℕ, List, [], ◌∷◌, ◌++◌, length, ◌-◌}
+use Rattle.std.specs.Prelude.{Bool, true, ◌||◌, ◌&&◌, ◌==◌, nat_lt, not, if◌then◌else◌, slice_index}
+use Rattle.std.specs.List.{flat_map, list_all}
 use Rattle.cfg_lex.specs.declared.token.TokenKind.{TokenKind}
 use Rattle.cfg_lex.specs.declared.token.TokenKind.TheVariants.{Bare, Quoted}
 use Rattle.cfg_lex.specs.declared.token.Token.{Token}
 use Rattle.cfg_lex.specs.Bytes.{is_run, is_angle_byte, is_printing}
 use Rattle.cfg_lex.specs.Lexeme.{Lexeme, spelled, kind_of, word_of, Stands}
+use Rattle.cfg_lex.specs.Mark.{is_mark}
 use Rattle.cfg_lex.specs.Tokens.{between}
-
--- words that mean something else where they stand bare: the marks of statements, and the pipe
-abbrev pub marks : List (List ℕ)
-marks = codes "inactive:" ∷ codes "protect:" ∷ codes "replace:" ∷ codes "|" ∷ []
-
--- the word is one of them
-abbrev pub is_mark : List ℕ → Bool
-is_mark word = list_any (pointwise nat_eq word) marks
 
 -- a wildcard name: 1 to 62 bytes between angles
 abbrev pub is_wildcard : List ℕ → Bool

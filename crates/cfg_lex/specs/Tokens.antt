@@ -1,6 +1,7 @@
--- The tokens of a configuration text, and the leftmost fault of one that has none. Junos OS CLI User Guide, on configuration statements; the
--- faults are this project's own.
-use Rattle.std.specs.Prelude.{◌≡◌, ◌⊎◌, ◌<◌, ◌≤◌, ◌+◌, ◌-◌, ℕ, List, [], ◌∷◌, ◌++◌, ◌==◌, length, take, drop, min, true, false, Option, Some, None}
+-- The tokens of a configuration text, and the leftmost fault of one that has none. Junos OS CLI User Guide, on configuration statements;
+-- the faults are this project's own.
+use Rattle.std.specs.Prelude.{◌≡◌, ◌⊎◌, ◌<◌, ◌≤◌, ◌+◌, ◌-◌, ℕ, List, [], ◌∷◌, ◌++◌, ◌==◌, length, take, drop}
+use Rattle.std.specs.Prelude.{min, true, false, Option, Some, None}
 use Rattle.std.specs.List.{list_all, list_any, flat_map}
 use Rattle.cfg_lex.specs.declared.token.TokenKind.{TokenKind}
 use Rattle.cfg_lex.specs.declared.token.TokenKind.TheVariants.{OpenBrace, CloseBrace, OpenBracket, CloseBracket, Semicolon, Bare, Quoted}

@@ -8,8 +8,10 @@
 mod bytes;
 mod fault;
 mod front;
+mod kind;
 mod laws;
 mod lexer;
+mod mark;
 mod printing;
 mod token;
 mod word;
@@ -19,5 +21,6 @@ pub use laws::{
     printed_words_are_read_back, texts_are_read_in_one_way, words_of_tokens_are_of_lexemes,
 };
 pub use lexer::{cut_text, tokens};
+pub use mark::Mark;
 pub use printing::{is_plain, printed_len, push_word};
 pub use token::{Cut, Token, TokenKind, Tokens};

@@ -3,9 +3,11 @@
 ghost use Rattle.std.specs.Prelude.{◌≡◌, ◌≤◌, ◌==◌, ◌||◌, [], ◌∷◌, ◌++◌, List, ℕ, length, OnOk, OnErr};
 ghost use Rattle.std.specs.List.{flat_map, list_all};
 ghost use Rattle.cfg_lex.specs.Bytes.{is_angle_byte, is_run};
-ghost use Rattle.cfg_lex.specs.Printed.{escaped, is_mark, is_plain, is_wildcard, printed_word};
+ghost use Rattle.cfg_lex.specs.Mark.{is_mark};
+ghost use Rattle.cfg_lex.specs.Printed.{escaped, is_plain, is_wildcard, printed_word};
 
 use crate::bytes::{bare_len, is_angle_byte};
+use crate::mark::Mark;
 use cfg_base::NoMemory;
 
 /// The most bytes between the angles of a wildcard name.
@@ -14,10 +16,10 @@ const MAX_INNER: usize = 62;
 fn is_mark(word: &[u8]) -> bool
     ensures { result ≡ is_mark word.now }
 {
-    let inactive = word == b"inactive:".as_slice();
-    let protect = word == b"protect:".as_slice();
-    let replace = word == b"replace:".as_slice();
-    let pipe = word == b"|".as_slice();
+    let inactive = word == Mark::Inactive.word();
+    let protect = word == Mark::Protect.word();
+    let replace = word == Mark::Replace.word();
+    let pipe = word == Mark::Pipe.word();
     inactive || protect || replace || pipe
 }
 

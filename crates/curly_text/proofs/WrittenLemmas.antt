@@ -11,7 +11,8 @@ use Rattle.cfg_base.specs.declared.path.Step.{Step}
 use Rattle.cfg_base.specs.Words.{joined, lists, same_word}
 use Rattle.cfg_base.proofs.WordLemmas.{lists_more}
 use Rattle.cfg_lex.specs.declared.token.TokenKind.TheVariants as kind
-use Rattle.cfg_lex.specs.Printed.{IsPrintable, is_mark as is_mark_word, is_plain}
+use Rattle.cfg_lex.specs.Mark.{is_mark as is_mark_word}
+use Rattle.cfg_lex.specs.Printed.{IsPrintable, is_plain}
 use Rattle.cfg_schema.specs.declared.place.Place.{Place}
 use Rattle.cfg_schema.specs.declared.answer.Child.TheVariants as begun
 use Rattle.cfg_schema.specs.Profile.{row_of, is_bare, is_level, level_of}
