@@ -17,7 +17,8 @@ use Rattle.commands.specs.declared.verb.Verb.{Verb}
 use Rattle.commands.specs.declared.verb.Verb.TheVariants.{Set, Delete, Activate, Deactivate, Protect, Unprotect}
 use Rattle.set_text.specs.Printed.{Line, spaced, printed_lines}
 use Rattle.commands.specs.Verb.{keyword, op_of}
-use Rattle.set_text.specs.Form.{form_of, Part, parts_in, kinds_of, is_word, IsPlain, IsTail, words_among, Spells}
+use Rattle.cfg_lex.specs.Lexed.{Lexed, is_word_kind}
+use Rattle.set_text.specs.Form.{form_of, parts_in, kinds_of, IsPlain, IsTail, words_among, Spells}
 use Rattle.set_text.specs.Lines.{lines_in, Asks, AreRead, AsksFor}
 use Rattle.set_text.specs.Stop.{without_cr}
 use Rattle.set_text.specs.Back.{changes_of, IsReadable, AreReadable}
@@ -160,24 +161,24 @@ words_lexed (w ∷ words) h =
           ∙ ap (λ (ws : List (List ℕ)). w ∷ ws) rest.means;
     }
 
-abbrev word_part : List ℕ → Part
+abbrev word_part : List ℕ → Lexed
 word_part word = record { kind = printed_kind word; word = word }
 
-same_parts : (tokens : List Token) (text : List ℕ) (parts : List Part) → each (λ (t : Token). t.kind) tokens ≡ kinds_of parts → each (word_in text) tokens ≡ each (λ (p : Part). p.word) parts → parts_in text tokens ≡ parts
+same_parts : (tokens : List Token) (text : List ℕ) (parts : List Lexed) → each (λ (t : Token). t.kind) tokens ≡ kinds_of parts → each (word_in text) tokens ≡ each (λ (p : Lexed). p.word) parts → parts_in text tokens ≡ parts
 same_parts [] text [] e f = refl
 same_parts [] text (p ∷ parts) e f = cc
 same_parts (t ∷ tokens) text [] e f = cc
 same_parts (t ∷ tokens) text (p ∷ parts) e f =
     let kinds : (t.kind ≡ p.kind) × (each (λ (u : Token). u.kind) tokens ≡ kinds_of parts) = (cc, cc) in
-    let words : (word_in text t ≡ p.word) × (each (word_in text) tokens ≡ each (λ (q : Part). q.word) parts) = (cc, cc) in
+    let words : (word_in text t ≡ p.word) × (each (word_in text) tokens ≡ each (λ (q : Lexed). q.word) parts) = (cc, cc) in
     ap (λ (k : TokenKind). record { kind = k; word = word_in text t } ∷ parts_in text tokens) kinds.0
     ∙ ap (λ (w : List ℕ). record { kind = p.kind; word = w } ∷ parts_in text tokens) words.0
-    ∙ ap (λ (ps : List Part). p ∷ ps) (same_parts tokens text parts kinds.1 words.1)
+    ∙ ap (λ (ps : List Lexed). p ∷ ps) (same_parts tokens text parts kinds.1 words.1)
 
-printed_is_word : (word : List ℕ) → is_word (printed_kind word) ≡ true
+printed_is_word : (word : List ℕ) → is_word_kind (printed_kind word) ≡ true
 printed_is_word word = by_plain (is_plain word)
   where
-    by_plain : (t : Bool) → is_word (if t then kind.Bare else kind.Quoted) ≡ true
+    by_plain : (t : Bool) → is_word_kind (if t then kind.Bare else kind.Quoted) ≡ true
     by_plain true = refl
     by_plain false = refl
 
@@ -185,18 +186,18 @@ part_kinds : (words : List (List ℕ)) → kinds_of (each word_part words) ≡ e
 part_kinds [] = refl
 part_kinds (w ∷ words) = ap (λ (ks : List TokenKind). printed_kind w ∷ ks) (part_kinds words)
 
-part_words : (words : List (List ℕ)) → each (λ (p : Part). p.word) (each word_part words) ≡ words
+part_words : (words : List (List ℕ)) → each (λ (p : Lexed). p.word) (each word_part words) ≡ words
 part_words [] = refl
 part_words (w ∷ words) = ap (λ (ws : List (List ℕ)). w ∷ ws) (part_words words)
 
-are_words : (words : List (List ℕ)) → list_all is_word (kinds_of (each word_part words)) ≡ true
+are_words : (words : List (List ℕ)) → list_all is_word_kind (kinds_of (each word_part words)) ≡ true
 are_words [] = refl
-are_words (w ∷ words) = and_from (is_word (printed_kind w)) (list_all is_word (kinds_of (each word_part words))) (printed_is_word w) (are_words words)
+are_words (w ∷ words) = and_from (is_word_kind (printed_kind w)) (list_all is_word_kind (kinds_of (each word_part words))) (printed_is_word w) (are_words words)
 
 all_among : (words : List (List ℕ)) → words_among (each word_part words) ≡ words
 all_among [] = refl
 all_among (w ∷ words) =
-    ap (λ (t : Bool). each (λ (p : Part). p.word) (cond t (word_part w ∷ filter (λ (p : Part). is_word p.kind) (each word_part words)) (filter (λ (p : Part). is_word p.kind) (each word_part words)))) (printed_is_word w)
+    ap (λ (t : Bool). each (λ (p : Lexed). p.word) (cond t (word_part w ∷ filter (λ (p : Lexed). is_word_kind p.kind) (each word_part words)) (filter (λ (p : Lexed). is_word_kind p.kind) (each word_part words)))) (printed_is_word w)
     ∙ ap (λ (ws : List (List ℕ)). w ∷ ws) (all_among words)
 
 parts_some : (words : List (List ℕ)) → 0 < length words → 0 < length (kinds_of (each word_part words))
@@ -222,7 +223,7 @@ line_asks it readable =
     record {
       tokens = tokens_at 0 lexemes;
       cut = record { lexemes = lexemes; whole = begins; listed = refl };
-      spelled = subst (λ (ps : List Part). Spells ps (op_of it.verb it.words)) (sym parts)
+      spelled = subst (λ (ps : List Lexed). Spells ps (op_of it.verb it.words)) (sym parts)
           (record {
             first = record { kind = kind.Bare; word = keyword it.verb };
             rest = each word_part it.words;

@@ -13,7 +13,8 @@ use Rattle.set_text.specs.declared.fit.Fit.TheVariants.{Stops, More, Whole}
 use Rattle.commands.specs.declared.verb.Verb.TheVariants.{Set}
 use Rattle.set_text.specs.declared.phase.Phase.{Phase}
 use Rattle.set_text.specs.declared.phase.Phase.TheVariants.{Bare}
-use Rattle.set_text.specs.Form.{Part, part_in, parts_in, kinds_of, is_word, form_of, words_among, Spells, Begins, IsNoLine}
+use Rattle.cfg_lex.specs.Lexed.{Lexed, lexed_in, is_word_kind}
+use Rattle.set_text.specs.Form.{parts_in, kinds_of, form_of, words_among, Spells, Begins, IsNoLine}
 use Rattle.commands.specs.Verb.{op_of}
 use Rattle.set_text.specs.Phase.{next, ends_at, kinds_in, Leads, StopsFrom}
 use Rattle.set_text.specs.Fit.{form_at, FitsBehind, StopsBehind, Fits}
@@ -25,7 +26,7 @@ kinds_of_parts text [] = refl
 kinds_of_parts text (token ∷ tokens) = ap (λ ks. token.kind ∷ ks) (kinds_of_parts text tokens)
 
 -- parts of these kinds
-parts_of : List TokenKind → List Part
+parts_of : List TokenKind → List Lexed
 parts_of [] = []
 parts_of (k ∷ ks) = record { kind = k; word = [] } ∷ parts_of ks
 
@@ -34,11 +35,11 @@ unfolding parts_of
 kinds_of_parts_of [] = refl
 kinds_of_parts_of (k ∷ ks) = ap (λ rest. k ∷ rest) (kinds_of_parts_of ks)
 
-kinds_of_both : (xs ys : List Part) → kinds_of (xs ++ ys) ≡ kinds_of xs ++ kinds_of ys
-kinds_of_both xs ys = map-append (λ (p : Part). p.kind) xs ys
+kinds_of_both : (xs ys : List Lexed) → kinds_of (xs ++ ys) ≡ kinds_of xs ++ kinds_of ys
+kinds_of_both xs ys = map-append (λ (p : Lexed). p.kind) xs ys
 
 -- a keyword, and parts that lead somewhere behind it, begin a line
-pub line_begun : (first : Part) (rest : List Part) (form : Form) (phase : Phase) → is_word first.kind ≡ true → form_of first.word ≡ Some form → Leads form.brackets Bare (kinds_of rest) phase → Begins (first ∷ rest)
+pub line_begun : (first : Lexed) (rest : List Lexed) (form : Form) (phase : Phase) → is_word_kind first.kind ≡ true → form_of first.word ≡ Some form → Leads form.brackets Bare (kinds_of rest) phase → Begins (first ∷ rest)
 line_begun first rest form phase word begun leads =
     let on = completes form.brackets phase in
     let kinds : kinds_of (rest ++ parts_of on.more) ≡ kinds_of rest ++ on.more =
@@ -66,7 +67,7 @@ set_begins : form_of (codes "set") ≡ Some set_form
 unfolding set_form
 set_begins = refl
 
-set_part : Part
+set_part : Lexed
 set_part = record { kind = kind.Bare; word = codes "set" }
 
 -- nothing begins a line
@@ -83,19 +84,19 @@ nothing_is_no_line change spells = cc (spells.joined)
 same_some : {X : Type 0} (a b : X) → Some a ≡ Some b → a ≡ b
 same_some a b e = cc
 
-same_first : (a b : Part) (xs ys : List Part) → a ∷ xs ≡ b ∷ ys → (a ≡ b) × (xs ≡ ys)
+same_first : (a b : Lexed) (xs ys : List Lexed) → a ∷ xs ≡ b ∷ ys → (a ≡ b) × (xs ≡ ys)
 same_first a b xs ys e = (cc, cc)
 
 -- a line with this keyword leads to where it may end
-line_ends : (first : Part) (rest : List Part) (form : Form) (change : Op) → form_of first.word ≡ Some form → Spells (first ∷ rest) change → Ends form.brackets (kinds_of rest)
+line_ends : (first : Lexed) (rest : List Lexed) (form : Form) (change : Op) → form_of first.word ≡ Some form → Spells (first ∷ rest) change → Ends form.brackets (kinds_of rest)
 line_ends first rest form change begun line =
     let parts = same_first first line.first rest line.rest line.joined in
-    let same : line.form ≡ form = same_some line.form form (sym line.begun ∙ ap (λ (p : Part). form_of p.word) (sym parts.0) ∙ begun) in
+    let same : line.form ≡ form = same_some line.form form (sym line.begun ∙ ap (λ (p : Lexed). form_of p.word) (sym parts.0) ∙ begun) in
     subst (λ (f : Form). Ends f.brackets (kinds_of rest)) same
-    (subst (λ (ps : List Part). Ends line.form.brackets (kinds_of ps)) (sym parts.1) (tail_ends line.form.brackets (kinds_of line.rest) line.tail))
+    (subst (λ (ps : List Lexed). Ends line.form.brackets (kinds_of ps)) (sym parts.1) (tail_ends line.form.brackets (kinds_of line.rest) line.tail))
 
 -- a part that may not stand behind those before it
-pub not_begun : (first : Part) (rest : List Part) (part : Part) (form : Form) (phase : Phase) → form_of first.word ≡ Some form → Leads form.brackets Bare (kinds_of rest) phase → next form.brackets phase part.kind ≡ None → ¬ (Begins (first ∷ (rest ++ part ∷ [])))
+pub not_begun : (first : Lexed) (rest : List Lexed) (part : Lexed) (form : Form) (phase : Phase) → form_of first.word ≡ Some form → Leads form.brackets Bare (kinds_of rest) phase → next form.brackets phase part.kind ≡ None → ¬ (Begins (first ∷ (rest ++ part ∷ [])))
 not_begun first rest part form phase begun leads none line =
     let it = line_ends first ((rest ++ part ∷ []) ++ line.more) form line.change begun line.spelled in
     let kinds : kinds_of ((rest ++ part ∷ []) ++ line.more) ≡ kinds_of rest ++ part.kind ∷ kinds_of line.more =
@@ -106,17 +107,17 @@ not_begun first rest part form phase begun leads none line =
     (subst (λ p. next form.brackets p part.kind ≡ Some parted.back.0) same parted.back.1) none
 
 -- the first part begins no form
-pub no_form : (first : Part) (rest : List Part) → form_at (is_word first.kind) first.word ≡ None → ¬ (Begins (first ∷ rest))
+pub no_form : (first : Lexed) (rest : List Lexed) → form_at (is_word_kind first.kind) first.word ≡ None → ¬ (Begins (first ∷ rest))
 no_form first rest none line =
     let parts = same_first first line.spelled.first (rest ++ line.more) line.spelled.rest line.spelled.joined in
-    let some : form_at (is_word first.kind) first.word ≡ Some line.spelled.form =
-    ap (λ (p : Part). form_at (is_word p.kind) p.word) parts.0
+    let some : form_at (is_word_kind first.kind) first.word ≡ Some line.spelled.form =
+    ap (λ (p : Lexed). form_at (is_word_kind p.kind) p.word) parts.0
     ∙ ap (λ b. form_at b line.spelled.first.word) line.spelled.word
     ∙ line.spelled.begun in
     let e = sym some ∙ none in cc
 
 -- the parts lead to where no line may end
-pub not_ended : (first : Part) (rest : List Part) (form : Form) (phase : Phase) → form_of first.word ≡ Some form → Leads form.brackets Bare (kinds_of rest) phase → ends_at phase ≡ false → IsNoLine (first ∷ rest)
+pub not_ended : (first : Lexed) (rest : List Lexed) (form : Form) (phase : Phase) → form_of first.word ≡ Some form → Leads form.brackets Bare (kinds_of rest) phase → ends_at phase ≡ false → IsNoLine (first ∷ rest)
 not_ended first rest form phase begun leads ends change line =
     let it = line_ends first rest form change begun line in
     let same = leads_once form.brackets Bare it.phase phase (kinds_of rest) it.leads leads in
@@ -128,14 +129,14 @@ fits_nothing text [] none = (nothing_begun, nothing_is_no_line)
 fits_nothing text (first ∷ rest) none = absurd (omega (arith, none))
 
 -- a line whose first token begins no form
-pub fits_no_form : (text : List ℕ) (tokens : List Token) (d : Token) → 1 ≤ length tokens → form_at (is_word (get_or tokens 0 d).kind) (word_in text (get_or tokens 0 d)) ≡ None → Fits text tokens (Stops 0)
+pub fits_no_form : (text : List ℕ) (tokens : List Token) (d : Token) → 1 ≤ length tokens → form_at (is_word_kind (get_or tokens 0 d).kind) (word_in text (get_or tokens 0 d)) ≡ None → Fits text tokens (Stops 0)
 fits_no_form text [] d some none = absurd (omega (arith, some))
 fits_no_form text (first ∷ rest) d some none =
-    record { within = omega arith; begun = nothing_begun; not_more = no_form (part_in text first) [] none }
+    record { within = omega arith; begun = nothing_begun; not_more = no_form (lexed_in text first) [] none }
 
 -- the form of the first token, where it is a word
-record IsBegun (first : Part) (form : Form) : Type 0 where
-  word : is_word first.kind ≡ true
+record IsBegun (first : Lexed) (form : Form) : Type 0 where
+  word : is_word_kind first.kind ≡ true
   begun : form_of first.word ≡ Some form
 
 begun_if : (b : Bool) (word : List ℕ) (form : Form) → form_at b word ≡ Some form → (b ≡ true) × (form_of word ≡ Some form)
@@ -151,7 +152,7 @@ take_next tokens token rest place here =
     take_more tokens place token within ∙ ap (λ t. take place tokens ++ t ∷ []) same
 
 -- so many tokens of a line behind its first
-stops_behind : (text : List ℕ) (first : Token) (rest : List Token) (form : Form) (place : ℕ) → IsBegun (part_in text first) form → StopsFrom form.brackets rest place → StopsBehind text (first ∷ rest) (place + 1)
+stops_behind : (text : List ℕ) (first : Token) (rest : List Token) (form : Form) (place : ℕ) → IsBegun (lexed_in text first) form → StopsFrom form.brackets rest place → StopsBehind text (first ∷ rest) (place + 1)
 stops_behind text first rest form place is stops =
     let kinds = sym (kinds_of_parts text (take place rest)) in
     let leads = subst (λ ks. Leads form.brackets Bare ks stops.phase) kinds stops.leads in
@@ -159,26 +160,26 @@ stops_behind text first rest form place is stops =
     record {
       within = omega (arith, stops.within);
       begun = subst (λ n. Begins (parts_in text (take n (first ∷ rest)))) (sym (add-one place))
-          (line_begun (part_in text first) (parts_in text (take place rest)) form stops.phase is.word is.begun leads);
+          (line_begun (lexed_in text first) (parts_in text (take place rest)) form stops.phase is.word is.begun leads);
       not_more = λ line.
-          not_begun (part_in text first) (parts_in text (take place rest)) (part_in text stops.token) form stops.phase is.begun leads stops.none
-          (subst (λ ps. Begins (part_in text first ∷ ps)) (ap (parts_in text) more ∙ map-append (part_in text) (take place rest) (stops.token ∷ []))
+          not_begun (lexed_in text first) (parts_in text (take place rest)) (lexed_in text stops.token) form stops.phase is.begun leads stops.none
+          (subst (λ ps. Begins (lexed_in text first ∷ ps)) (ap (parts_in text) more ∙ map-append (lexed_in text) (take place rest) (stops.token ∷ []))
           (subst (λ n. Begins (parts_in text (take n (first ∷ rest)))) (add-one (place + 1)) line));
     }
 
-fits_behind_is : (text : List ℕ) (first : Token) (rest : List Token) (form : Form) (fit : Fit) → IsBegun (part_in text first) form → FitsBehind form rest fit → Fits text (first ∷ rest) fit
+fits_behind_is : (text : List ℕ) (first : Token) (rest : List Token) (form : Form) (fit : Fit) → IsBegun (lexed_in text first) form → FitsBehind form rest fit → Fits text (first ∷ rest) fit
 fits_behind_is text first rest form (Stops count) is fits =
     subst (StopsBehind text (first ∷ rest)) (sym fits.1) (stops_behind text first rest form fits.0 is fits.2)
 fits_behind_is text first rest form More is fits =
     let leads = subst (λ ks. Leads form.brackets Bare ks fits.phase) (sym (kinds_of_parts text rest)) fits.leads in (
-      line_begun (part_in text first) (parts_in text rest) form fits.phase is.word is.begun leads,
-      not_ended (part_in text first) (parts_in text rest) form fits.phase is.begun leads fits.ends_there,
+      line_begun (lexed_in text first) (parts_in text rest) form fits.phase is.word is.begun leads,
+      not_ended (lexed_in text first) (parts_in text rest) form fits.phase is.begun leads fits.ends_there,
     )
 fits_behind_is text first rest form (Whole verb) is fits =
     let leads = subst (λ ks. Leads form.brackets Bare ks fits.0.phase) (sym (kinds_of_parts text rest)) fits.0.leads in (
       omega arith,
       record {
-        first = part_in text first;
+        first = lexed_in text first;
         rest = parts_in text rest;
         joined = refl;
         word = is.word;
@@ -190,9 +191,9 @@ fits_behind_is text first rest form (Whole verb) is fits =
     )
 
 -- a line that a form begins
-pub fits_behind : (text : List ℕ) (tokens : List Token) (d : Token) (form : Form) (fit : Fit) → 1 ≤ length tokens → form_at (is_word (get_or tokens 0 d).kind) (word_in text (get_or tokens 0 d)) ≡ Some form → FitsBehind form (take (length tokens - 1) (drop 1 tokens)) fit → Fits text tokens fit
+pub fits_behind : (text : List ℕ) (tokens : List Token) (d : Token) (form : Form) (fit : Fit) → 1 ≤ length tokens → form_at (is_word_kind (get_or tokens 0 d).kind) (word_in text (get_or tokens 0 d)) ≡ Some form → FitsBehind form (take (length tokens - 1) (drop 1 tokens)) fit → Fits text tokens fit
 fits_behind text [] d form fit some begun fits = absurd (omega (arith, some))
 fits_behind text (first ∷ rest) d form fit some begun fits =
-    let is = begun_if (is_word first.kind) (part_in text first).word form begun in
+    let is = begun_if (is_word_kind first.kind) (lexed_in text first).word form begun in
     let whole : take (length (first ∷ rest) - 1) rest ≡ rest = take_all (length (first ∷ rest) - 1) rest (omega arith) in
     fits_behind_is text first rest form fit (record { word = is.0; begun = is.1 }) (subst (λ ts. FitsBehind form ts fit) whole fits)

@@ -12,7 +12,8 @@ use Rattle.set_text.specs.declared.form.Form.{Form}
 use Rattle.set_text.specs.declared.op_lines.OpLine.{OpLine}
 use Rattle.set_text.specs.declared.fault.LineFault.{LineFault}
 use Rattle.set_text.specs.declared.fault.LineFault.TheVariants.{Line, NoMemory}
-use Rattle.set_text.specs.Form.{Part, part_in, parts_in, form_of, words_among, Spells, Begins}
+use Rattle.cfg_lex.specs.Lexed.{Lexed, lexed_in}
+use Rattle.set_text.specs.Form.{parts_in, form_of, words_among, Spells, Begins}
 use Rattle.commands.specs.Verb.{op_of}
 use Rattle.set_text.specs.Lines.{op_line, IsPlaceOf, IsSkipped, Asks, EndsAt, StopsAt, IsRefused, AreRead, AsksFor, IsLineFault}
 use Rattle.set_text.proofs.FormLemmas.{nothing_is_no_line}
@@ -25,14 +26,14 @@ same_some : {X : Type 0} (a b : X) → Some a ≡ Some b → a ≡ b
 same_some a b e = cc
 
 -- parts are a line of one form, which asks one thing
-pub spelled_once : (parts : List Part) (one other : Op) → Spells parts one → Spells parts other → one ≡ other
+pub spelled_once : (parts : List Lexed) (one other : Op) → Spells parts one → Spells parts other → one ≡ other
 spelled_once parts one other a b =
     let split = same_first a.first b.first a.rest b.rest (sym a.joined ∙ b.joined) in
-    let form : a.form ≡ b.form = same_some a.form b.form (sym a.begun ∙ ap (λ (p : Part). form_of p.word) split.0 ∙ b.begun) in
+    let form : a.form ≡ b.form = same_some a.form b.form (sym a.begun ∙ ap (λ (p : Lexed). form_of p.word) split.0 ∙ b.begun) in
     a.asked ∙ ap (λ (f : Form). op_of f.verb (words_among a.rest)) form ∙ ap (λ ps. op_of b.form.verb (words_among ps)) split.1 ∙ sym b.asked
 
 -- what begins a line with more behind it begins a line
-front_begun : (front back : List Part) → Begins (front ++ back) → Begins front
+front_begun : (front back : List Lexed) → Begins (front ++ back) → Begins front
 front_begun front back line = record {
   more = back ++ line.more;
   change = line.change;
@@ -43,7 +44,7 @@ fewer_begun : (text : List ℕ) (tokens : List Token) (m n : ℕ) → m ≤ n �
 fewer_begun text tokens m n fewer line =
     let split : take m tokens ++ drop m (take n tokens) ≡ take n tokens = ap (λ ts. ts ++ drop m (take n tokens)) (sym (take-take m n tokens fewer)) ∙ take-append-drop m (take n tokens) in
     front_begun (parts_in text (take m tokens)) (parts_in text (drop m (take n tokens)))
-    (subst Begins (ap (parts_in text) (sym split) ∙ map-append (part_in text) (take m tokens) (drop m (take n tokens))) line)
+    (subst Begins (ap (parts_in text) (sym split) ∙ map-append (lexed_in text) (take m tokens) (drop m (take n tokens))) line)
 
 -- lists that are split at a place
 left_of : (xs : List Token) (n : ℕ) → n < length xs → (x : Token) × (rest : List Token) × (drop n xs ≡ x ∷ rest)

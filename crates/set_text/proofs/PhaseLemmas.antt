@@ -8,7 +8,8 @@ use Rattle.cfg_lex.specs.declared.token.TokenKind.{TokenKind}
 use Rattle.cfg_lex.specs.declared.token.TokenKind.TheVariants as kind
 use Rattle.set_text.specs.declared.phase.Phase.{Phase}
 use Rattle.set_text.specs.declared.phase.Phase.TheVariants.{Bare, Words, Opened, Inside, Closed}
-use Rattle.set_text.specs.Form.{is_word, AreWords, IsPlain, IsBracketed, IsTail}
+use Rattle.cfg_lex.specs.Lexed.{is_word_kind}
+use Rattle.set_text.specs.Form.{AreWords, IsPlain, IsBracketed, IsTail}
 use Rattle.set_text.specs.Phase.{on_word, on_open, on_close, next, ends_at, kinds_in, Leads}
 
 pub leads_both : (brackets : Bool) (from middle to : Phase) (xs ys : List TokenKind) → Leads brackets from xs middle → Leads brackets middle ys to → Leads brackets from (xs ++ ys) to
@@ -42,7 +43,7 @@ leads_once brackets from p q (x ∷ xs) one other =
     (subst (λ r. Leads brackets r xs p) (same_some one.0 other.0 (next brackets from x) one.1 other.1) one.2) other.2
 
 -- a word behind words is one of them
-word_on : (phase : Phase) (x : TokenKind) (brackets : Bool) → is_word x ≡ true → next brackets phase x ≡ on_word phase
+word_on : (phase : Phase) (x : TokenKind) (brackets : Bool) → is_word_kind x ≡ true → next brackets phase x ≡ on_word phase
 word_on phase kind.OpenBrace brackets word = absurd cc
 word_on phase kind.CloseBrace brackets word = absurd cc
 word_on phase kind.OpenBracket brackets word = absurd cc
@@ -67,7 +68,7 @@ leads_more brackets from p q tokens i d within leads on =
 
 -- what a step is: of a word or of a bracket
 data Way (brackets : Bool) (phase : Phase) (x : TokenKind) (after : Phase) : Type 0 where
-  Word : is_word x ≡ true → on_word phase ≡ Some after → Way brackets phase x after
+  Word : is_word_kind x ≡ true → on_word phase ≡ Some after → Way brackets phase x after
   Open : x ≡ kind.OpenBracket → on_open brackets phase ≡ Some after → Way brackets phase x after
   Close : x ≡ kind.CloseBracket → on_close phase ≡ Some after → Way brackets phase x after
 
@@ -83,25 +84,25 @@ way_of brackets phase after kind.Quoted on = Word refl on
 words_lead : (brackets : Bool) (xs : List TokenKind) → AreWords xs → Leads brackets Words xs Words
 words_lead brackets [] words = refl
 words_lead brackets (x ∷ xs) words =
-    let both = both_true (is_word x) (list_all is_word xs) words in
+    let both = both_true (is_word_kind x) (list_all is_word_kind xs) words in
     (Words, word_on Words x brackets both.0, words_lead brackets xs both.1)
 
 inside_lead : (brackets : Bool) (xs : List TokenKind) → AreWords xs → Leads brackets Inside xs Inside
 inside_lead brackets [] words = refl
 inside_lead brackets (x ∷ xs) words =
-    let both = both_true (is_word x) (list_all is_word xs) words in
+    let both = both_true (is_word_kind x) (list_all is_word_kind xs) words in
     (Inside, word_on Inside x brackets both.0, inside_lead brackets xs both.1)
 
 plain_leads : (brackets : Bool) (xs : List TokenKind) → IsPlain xs → Leads brackets Bare xs Words
 plain_leads brackets [] plain = absurd (omega (arith, plain.some))
 plain_leads brackets (x ∷ xs) plain =
-    let both = both_true (is_word x) (list_all is_word xs) plain.words in
+    let both = both_true (is_word_kind x) (list_all is_word_kind xs) plain.words in
     (Words, word_on Bare x brackets both.0, words_lead brackets xs both.1)
 
 opened_leads : (xs : List TokenKind) → AreWords xs → 0 < length xs → Leads true Opened (xs ++ kind.CloseBracket ∷ []) Closed
 opened_leads [] words some = absurd (omega (arith, some))
 opened_leads (x ∷ xs) words some =
-    let both = both_true (is_word x) (list_all is_word xs) words in
+    let both = both_true (is_word_kind x) (list_all is_word_kind xs) words in
     (Inside, word_on Opened x true both.0, leads_both true Inside Inside Closed xs (kind.CloseBracket ∷ []) (inside_lead true xs both.1) (Closed, refl, refl))
 
 bracketed_leads : (front inside : List TokenKind) → AreWords front → AreWords inside → 0 < length inside → Leads true Bare (front ++ kind.OpenBracket ∷ (inside ++ kind.CloseBracket ∷ [])) Closed
@@ -147,10 +148,10 @@ record Inner (xs : List TokenKind) : Type 0 where
   joined : xs ≡ inside ++ kind.CloseBracket ∷ []
   words : AreWords inside
 
-with_word : (x : TokenKind) (xs : List TokenKind) → is_word x ≡ true → AreWords xs → AreWords (x ∷ xs)
-with_word x xs word words = ap (λ b. b && list_all is_word xs) word ∙ words
+with_word : (x : TokenKind) (xs : List TokenKind) → is_word_kind x ≡ true → AreWords xs → AreWords (x ∷ xs)
+with_word x xs word words = ap (λ b. b && list_all is_word_kind xs) word ∙ words
 
-inner_more : (x : TokenKind) (xs : List TokenKind) → is_word x ≡ true → Inner xs → Inner (x ∷ xs)
+inner_more : (x : TokenKind) (xs : List TokenKind) → is_word_kind x ≡ true → Inner xs → Inner (x ∷ xs)
 inner_more x xs word it = record { inside = x ∷ it.inside; joined = ap (λ ks. x ∷ ks) it.joined; words = with_word x it.inside word it.words }
 
 -- the bracket is closed, and nothing stands behind it
@@ -194,7 +195,7 @@ bracket x (y ∷ xs) q is leads ends =
       | Close is_close on ↦ absurd cc
     ]
 
-bracketed_more : (x : TokenKind) (xs : List TokenKind) → is_word x ≡ true → IsBracketed xs → IsBracketed (x ∷ xs)
+bracketed_more : (x : TokenKind) (xs : List TokenKind) → is_word_kind x ≡ true → IsBracketed xs → IsBracketed (x ∷ xs)
 bracketed_more x xs word it = record {
   front = x ∷ it.front;
   inside = it.inside;
@@ -226,7 +227,7 @@ plain_left (x ∷ xs) q leads =
       | Close is on ↦ absurd cc
     ]
 
-first_word : (x : TokenKind) (xs : List TokenKind) → is_word x ≡ true → AreWords xs ⊎ IsBracketed xs → IsTail true (x ∷ xs)
+first_word : (x : TokenKind) (xs : List TokenKind) → is_word_kind x ≡ true → AreWords xs ⊎ IsBracketed xs → IsTail true (x ∷ xs)
 first_word x xs word (inl words) = inl (record { words = with_word x xs word words; some = omega arith })
 first_word x xs word (inr it) = inr (bracketed_more x xs word it)
 

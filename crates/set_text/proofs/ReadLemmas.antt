@@ -9,7 +9,8 @@ use Rattle.set_text.specs.declared.op_lines.OpLine.{OpLine}
 use Rattle.set_text.specs.declared.stop.Stop.{Stop}
 use Rattle.set_text.specs.declared.stop.Stop.TheVariants.{At, NoMemory}
 use Rattle.set_text.specs.declared.fit.Fit.TheVariants.{More}
-use Rattle.set_text.specs.Form.{Part, parts_in, Spells, Begins}
+use Rattle.cfg_lex.specs.Lexed.{Lexed}
+use Rattle.set_text.specs.Form.{parts_in, Spells, Begins}
 use Rattle.set_text.specs.Fit.{Fits, StopsBehind}
 use Rattle.set_text.specs.Lines.{told, lines_in, IsSkipped, Asks, StopsAt, IsRefused, AreRead, IsFirstRefused}
 use Rattle.set_text.specs.Stop.{IsStopOf, Says, IsReadTo}
@@ -19,7 +20,7 @@ abbrev pub SaysMaybe : List ℕ → Option Op → Type 0
 SaysMaybe line change = Says line (Ok change)
 
 -- a line begins a line
-pub whole_begun : (parts : List Part) (change : Op) → Spells parts change → Begins parts
+pub whole_begun : (parts : List Lexed) (change : Op) → Spells parts change → Begins parts
 whole_begun parts change line = record { more = []; change = change; spelled = subst (λ ps. Spells ps change) (sym (append-nil parts)) line }
 
 -- a line that stops behind all its tokens

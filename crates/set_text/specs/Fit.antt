@@ -33,7 +33,8 @@ pub record StopsBehind (text : List ℕ) (tokens : List Token) (count : ℕ) : T
   pub begun : Begins (parts_in text (take count tokens))
   pub not_more : ¬ (Begins (parts_in text (take (count + 1) tokens)))
 
--- how the tokens of a line fit the forms: the first so many begin a line, and one more doesn't; all of them begin a line and are none; or they are one
+-- how the tokens of a line fit the forms: the first so many begin a line, and one more doesn't; all of them begin a line and are none;
+-- or they are one
 abbrev pub Fits : List ℕ → List Token → Fit → Type 0
 Fits text tokens (Stops count) = StopsBehind text tokens count
 Fits text tokens More = Begins (parts_in text tokens) × IsNoLine (parts_in text tokens)

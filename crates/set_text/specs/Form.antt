@@ -5,8 +5,8 @@ use Rattle.cfg_base.specs.Words.{same_word}
 use Rattle.commands.specs.declared.command.Op.{Op}
 use Rattle.cfg_lex.specs.declared.token.Token.{Token}
 use Rattle.cfg_lex.specs.declared.token.TokenKind.{TokenKind}
-use Rattle.cfg_lex.specs.declared.token.TokenKind.TheVariants.{OpenBrace, CloseBrace, OpenBracket, CloseBracket, Semicolon, Bare, Quoted}
-use Rattle.cfg_lex.specs.Tokens.{word_in}
+use Rattle.cfg_lex.specs.declared.token.TokenKind.TheVariants.{OpenBracket, CloseBracket}
+use Rattle.cfg_lex.specs.Lexed.{Lexed, lexed_in, is_word_kind}
 use Rattle.set_text.specs.declared.form.Form.{Form}
 use Rattle.set_text.specs.declared.form.TheConstants.{FORMS}
 use Rattle.commands.specs.Verb.{keyword, op_of}
@@ -15,32 +15,15 @@ use Rattle.commands.specs.Verb.{keyword, op_of}
 abbrev pub form_of : List ℕ → Option Form
 form_of word = find (λ form. same_word (keyword form.verb) word) FORMS
 
--- a token as it is read: its kind, and its word
-pub record Part : Type 0 where
-  pub kind : TokenKind
-  pub word : List ℕ
+-- the parts of a line: its tokens as they are read
+abbrev pub parts_in : List ℕ → List Token → List Lexed
+parts_in text tokens = map (lexed_in text) tokens
 
-abbrev pub part_in : List ℕ → Token → Part
-part_in text token = record { kind = token.kind; word = word_in text token }
-
-abbrev pub parts_in : List ℕ → List Token → List Part
-parts_in text tokens = map (part_in text) tokens
-
-abbrev pub kinds_of : List Part → List TokenKind
+abbrev pub kinds_of : List Lexed → List TokenKind
 kinds_of parts = map (λ part. part.kind) parts
 
--- the token is a word
-abbrev pub is_word : TokenKind → Bool
-is_word OpenBrace = false
-is_word CloseBrace = false
-is_word OpenBracket = false
-is_word CloseBracket = false
-is_word Semicolon = false
-is_word Bare = true
-is_word Quoted = true
-
 abbrev pub AreWords : List TokenKind → Type 0
-AreWords kinds = list_all is_word kinds ≡ true
+AreWords kinds = list_all is_word_kind kinds ≡ true
 
 -- one or more words
 pub record IsPlain (kinds : List TokenKind) : Type 0 where
@@ -62,26 +45,26 @@ IsTail true kinds = IsPlain kinds ⊎ IsBracketed kinds
 IsTail false kinds = IsPlain kinds
 
 -- the words among the parts of a line: its brackets are none
-abbrev pub words_among : List Part → List (List ℕ)
-words_among parts = map (λ part. part.word) (filter (λ part. is_word part.kind) parts)
+abbrev pub words_among : List Lexed → List (List ℕ)
+words_among parts = map (λ part. part.word) (filter (λ part. is_word_kind part.kind) parts)
 
 -- the parts are a line of a form: its keyword, and words behind it
-pub record Spells (parts : List Part) (change : Op) : Type 0 where
-  pub first : Part
-  pub rest : List Part
+pub record Spells (parts : List Lexed) (change : Op) : Type 0 where
+  pub first : Lexed
+  pub rest : List Lexed
   pub joined : parts ≡ first ∷ rest
-  pub word : is_word first.kind ≡ true
+  pub word : is_word_kind first.kind ≡ true
   pub form : Form
   pub begun : form_of first.word ≡ Some form
   pub tail : IsTail form.brackets (kinds_of rest)
   pub asked : change ≡ op_of form.verb (words_among rest)
 
 -- a line of a form begins with these parts
-pub record Begins (parts : List Part) : Type 0 where
-  pub more : List Part
+pub record Begins (parts : List Lexed) : Type 0 where
+  pub more : List Lexed
   pub change : Op
   pub spelled : Spells (parts ++ more) change
 
 -- the parts are no line of any form
-abbrev pub IsNoLine : List Part → Type 0
+abbrev pub IsNoLine : List Lexed → Type 0
 IsNoLine parts = (change : Op) → ¬ (Spells parts change)

@@ -1,6 +1,7 @@
 -- The lines of a text, and the changes that they ask for. Junos OS CLI User Guide, on load set; which token of a line is refused is this
 -- project's own.
-use Rattle.std.specs.Prelude.{◌≡◌, ◌⊎◌, ◌<◌, ◌≤◌, ◌+◌, ℕ, ◌==◌, ◌&&◌, List, [], ◌∷◌, ◌++◌, length, take, drop, min, Option, Some, None, if◌then◌else◌}
+use Rattle.std.specs.Prelude.{◌≡◌, ◌⊎◌, ◌<◌, ◌≤◌, ◌+◌, ℕ, ◌==◌, ◌&&◌, List, [], ◌∷◌, ◌++◌, length, take, drop, min}
+use Rattle.std.specs.Prelude.{Option, Some, None, if◌then◌else◌}
 use Rattle.commands.specs.declared.command.Op.{Op}
 use Rattle.cfg_lex.specs.declared.token.Token.{Token}
 use Rattle.cfg_lex.specs.declared.fault.LexFault.{LexFault}
@@ -58,7 +59,8 @@ abbrev pub StopsAt : List ℕ → List Token → ℕ → List Token → Option L
 StopsAt line tokens count [] fault place = EndsAt line tokens fault place
 StopsAt line tokens count (token ∷ rest) fault place = ¬ (Begins (parts_in line (take (count + 1) tokens))) × (place ≡ told token.start)
 
--- a line of no form, and the place of what doesn't fit: the first token with which the tokens up to it begin no line, or what stands behind them all
+-- a line of no form, and the place of what doesn't fit: the first token with which the tokens up to it begin no line, or what stands
+-- behind them all
 pub record IsRefused (line : List ℕ) (place : ℕ) : Type 0 where
   pub tokens : List Token
   pub fault : Option LexFault

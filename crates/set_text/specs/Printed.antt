@@ -18,6 +18,7 @@ use Rattle.cfg_lex.specs.Printed.{printed_word}
 use Rattle.commands.specs.Verb.{keyword}
 use Rattle.commands.specs.declared.verb.Verb.{Verb}
 use Rattle.commands.specs.declared.verb.Verb.TheVariants.{Set, Deactivate, Protect}
+use Rattle.commands.specs.Verb.{keyword}
 
 -- a line: what its keyword asks of the words behind it
 pub record Line : Type 0 where
@@ -69,7 +70,8 @@ own_line_if verb path false = []
 abbrev pub word_lines : List Step → List (List ℕ) → List Line
 word_lines path words = map (λ word. set_line (own_words path ++ word ∷ [])) words
 
--- the `set` lines of a statement: one for each word of a Many, and for the one of a Leaf; one of a Flag; and one of a level without children
+-- the `set` lines of a statement: one for each word of a Many, and for the one of a Leaf; one of a Flag; and one of a level without
+-- children
 abbrev pub sets_by : Shape → List Step → Bool → List (List ℕ) → List Line
 sets_by Container path childless words = own_line_if Set path childless
 sets_by Fixed path childless words = own_line_if Set path childless

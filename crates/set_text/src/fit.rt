@@ -2,12 +2,13 @@
 
 ghost use Rattle.std.specs.Prelude.{◌≡◌, IfOk};
 ghost use Rattle.std.specs.List.{All};
+ghost use Rattle.cfg_lex.specs.Lexed.{is_word_kind};
 ghost use Rattle.cfg_lex.specs.Tokens.{IsPlaced, word_in};
-ghost use Rattle.set_text.specs.Form.{is_word, parts_in, words_among};
+ghost use Rattle.set_text.specs.Form.{parts_in, words_among};
 ghost use Rattle.set_text.specs.Fit.{Fits, FitsBehind, form_at};
 
 use crate::form::{Form, form_of};
-use crate::phase::{is_word, phase_of};
+use crate::phase::phase_of;
 use cfg_base::{NoMemory, Word, Words};
 use cfg_lex::Token;
 use commands::Verb;
@@ -25,9 +26,9 @@ pub(crate) enum Fit {
 /// The form that a token begins.
 fn form_at(alloc: Global, line: &[u8], token: Token) -> Result<Option<Form>, NoMemory>
     requires { IsPlaced line.now token }
-    ensures { IfOk result (λ form. form ≡ form_at (is_word token.kind) (word_in line.now token)) }
+    ensures { IfOk result (λ form. form ≡ form_at (is_word_kind token.kind) (word_in line.now token)) }
 {
-    if !is_word(token.kind) {
+    if !token.kind.is_word() {
         return Ok(None);
     }
     let word = token.word(alloc, line)?;
@@ -79,7 +80,7 @@ pub(crate) fn words_of(alloc: Global, line: &[u8], tokens: &[Token]) -> Result<W
 {
     let mut words = Words::new(alloc);
     for token in tokens {
-        if is_word(token.kind) {
+        if token.kind.is_word() {
             words.push(word_of(alloc, line, *token)?)?;
         }
     }

@@ -2,7 +2,6 @@
 
 ghost use Rattle.std.specs.Prelude.{◌≡◌, MatchResult};
 ghost use Rattle.set_text.specs.declared.phase.Phase.TheVariants as phase;
-ghost use Rattle.set_text.specs.Form.{is_word};
 ghost use Rattle.set_text.specs.Phase.{ends_at, kinds_in, next, on_close, on_open, on_word, Leads, StopsFrom};
 
 use cfg_lex::{Token, TokenKind};
@@ -20,13 +19,6 @@ pub(crate) enum Phase {
     Inside,
     /// A bracket is closed.
     Closed,
-}
-
-/// Whether a token is a word.
-pub(crate) fn is_word(kind: TokenKind) -> bool
-    ensures { result ≡ is_word kind }
-{
-    matches!(kind, TokenKind::Bare | TokenKind::Quoted)
 }
 
 impl Phase {
