@@ -2,15 +2,17 @@
 use Rattle.std.proofs.Common.{ℕ, List, [], ◌∷◌, Bool, true, false, not, ◌&&◌, ◌||◌}
 use Rattle.std.specs.List.{list_all}
 use Rattle.std.specs.Prelude.{codes}
+use Rattle.cfg_base.specs.Words.{same_word}
 use Rattle.cfg_lex.specs.declared.token.TokenKind.{TokenKind}
 use Rattle.cfg_lex.specs.declared.token.TokenKind.TheVariants as kind
+use Rattle.cfg_lex.specs.Lexed.{lexed}
 use Rattle.shell_words.specs.declared.form.Symbol.{Symbol}
 use Rattle.shell_words.specs.declared.form.Symbol.TheVariants.{Keyword, Mark, Word, Neither, Number, OpenBracket, CloseBracket}
 use Rattle.shell_words.specs.declared.form.Part.{Part}
 use Rattle.shell_words.specs.declared.form.Part.TheVariants.{Nothing, One, Many}
 use Rattle.shell_words.specs.declared.form.CommandForm.{CommandForm}
 use Rattle.shell_words.specs.Item.{Item}
-use Rattle.shell_words.specs.Form.{is_same, is_of, parts_of}
+use Rattle.shell_words.specs.Form.{is_of, parts_of}
 use Rattle.shell_words.specs.Keyword.{spelled}
 use Rattle.shell_words.specs.Number.{number_of, is_between}
 
@@ -26,11 +28,11 @@ are_words CloseBracket = false
 
 -- a test that no token is of both
 abbrev pub differ : Symbol → Symbol → Bool
-differ (Keyword one) (Keyword other) = not (is_same (spelled one) (spelled other))
-differ (Keyword one) (Mark other) = not (is_same (spelled one) (spelled other))
-differ (Mark one) (Mark other) = not (is_same (spelled one) (spelled other))
+differ (Keyword one) (Keyword other) = not (same_word (spelled one) (spelled other))
+differ (Keyword one) (Mark other) = not (same_word (spelled one) (spelled other))
+differ (Mark one) (Mark other) = not (same_word (spelled one) (spelled other))
 differ (Number low high) (Keyword other) = not (is_between low high (number_of (spelled other)))
-differ (Neither one other) (Mark mark) = is_same (spelled one) (spelled mark) || is_same (spelled other) (spelled mark)
+differ (Neither one other) (Mark mark) = same_word (spelled one) (spelled mark) || same_word (spelled other) (spelled mark)
 differ OpenBracket other = false
 differ CloseBracket other = false
 differ one OpenBracket = are_words one
@@ -75,7 +77,7 @@ example_kind OpenBracket = kind.OpenBracket
 example_kind CloseBracket = kind.CloseBracket
 
 abbrev pub example : Symbol → Item
-example symbol = record { kind = example_kind symbol; word = example_word symbol; place = 0 }
+example symbol = record { token = lexed (example_kind symbol) (example_word symbol); place = 0 }
 
 -- each token that must stand in a line is one of its symbol
 abbrev pub have_examples : List Part → Bool

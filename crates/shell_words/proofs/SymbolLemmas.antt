@@ -1,40 +1,38 @@
 -- Symbols that share no token.
 use Rattle.std.proofs.Common.{◌≡◌, ℕ, List, [], ◌∷◌, Bool, true, false, not, ◌&&◌, ◌||◌, refl, sym, ap, subst, ◌∙◌, inl, inr, eqb}
-use Rattle.std.proofs.lemmas.Bool.{false≢true, and_parts, and_from, or_cases, eqb-true, eq-eqb}
+use Rattle.std.proofs.lemmas.Bool.{false≢true, and_parts, and_from, or_cases, eqb-true}
+use Rattle.cfg_base.specs.Words.{same_word}
 use Rattle.cfg_lex.specs.declared.token.TokenKind.{TokenKind}
 use Rattle.cfg_lex.specs.declared.token.TokenKind.TheVariants.{OpenBrace, CloseBrace, Semicolon, Bare, Quoted}
 use Rattle.cfg_lex.specs.declared.token.TokenKind.TheVariants as kind
+use Rattle.cfg_lex.specs.Lexed.{is_word_kind, is_bare_kind, is_open_bracket, is_close_bracket}
 use Rattle.shell_words.specs.declared.form.Symbol.{Symbol}
 use Rattle.shell_words.specs.declared.form.Symbol.TheVariants.{Keyword, Mark, Word, Neither, Number, OpenBracket, CloseBracket}
 use Rattle.shell_words.specs.declared.keyword.Keyword as keywords
-use Rattle.shell_words.specs.Item.{Item, is_bare, is_word, is_open_bracket, is_close_bracket}
-use Rattle.shell_words.specs.Form.{is_same, is_keyword, is_mark, is_of}
+use Rattle.shell_words.specs.Item.{Item}
+use Rattle.shell_words.specs.Form.{is_keyword, is_mark, is_of}
 use Rattle.shell_words.specs.Keyword.{spelled}
 use Rattle.shell_words.specs.Number.{number_of, is_between}
 use Rattle.shell_words.proofs.FormTests.{are_words, differ, disjoint}
 
-pub same_is : (one other : List ℕ) → is_same one other ≡ true → one ≡ other
+pub same_is : (one other : List ℕ) → same_word one other ≡ true → one ≡ other
 same_is [] [] e = refl
 same_is [] (b ∷ other) e = absurd (false≢true e)
 same_is (a ∷ one) [] e = absurd (false≢true e)
 same_is (a ∷ one) (b ∷ other) e =
-    let parts = and_parts (eqb a b) (is_same one other) e in
+    let parts = and_parts (eqb a b) (same_word one other) e in
     ap (λ x. x ∷ one) (eqb-true a b parts.0) ∙ ap (λ xs. b ∷ xs) (same_is one other parts.1)
 
-pub is_same_itself : (word : List ℕ) → is_same word word ≡ true
-is_same_itself [] = refl
-is_same_itself (b ∷ word) = and_from (eqb b b) (is_same word word) (eq-eqb b b refl) (is_same_itself word)
-
--- two words that one is the same as
-both_same : (word one other : List ℕ) → is_same word one ≡ true → is_same word other ≡ true → is_same one other ≡ true
+-- two words that are the same as one
+both_same : (word one other : List ℕ) → same_word one word ≡ true → same_word other word ≡ true → same_word one other ≡ true
 both_same word one other a b =
-    subst (λ w. is_same w other ≡ true) (same_is word one a) b
+    subst (λ w. same_word one w ≡ true) (sym (same_is other word b)) a
 
 not_both : (t : Bool) → t ≡ true → not t ≡ true → ⊥
 not_both true e f = false≢true f
 not_both false e f = false≢true e
 
-bare_is_word : (kind : TokenKind) → is_bare kind ≡ true → is_word kind ≡ true
+bare_is_word : (kind : TokenKind) → is_bare_kind kind ≡ true → is_word_kind kind ≡ true
 bare_is_word OpenBrace e = e
 bare_is_word CloseBrace e = e
 bare_is_word kind.OpenBracket e = e
@@ -43,7 +41,7 @@ bare_is_word Semicolon e = e
 bare_is_word Bare e = refl
 bare_is_word Quoted e = refl
 
-no_open_word : (kind : TokenKind) → is_word kind ≡ true → is_open_bracket kind ≡ true → ⊥
+no_open_word : (kind : TokenKind) → is_word_kind kind ≡ true → is_open_bracket kind ≡ true → ⊥
 no_open_word OpenBrace e f = false≢true e
 no_open_word CloseBrace e f = false≢true e
 no_open_word kind.OpenBracket e f = false≢true e
@@ -52,7 +50,7 @@ no_open_word Semicolon e f = false≢true e
 no_open_word Bare e f = false≢true f
 no_open_word Quoted e f = false≢true f
 
-no_close_word : (kind : TokenKind) → is_word kind ≡ true → is_close_bracket kind ≡ true → ⊥
+no_close_word : (kind : TokenKind) → is_word_kind kind ≡ true → is_close_bracket kind ≡ true → ⊥
 no_close_word OpenBrace e f = false≢true e
 no_close_word CloseBrace e f = false≢true e
 no_close_word kind.OpenBracket e f = false≢true e
@@ -61,25 +59,25 @@ no_close_word Semicolon e f = false≢true e
 no_close_word Bare e f = false≢true f
 no_close_word Quoted e f = false≢true f
 
-word_is : (symbol : Symbol) (item : Item) → are_words symbol ≡ true → is_of symbol item ≡ true → is_word item.kind ≡ true
-word_is (Keyword keyword) item words is = (and_parts (is_word item.kind) (is_same item.word (spelled keyword)) is).0
-word_is (Mark keyword) item words is = bare_is_word item.kind (and_parts (is_bare item.kind) (is_same item.word (spelled keyword)) is).0
+word_is : (symbol : Symbol) (item : Item) → are_words symbol ≡ true → is_of symbol item ≡ true → is_word_kind item.token.kind ≡ true
+word_is (Keyword keyword) item words is = (and_parts (is_word_kind item.token.kind) (same_word (spelled keyword) item.token.word) is).0
+word_is (Mark keyword) item words is = bare_is_word item.token.kind (and_parts (is_bare_kind item.token.kind) (same_word (spelled keyword) item.token.word) is).0
 word_is Word item words is = is
-word_is (Neither one other) item words is = (and_parts (is_word item.kind) (not (is_mark one item || is_mark other item)) is).0
-word_is (Number low high) item words is = (and_parts (is_word item.kind) (is_between low high (number_of item.word)) is).0
+word_is (Neither one other) item words is = (and_parts (is_word_kind item.token.kind) (not (is_mark one item || is_mark other item)) is).0
+word_is (Number low high) item words is = (and_parts (is_word_kind item.token.kind) (is_between low high (number_of item.token.word)) is).0
 word_is OpenBracket item words is = absurd (false≢true words)
 word_is CloseBracket item words is = absurd (false≢true words)
 
-keywords_differ : (one other : keywords.Keyword) (first second : Bool) (item : Item) → not (is_same (spelled one) (spelled other)) ≡ true → (first && is_same item.word (spelled one)) ≡ true → (second && is_same item.word (spelled other)) ≡ true → ⊥
+keywords_differ : (one other : keywords.Keyword) (first second : Bool) (item : Item) → not (same_word (spelled one) (spelled other)) ≡ true → (first && same_word (spelled one) item.token.word) ≡ true → (second && same_word (spelled other) item.token.word) ≡ true → ⊥
 keywords_differ one other first second item e a b =
-    not_both (is_same (spelled one) (spelled other))
-    (both_same item.word (spelled one) (spelled other) (and_parts first (is_same item.word (spelled one)) a).1 (and_parts second (is_same item.word (spelled other)) b).1) e
+    not_both (same_word (spelled one) (spelled other))
+    (both_same item.token.word (spelled one) (spelled other) (and_parts first (same_word (spelled one) item.token.word) a).1 (and_parts second (same_word (spelled other) item.token.word) b).1) e
 
 -- a mark is a word that is neither of two, of which it is one
-marked : (mark one : keywords.Keyword) (item : Item) → is_same (spelled one) (spelled mark) ≡ true → is_mark mark item ≡ true → is_mark one item ≡ true
+marked : (mark one : keywords.Keyword) (item : Item) → same_word (spelled one) (spelled mark) ≡ true → is_mark mark item ≡ true → is_mark one item ≡ true
 marked mark one item e is =
-    let parts = and_parts (is_bare item.kind) (is_same item.word (spelled mark)) is in
-    and_from (is_bare item.kind) (is_same item.word (spelled one)) parts.0 (subst (λ w. is_same item.word w ≡ true) (sym (same_is (spelled one) (spelled mark) e)) parts.1)
+    let parts = and_parts (is_bare_kind item.token.kind) (same_word (spelled mark) item.token.word) is in
+    and_from (is_bare_kind item.token.kind) (same_word (spelled one) item.token.word) parts.0 (subst (λ w. same_word w item.token.word ≡ true) (sym (same_is (spelled one) (spelled mark) e)) parts.1)
 
 or_left : (a b : Bool) → a ≡ true → (a || b) ≡ true
 or_left true b e = refl
@@ -89,30 +87,30 @@ or_right : (a b : Bool) → b ≡ true → (a || b) ≡ true
 or_right true b e = refl
 or_right false b e = e
 
-neither_mark : (one other mark : keywords.Keyword) (item : Item) → (is_same (spelled one) (spelled mark) || is_same (spelled other) (spelled mark)) ≡ true → is_of (Neither one other) item ≡ true → is_mark mark item ≡ true → ⊥
+neither_mark : (one other mark : keywords.Keyword) (item : Item) → (same_word (spelled one) (spelled mark) || same_word (spelled other) (spelled mark)) ≡ true → is_of (Neither one other) item ≡ true → is_mark mark item ≡ true → ⊥
 neither_mark one other mark item e neither is =
-    let none = (and_parts (is_word item.kind) (not (is_mark one item || is_mark other item)) neither).1 in
-    elim (or_cases (is_same (spelled one) (spelled mark)) (is_same (spelled other) (spelled mark)) e) as (λ w. ⊥) [
+    let none = (and_parts (is_word_kind item.token.kind) (not (is_mark one item || is_mark other item)) neither).1 in
+    elim (or_cases (same_word (spelled one) (spelled mark)) (same_word (spelled other) (spelled mark)) e) as (λ w. ⊥) [
       | inl first ↦ not_both (is_mark one item || is_mark other item) (or_left (is_mark one item) (is_mark other item) (marked mark one item first is)) none
       | inr second ↦ not_both (is_mark one item || is_mark other item) (or_right (is_mark one item) (is_mark other item) (marked mark other item second is)) none
     ]
 
 number_keyword : (low high : ℕ) (keyword : keywords.Keyword) (item : Item) → not (is_between low high (number_of (spelled keyword))) ≡ true → is_of (Number low high) item ≡ true → is_keyword keyword item ≡ true → ⊥
 number_keyword low high keyword item e number is =
-    let word = same_is item.word (spelled keyword) (and_parts (is_word item.kind) (is_same item.word (spelled keyword)) is).1 in
+    let word = same_is (spelled keyword) item.token.word (and_parts (is_word_kind item.token.kind) (same_word (spelled keyword) item.token.word) is).1 in
     not_both (is_between low high (number_of (spelled keyword)))
-    (subst (λ w. is_between low high (number_of w) ≡ true) word (and_parts (is_word item.kind) (is_between low high (number_of item.word)) number).1) e
+    (subst (λ w. is_between low high (number_of w) ≡ true) (sym word) (and_parts (is_word_kind item.token.kind) (is_between low high (number_of item.token.word)) number).1) e
 
-open_word : (symbol : Symbol) (item : Item) → are_words symbol ≡ true → is_of symbol item ≡ true → is_open_bracket item.kind ≡ true → ⊥
-open_word symbol item words is bracket = no_open_word item.kind (word_is symbol item words is) bracket
+open_word : (symbol : Symbol) (item : Item) → are_words symbol ≡ true → is_of symbol item ≡ true → is_open_bracket item.token.kind ≡ true → ⊥
+open_word symbol item words is bracket = no_open_word item.token.kind (word_is symbol item words is) bracket
 
-close_word : (symbol : Symbol) (item : Item) → are_words symbol ≡ true → is_of symbol item ≡ true → is_close_bracket item.kind ≡ true → ⊥
-close_word symbol item words is bracket = no_close_word item.kind (word_is symbol item words is) bracket
+close_word : (symbol : Symbol) (item : Item) → are_words symbol ≡ true → is_of symbol item ≡ true → is_close_bracket item.token.kind ≡ true → ⊥
+close_word symbol item words is bracket = no_close_word item.token.kind (word_is symbol item words is) bracket
 
 differ_sound : (one other : Symbol) (item : Item) → differ one other ≡ true → is_of one item ≡ true → is_of other item ≡ true → ⊥
-differ_sound (Keyword one) (Keyword other) item e a b = keywords_differ one other (is_word item.kind) (is_word item.kind) item e a b
-differ_sound (Keyword one) (Mark other) item e a b = keywords_differ one other (is_word item.kind) (is_bare item.kind) item e a b
-differ_sound (Mark one) (Mark other) item e a b = keywords_differ one other (is_bare item.kind) (is_bare item.kind) item e a b
+differ_sound (Keyword one) (Keyword other) item e a b = keywords_differ one other (is_word_kind item.token.kind) (is_word_kind item.token.kind) item e a b
+differ_sound (Keyword one) (Mark other) item e a b = keywords_differ one other (is_word_kind item.token.kind) (is_bare_kind item.token.kind) item e a b
+differ_sound (Mark one) (Mark other) item e a b = keywords_differ one other (is_bare_kind item.token.kind) (is_bare_kind item.token.kind) item e a b
 differ_sound (Number low high) (Keyword other) item e a b = number_keyword low high other item e a b
 differ_sound (Neither one other) (Mark mark) item e a b = neither_mark one other mark item e a b
 differ_sound (Keyword one) OpenBracket item e a b = open_word (Keyword one) item e a b

@@ -1,7 +1,7 @@
 -- What is in a form. Junos OS CLI User Guide, on the commands of operational and of configuration mode.
-use Rattle.std.specs.Prelude.{◌≡◌, ℕ, List, [], ◌∷◌, ◌++◌, Bool, true, false, not, ◌&&◌, ◌||◌, nat_eq, map}
+use Rattle.std.specs.Prelude.{◌≡◌, ℕ, List, [], ◌∷◌, ◌++◌, Bool, true, false, not, ◌&&◌, ◌||◌, map}
 use Rattle.std.specs.List.{list_all, Contains}
-use Rattle.std.specs.Cmp.Lexicographic.{pointwise}
+use Rattle.cfg_lex.specs.Lexed.{is_word_kind, is_open_bracket, is_close_bracket, is_this_word, is_bare_word}
 use Rattle.shell_words.specs.declared.form.Symbol.{Symbol}
 use Rattle.shell_words.specs.declared.form.Symbol.TheVariants.{Keyword, Mark, Word, Neither, Number, OpenBracket, CloseBracket}
 use Rattle.shell_words.specs.declared.form.Part.{Part}
@@ -9,31 +9,27 @@ use Rattle.shell_words.specs.declared.form.Part.TheVariants.{Nothing, One, Many}
 use Rattle.shell_words.specs.declared.form.CommandForm.{CommandForm}
 use Rattle.shell_words.specs.declared.form.TheConstants.{OPERATIONAL, CONFIGURING}
 use Rattle.shell_words.specs.declared.keyword.Keyword as keywords
-use Rattle.shell_words.specs.Item.{Item, is_bare, is_word, is_open_bracket, is_close_bracket}
+use Rattle.shell_words.specs.Item.{Item}
 use Rattle.shell_words.specs.Keyword.{spelled}
 use Rattle.shell_words.specs.Number.{number_of, is_between}
 
--- the two words are the same bytes
-abbrev pub is_same : List ℕ → List ℕ → Bool
-is_same = pointwise nat_eq
-
 -- the token is this word, bare or in quotes
 abbrev pub is_keyword : keywords.Keyword → Item → Bool
-is_keyword keyword item = is_word item.kind && is_same item.word (spelled keyword)
+is_keyword keyword item = is_this_word (spelled keyword) item.token
 
 -- the token is this word, and bare
 abbrev pub is_mark : keywords.Keyword → Item → Bool
-is_mark keyword item = is_bare item.kind && is_same item.word (spelled keyword)
+is_mark keyword item = is_bare_word (spelled keyword) item.token
 
 -- the token is one of these
 abbrev pub is_of : Symbol → Item → Bool
 is_of (Keyword keyword) item = is_keyword keyword item
 is_of (Mark keyword) item = is_mark keyword item
-is_of Word item = is_word item.kind
-is_of (Neither one other) item = is_word item.kind && not (is_mark one item || is_mark other item)
-is_of (Number low high) item = is_word item.kind && is_between low high (number_of item.word)
-is_of OpenBracket item = is_open_bracket item.kind
-is_of CloseBracket item = is_close_bracket item.kind
+is_of Word item = is_word_kind item.token.kind
+is_of (Neither one other) item = is_word_kind item.token.kind && not (is_mark one item || is_mark other item)
+is_of (Number low high) item = is_word_kind item.token.kind && is_between low high (number_of item.token.word)
+is_of OpenBracket item = is_open_bracket item.token.kind
+is_of CloseBracket item = is_close_bracket item.token.kind
 
 -- such a token names something: it is no word of the form itself
 abbrev pub names : Symbol → Bool
@@ -48,7 +44,7 @@ names CloseBracket = false
 -- the words that tokens of a symbol give
 abbrev pub given_by : Bool → List Item → List (List ℕ)
 given_by false items = []
-given_by true items = map (λ (item : Item). item.word) items
+given_by true items = map (λ (item : Item). item.token.word) items
 
 -- the first of the tokens is of this symbol, and what follows is as it says
 pub record IsLed (symbol : Symbol) (Rest : List Item → List (List ℕ) → Type 0) (items : List Item) (words : List (List ℕ)) : Type 0 where

@@ -1,16 +1,14 @@
 -- The words of the commands. Junos OS CLI User Guide, on the commands of operational and of configuration mode.
 use Rattle.std.specs.Prelude.{ℕ, List, codes}
+use Rattle.cfg_lex.specs.declared.mark.Mark.TheVariants.{Pipe}
+use Rattle.cfg_lex.specs.Mark.{mark_word}
+use Rattle.commands.specs.Verb.{keyword}
 use Rattle.shell_words.specs.declared.keyword.Keyword.{Keyword}
 use Rattle.shell_words.specs.declared.keyword.Keyword.TheVariants as key
 
 -- the bytes of a word
 abbrev pub spelled : Keyword → List ℕ
-spelled key.Set = codes "set"
-spelled key.Delete = codes "delete"
-spelled key.Activate = codes "activate"
-spelled key.Deactivate = codes "deactivate"
-spelled key.Protect = codes "protect"
-spelled key.Unprotect = codes "unprotect"
+spelled (key.Change verb) = keyword verb
 spelled key.Edit = codes "edit"
 spelled key.Up = codes "up"
 spelled key.Top = codes "top"
@@ -44,4 +42,4 @@ spelled key.Check = codes "check"
 spelled key.Confirmed = codes "confirmed"
 spelled key.Comment = codes "comment"
 spelled key.AndQuit = codes "and-quit"
-spelled key.Pipe = codes "|"
+spelled key.Pipe = mark_word Pipe

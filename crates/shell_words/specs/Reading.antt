@@ -1,10 +1,11 @@
 -- What a line asks, in operational and in configuration mode.
 -- Junos OS CLI User Guide, on the commands of operational and of configuration mode; the places of faults are this project's own.
-use Rattle.std.specs.Prelude.{◌≡◌, ◌⊎◌, ◌<◌, ◌≤◌, ◌+◌, ℕ, List, [], ◌∷◌, length, map, min, take, drop, Bool, Option, None, Some, unwrap_or, Result, Ok, Err}
+use Rattle.std.specs.Prelude.{◌≡◌, ◌⊎◌, ◌<◌, ◌≤◌, ◌+◌, ℕ, List, [], ◌∷◌, length, map, min, take, drop, Bool}
+use Rattle.std.specs.Prelude.{Option, None, Some, unwrap_or, Result, Ok, Err}
 use Rattle.commands.specs.declared.command.Mode.TheVariants.{Shared}
-use Rattle.commands.specs.declared.command.Op.TheVariants as op
 use Rattle.commands.specs.declared.command.Command.{Command}
 use Rattle.commands.specs.declared.command.Command.TheVariants as command
+use Rattle.commands.specs.Verb.{op_of}
 use Rattle.cfg_lex.specs.declared.token.Token.{Token}
 use Rattle.cfg_lex.specs.declared.fault.LexFault.{LexFault}
 use Rattle.cfg_lex.specs.declared.fault.LexFault.TheVariants as lex
@@ -28,18 +29,14 @@ abbrev pub command_of : Makes → List (List ℕ) → Option Command
 command_of makes.Configure words = Some (command.Configure Shared)
 command_of (makes.ShowActive form) words = Some (command.ShowActive words form)
 command_of makes.Logout words = Some command.Logout
-command_of makes.Set words = Some (command.Change (op.Set words))
-command_of makes.Delete words = Some (command.Change (op.Delete words))
-command_of makes.Activate words = Some (command.Change (op.Activate words))
-command_of makes.Deactivate words = Some (command.Change (op.Deactivate words))
-command_of makes.Protect words = Some (command.Change (op.Protect words))
-command_of makes.Unprotect words = Some (command.Change (op.Unprotect words))
+command_of (makes.Change verb) words = Some (command.Change (op_of verb words))
 command_of makes.Edit words = Some (command.Edit words)
 command_of makes.Up words = Some (command.Up (levels_of words))
 command_of makes.Top words = Some command.Top
 command_of makes.Exit words = Some command.Exit
 command_of makes.ExitAll words = Some command.ExitAll
 command_of (makes.Show form) words = Some (command.Show words form)
+command_of makes.CheckOnly words = Some command.CheckOnly
 command_of makes.Commit words = Some command.Commit
 command_of makes.Unserved words = None
 
@@ -72,12 +69,16 @@ pub record IsMisfit (configuring : Bool) (items : List Item) (end : ℕ) (answer
   pub stops : count < length items → Begins configuring (take (count + 1) items) → ⊥
   pub is : answer ≡ Err (capped (first_place (drop count items) end))
 
+-- a line of these tokens is in no form
+abbrev pub IsInNone : Bool → List Item → Type 0
+IsInNone configuring items = (form : CommandForm) (words : List (List ℕ)) → IsIn configuring items form words → ⊥
+
 -- what these tokens ask, which are all of a line: nothing, what their form makes, or the place where the line fits no form
 abbrev pub AnswersWhole : Bool → List Item → ℕ → Result (Option Command) ℕ → Type 0
 AnswersWhole configuring [] end answer = answer ≡ Ok None
 AnswersWhole configuring (item ∷ items) end answer =
     Asks configuring (item ∷ items) answer
-    ⊎ (((form : CommandForm) (words : List (List ℕ)) → IsIn configuring (item ∷ items) form words → ⊥) × IsMisfit configuring (item ∷ items) end answer)
+    ⊎ (IsInNone configuring (item ∷ items) × IsMisfit configuring (item ∷ items) end answer)
 
 -- where a lexical fault stands; want of memory is none
 abbrev pub place_of : LexFault → ℕ

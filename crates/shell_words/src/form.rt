@@ -4,7 +4,7 @@ ghost use Rattle.std.specs.Prelude.{◌≡◌};
 ghost use Rattle.shell_words.specs.Form.{forms_of, parts_of};
 
 use crate::keyword::Keyword;
-use commands::Form;
+use commands::{Form, Verb};
 
 /// Which tokens may stand at a place of a line.
 #[derive(Clone, Copy, Debug, PartialEq, Eq)]
@@ -39,18 +39,14 @@ pub(crate) enum Makes {
     Configure,
     ShowActive(Form),
     Logout,
-    Set,
-    Delete,
-    Activate,
-    Deactivate,
-    Protect,
-    Unprotect,
+    Change(Verb),
     Edit,
     Up,
     Top,
     Exit,
     ExitAll,
     Show(Form),
+    CheckOnly,
     Commit,
     /// A command that isn't served yet.
     Unserved,
@@ -93,11 +89,12 @@ macro_rules! symbol {
     ($symbol:ident) => { Symbol::$symbol };
 }
 
-/// A part of a form: a keyword, `one` token or `many`.
+/// A part of a form: a keyword, that of a `verb`, `one` token or `many`.
 macro_rules! part {
     (nothing) => { Part::Nothing };
     (one $($symbol:tt)+) => { Part::One(symbol!($($symbol)+)) };
     (many $($symbol:tt)+) => { Part::Many(symbol!($($symbol)+)) };
+    (verb $verb:ident) => { Part::One(Symbol::Keyword(Keyword::Change(Verb::$verb))) };
     ($keyword:ident) => { Part::One(Symbol::Keyword(Keyword::$keyword)) };
 }
 
@@ -123,22 +120,23 @@ static OPERATIONAL: [CommandForm; 9] = [
     form!(Makes::Unserved; [Configure] [Exclusive]),
     form!(Makes::ShowActive(Form::Curly); [Show] [Configuration] [many until Pipe]),
     form!(Makes::ShowActive(Form::SetLines); [Show] [Configuration] [many until Pipe]
-        [one mark Pipe] [Display] [Set]),
-    form!(Makes::Unserved; [Show] [Configuration] [many until Pipe] [one mark Pipe] [Display] [Inheritance]),
+        [one mark Pipe] [Display] [verb Set]),
+    form!(Makes::ShowActive(Form::Inherited); [Show] [Configuration] [many until Pipe]
+        [one mark Pipe] [Display] [Inheritance]),
     form!(Makes::Unserved; [Show] [System] [Commit]),
     form!(Makes::Logout; [Exit]),
     form!(Makes::Logout; [Quit]),
 ];
 
 static CONFIGURING: [CommandForm; 43] = [
-    form!(Makes::Set; [Set] [one Word] [many Word]),
-    form!(Makes::Set; [Set] [many Word] [one OpenBracket] [one Word] [many Word] [one CloseBracket]),
-    form!(Makes::Delete; [Delete] [one Word] [many Word]),
-    form!(Makes::Delete; [Delete] [many Word] [one OpenBracket] [one Word] [many Word] [one CloseBracket]),
-    form!(Makes::Activate; [Activate] [one Word] [many Word]),
-    form!(Makes::Deactivate; [Deactivate] [one Word] [many Word]),
-    form!(Makes::Protect; [Protect] [one Word] [many Word]),
-    form!(Makes::Unprotect; [Unprotect] [one Word] [many Word]),
+    form!(Makes::Change(Verb::Set); [verb Set] [one Word] [many Word]),
+    form!(Makes::Change(Verb::Set); [verb Set] [many Word] [one OpenBracket] [one Word] [many Word] [one CloseBracket]),
+    form!(Makes::Change(Verb::Delete); [verb Delete] [one Word] [many Word]),
+    form!(Makes::Change(Verb::Delete); [verb Delete] [many Word] [one OpenBracket] [one Word] [many Word] [one CloseBracket]),
+    form!(Makes::Change(Verb::Activate); [verb Activate] [one Word] [many Word]),
+    form!(Makes::Change(Verb::Deactivate); [verb Deactivate] [one Word] [many Word]),
+    form!(Makes::Change(Verb::Protect); [verb Protect] [one Word] [many Word]),
+    form!(Makes::Change(Verb::Unprotect); [verb Unprotect] [one Word] [many Word]),
     form!(Makes::Edit; [Edit] [one Word] [many Word]),
     form!(Makes::Up; [Up]),
     form!(Makes::Up; [Up] [one number 1 to 4294967295]),
@@ -147,10 +145,10 @@ static CONFIGURING: [CommandForm; 43] = [
     form!(Makes::Exit; [Quit]),
     form!(Makes::ExitAll; [Exit] [ConfigurationMode]),
     form!(Makes::Show(Form::Curly); [Show] [many until Pipe]),
-    form!(Makes::Show(Form::SetLines); [Show] [many until Pipe] [one mark Pipe] [Display] [Set]),
-    form!(Makes::Unserved; [Show] [many until Pipe] [one mark Pipe] [Display] [Inheritance]),
+    form!(Makes::Show(Form::SetLines); [Show] [many until Pipe] [one mark Pipe] [Display] [verb Set]),
+    form!(Makes::Show(Form::Inherited); [Show] [many until Pipe] [one mark Pipe] [Display] [Inheritance]),
     form!(Makes::Commit; [Commit]),
-    form!(Makes::Unserved; [Commit] [Check]),
+    form!(Makes::CheckOnly; [Commit] [Check]),
     form!(Makes::Unserved; [Commit] [Confirmed]),
     form!(Makes::Unserved; [Commit] [Confirmed] [AndQuit]),
     form!(Makes::Unserved; [Commit] [Confirmed] [Comment] [one Word]),
@@ -171,7 +169,7 @@ static CONFIGURING: [CommandForm; 43] = [
     form!(Makes::Unserved; [Load] [Merge] [Terminal]),
     form!(Makes::Unserved; [Load] [Override] [Terminal]),
     form!(Makes::Unserved; [Load] [Replace] [Terminal]),
-    form!(Makes::Unserved; [Load] [Set] [Terminal]),
+    form!(Makes::Unserved; [Load] [verb Set] [Terminal]),
     form!(Makes::Unserved; [Rollback]),
     form!(Makes::Unserved; [Rollback] [one number 0 to 4294967295]),
     form!(Makes::Unserved; [Update]),

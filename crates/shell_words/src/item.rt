@@ -2,9 +2,10 @@
 
 ghost use Rattle.std.specs.Prelude.{◌≡◌, ◌&&◌, ◌≤◌, ◌∷◌, ◌++◌, [], length, map, IfOk, OnOk};
 ghost use Rattle.std.specs.List.{All};
+ghost use Rattle.cfg_lex.specs.Lexed.{is_close_bracket, is_open_bracket, is_word_kind};
 ghost use Rattle.cfg_lex.specs.Tokens.{IsPlaced};
 ghost use Rattle.shell_words.specs.Form.{is_keyword, is_mark};
-ghost use Rattle.shell_words.specs.Item.{is_close_bracket, is_open_bracket, is_word, item_in};
+ghost use Rattle.shell_words.specs.Item.{item_in};
 ghost use Rattle.shell_words.specs.Number.{is_between, number_of};
 
 use crate::keyword::Keyword;
@@ -26,11 +27,12 @@ pub(crate) struct Item<'a> {
 impl<'a> Model for Item<'a> {
     ghost use Rattle.std.specs.Prelude.{◌≤◌, length};
     ghost use Rattle.std.specs.Cow.{cow_slice_items};
+    ghost use Rattle.cfg_lex.specs.Lexed.{lexed};
     ghost use Rattle.shell_words.specs.Item.{Item};
 
     ghost Value = { Item };
 
-    ghost view = { λ i. record { kind = i.kind; word = cow_slice_items i.word; place = i.place } };
+    ghost view = { λ i. record { token = lexed i.kind (cow_slice_items i.word); place = i.place } };
 
     ghost invariant = { λ i. length (cow_slice_items i.word) ≤ 255 };
 }
@@ -49,8 +51,8 @@ impl<'a> Item<'a> {
     }
 
     fn word(&self) -> &[u8]
-        ensures word { result.now ≡ self.now.word }
-        ensures short { length self.now.word ≤ 255 }
+        ensures word { result.now ≡ self.now.token.word }
+        ensures short { length self.now.token.word ≤ 255 }
     {
         &self.word
     }
@@ -63,40 +65,40 @@ impl<'a> Item<'a> {
     }
 
     pub(crate) fn is_word(&self) -> bool
-        ensures { result ≡ is_word self.now.kind }
+        ensures { result ≡ is_word_kind self.now.token.kind }
     {
-        matches!(self.kind, TokenKind::Bare | TokenKind::Quoted)
+        self.kind.is_word()
     }
 
     pub(crate) fn is_open_bracket(&self) -> bool
-        ensures { result ≡ is_open_bracket self.now.kind }
+        ensures { result ≡ is_open_bracket self.now.token.kind }
     {
-        matches!(self.kind, TokenKind::OpenBracket)
+        self.kind.is_open_bracket()
     }
 
     pub(crate) fn is_close_bracket(&self) -> bool
-        ensures { result ≡ is_close_bracket self.now.kind }
+        ensures { result ≡ is_close_bracket self.now.token.kind }
     {
-        matches!(self.kind, TokenKind::CloseBracket)
+        self.kind.is_close_bracket()
     }
 
     /// Whether the token is this word, bare or in quotes.
     pub(crate) fn is_keyword(&self, keyword: Keyword) -> bool
         ensures { result ≡ is_keyword keyword self.now }
     {
-        self.is_word() && self.word() == keyword.bytes()
+        self.is_word() && keyword.bytes() == self.word()
     }
 
     /// Whether the token is this word, and bare.
     pub(crate) fn is_mark(&self, keyword: Keyword) -> bool
         ensures { result ≡ is_mark keyword self.now }
     {
-        matches!(self.kind, TokenKind::Bare) && self.word() == keyword.bytes()
+        self.kind.is_bare() && keyword.bytes() == self.word()
     }
 
     /// Whether the token is a word of digits, of a number between these two or one of them.
     pub(crate) fn is_number(&self, low: u32, high: u32) -> bool
-        ensures { result ≡ (is_word self.now.kind && is_between low high (number_of self.now.word)) }
+        ensures { result ≡ (is_word_kind self.now.token.kind && is_between low high (number_of self.now.token.word)) }
     {
         self.is_word()
             && match number_of(self.word()) {
@@ -107,7 +109,7 @@ impl<'a> Item<'a> {
 
     /// Puts the token's word at the end of the words.
     pub(crate) fn give(&self, alloc: Global, words: &mut Words) -> Result<(), NoMemory>
-        ensures { OnOk result (words.new ≡ words.old ++ self.now.word ∷ []) }
+        ensures { OnOk result (words.new ≡ words.old ++ self.now.token.word ∷ []) }
     {
         words.push(Word::short(alloc, self.word())?)
     }

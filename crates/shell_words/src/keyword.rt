@@ -3,15 +3,14 @@
 ghost use Rattle.std.specs.Prelude.{◌≡◌};
 ghost use Rattle.shell_words.specs.Keyword.{spelled};
 
+use cfg_lex::Mark;
+use commands::Verb;
+
 /// A word that a command is written with.
 #[derive(Clone, Copy, Debug, PartialEq, Eq)]
 pub(crate) enum Keyword {
-    Set,
-    Delete,
-    Activate,
-    Deactivate,
-    Protect,
-    Unprotect,
+    /// The keyword of a kind of change.
+    Change(Verb),
     Edit,
     Up,
     Top,
@@ -54,12 +53,7 @@ impl Keyword {
         ensures { result.now ≡ spelled self }
     {
         match self {
-            Keyword::Set => b"set",
-            Keyword::Delete => b"delete",
-            Keyword::Activate => b"activate",
-            Keyword::Deactivate => b"deactivate",
-            Keyword::Protect => b"protect",
-            Keyword::Unprotect => b"unprotect",
+            Keyword::Change(verb) => verb.keyword(),
             Keyword::Edit => b"edit",
             Keyword::Up => b"up",
             Keyword::Top => b"top",
@@ -93,7 +87,7 @@ impl Keyword {
             Keyword::Confirmed => b"confirmed",
             Keyword::Comment => b"comment",
             Keyword::AndQuit => b"and-quit",
-            Keyword::Pipe => b"|",
+            Keyword::Pipe => Mark::Pipe.word(),
         }
     }
 }

@@ -12,7 +12,7 @@ use crate::number::number_of;
 use crate::walk::{form_for, furthest, give};
 use cfg_base::{NoMemory, Words};
 use cfg_lex::{LexFault, cut_text};
-use commands::{Command, Mode, Op};
+use commands::{Command, Mode};
 use std::alloc::Global;
 use thiserror::Error;
 
@@ -52,18 +52,14 @@ fn command_of(makes: Makes, words: Words) -> Option<Command>
         Makes::Configure => Some(Command::Configure(Mode::Shared)),
         Makes::ShowActive(form) => Some(Command::ShowActive { words, form }),
         Makes::Logout => Some(Command::Logout),
-        Makes::Set => Some(Command::Change(Op::Set(words))),
-        Makes::Delete => Some(Command::Change(Op::Delete(words))),
-        Makes::Activate => Some(Command::Change(Op::Activate(words))),
-        Makes::Deactivate => Some(Command::Change(Op::Deactivate(words))),
-        Makes::Protect => Some(Command::Change(Op::Protect(words))),
-        Makes::Unprotect => Some(Command::Change(Op::Unprotect(words))),
+        Makes::Change(verb) => Some(Command::Change(verb.op_of(words))),
         Makes::Edit => Some(Command::Edit(words)),
         Makes::Up => Some(Command::Up(levels_of(&words))),
         Makes::Top => Some(Command::Top),
         Makes::Exit => Some(Command::Exit),
         Makes::ExitAll => Some(Command::ExitAll),
         Makes::Show(form) => Some(Command::Show { words, form }),
+        Makes::CheckOnly => Some(Command::CheckOnly),
         Makes::Commit => Some(Command::Commit),
         Makes::Unserved => None,
     }
