@@ -11,6 +11,7 @@ use Rattle.cfg_lex.specs.declared.fault.LexFault.TheVariants as lexical
 use Rattle.cfg_lex.specs.declared.token.Token.{Token}
 use Rattle.cfg_lex.specs.declared.token.TokenKind.{TokenKind}
 use Rattle.cfg_lex.specs.declared.token.TokenKind.TheVariants as kind
+use Rattle.cfg_lex.specs.Lexed.{Lexed, lexed_in}
 use Rattle.cfg_lex.specs.Tokens.{IsTokens, HasAnswer}
 use Rattle.cfg_lex.specs.Tokens as lex
 use Rattle.cfg_lex.proofs.LexLemmas.{one_list}
@@ -27,7 +28,7 @@ use Rattle.curly_grammar.specs.declared.fault.Why.{Why}
 use Rattle.curly_grammar.specs.declared.fault.Why.TheVariants.{Unexpected, Unknown, BadValue}
 use Rattle.curly_grammar.specs.declared.phase.Phase.{Phase}
 use Rattle.curly_grammar.specs.declared.phase.Phase.TheVariants.{Between, Marked, Naming, Valuing, Listing, After}
-use Rattle.curly_grammar.specs.Grammar.{Lexed, sign, lexed_in, Level, Derives, Begins, Reads}
+use Rattle.curly_grammar.specs.Grammar.{sign, Level, Derives, Begins, Reads}
 use Rattle.curly_grammar.specs.Reading.{State, start, IsFinal, Run, silent, and_then, Turn, turned, begun_paths, IsValued, TakesWord, TakesSemicolon, TakesOpenBrace, TakesCloseBrace, TakesOpenBracket, TakesCloseBracket, TakesWordTo, TakesBy, Takes, Goes}
 use Rattle.curly_grammar.specs.Fault.{why_not, paths_met, IsEndOfBeginning, byte_of, IsRefused, HasTooMany, of_lexical, of_reason, IsLeftmostFault}
 use Rattle.curly_grammar.proofs.RunLemmas.{run_of, goes_join, goes_one, goes_once}

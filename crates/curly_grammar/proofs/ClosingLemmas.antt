@@ -5,6 +5,7 @@ use Rattle.cfg_base.specs.declared.kind.Shape.{Shape}
 use Rattle.cfg_base.specs.declared.kind.Shape.TheVariants.{Container, Fixed, Keyed, Bare, Leaf, Flag, Many}
 use Rattle.cfg_base.specs.Words.{joined}
 use Rattle.cfg_lex.specs.declared.token.TokenKind.TheVariants as kind
+use Rattle.cfg_lex.specs.Lexed.{Lexed}
 use Rattle.cfg_schema.specs.declared.answer.Child.{Child}
 use Rattle.cfg_schema.specs.declared.answer.Child.TheVariants as begun
 use Rattle.cfg_schema.specs.Profile.{row_of, head_of, name_of, StandsBelow}
@@ -16,7 +17,7 @@ use Rattle.cfg_tree.specs.Tree.{step_of}
 use Rattle.curly_grammar.specs.declared.phase.Marks.{Marks}
 use Rattle.curly_grammar.specs.declared.phase.Phase.{Phase}
 use Rattle.curly_grammar.specs.declared.phase.Phase.TheVariants.{Between, Marked, Naming, Valuing, Listing, After}
-use Rattle.curly_grammar.specs.Grammar.{Lexed, sign, Level}
+use Rattle.curly_grammar.specs.Grammar.{sign, Level}
 use Rattle.curly_grammar.specs.Reading.{State, state, IsFinal, Run, silent, and_then, Turn, turned, quiet, whole, below, child_at, HasRows, BeginsAs, BeginsStep, NamesAs, NamesStep, TakesWord, Takes, Goes}
 use Rattle.curly_grammar.proofs.RunLemmas.{goes_more}
 use Rattle.curly_grammar.proofs.HeadLemmas.{fixed_begun, row_there}

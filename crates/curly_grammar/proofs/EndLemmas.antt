@@ -7,8 +7,9 @@ use Rattle.std.proofs.lemmas.Option.{slice_get-get_or, slice_get_past}
 use Rattle.cfg_lex.specs.declared.token.Token.{Token}
 use Rattle.cfg_lex.specs.declared.token.TokenKind.{TokenKind}
 use Rattle.cfg_lex.specs.declared.token.TokenKind.TheVariants as kind
+use Rattle.cfg_lex.specs.Lexed.{Lexed, lexed_in, is_word_kind}
 use Rattle.cfg_lex.specs.Tokens.{word_spelled, bytes_in}
-use Rattle.curly_grammar.specs.Grammar.{Lexed, sign, lexed_in, is_word_kind, Derives, Begins}
+use Rattle.curly_grammar.specs.Grammar.{sign, Derives, Begins}
 use Rattle.curly_grammar.specs.Reading.{start, IsFinal, Run, and_then, Takes, Goes}
 use Rattle.curly_grammar.specs.Fault.{IsEndOfBeginning}
 use Rattle.curly_grammar.proofs.RunLemmas.{run_of, goes_join, goes_split, goes_once}

@@ -10,6 +10,7 @@ use Rattle.cfg_base.specs.Words.{joined}
 use Rattle.cfg_entries.specs.EntryMap.{Pair}
 use Rattle.cfg_lex.specs.declared.token.TokenKind.{TokenKind}
 use Rattle.cfg_lex.specs.declared.token.TokenKind.TheVariants as kind
+use Rattle.cfg_lex.specs.Lexed.{Lexed, is_word_kind}
 use Rattle.cfg_schema.specs.declared.answer.Child.{Child}
 use Rattle.cfg_schema.specs.declared.answer.Child.TheVariants as begun
 use Rattle.cfg_schema.specs.Profile.{row_of}
@@ -20,7 +21,7 @@ use Rattle.cfg_tree.specs.Resolve.{AllSpelled}
 use Rattle.curly_grammar.specs.declared.phase.Marks.{Marks}
 use Rattle.curly_grammar.specs.declared.phase.Phase.{Phase}
 use Rattle.curly_grammar.specs.declared.phase.Phase.TheVariants.{Between, Marked, Naming, Valuing, Listing, After}
-use Rattle.curly_grammar.specs.Grammar.{Lexed, sign, IsWord, is_word_kind, is_inactive, is_protect, is_replace, is_mark, Part, One, Two, Listed, Text, End, Short, Block, spell_part, spell, head_of, AreWords, word_of, StandsFor, Level, LeadsTo, is_open, said, LeadTo, Says, tagged, Tells, top_level, Derives, next_of}
+use Rattle.curly_grammar.specs.Grammar.{sign, IsWord, is_inactive, is_protect, is_replace, is_mark, Part, One, Two, Listed, Text, End, Short, Block, spell_part, spell, head_of, AreWords, word_of, StandsFor, Level, LeadsTo, is_open, said, LeadTo, Says, tagged, Tells, top_level, Derives, next_of}
 use Rattle.curly_grammar.specs.Reading.{no_marks, with_mark, State, state, Run, silent, Turn, turned, quiet, item_of, tag_of, whole, below, child_at, HasRows, BeginsAs, BeginsStep, NamesAs, NamesStep, TakesFirst, TakesAfter, start, TakesWord, TakesWordTo, TakesBy, Takes, Goes}
 use Rattle.curly_grammar.proofs.RunLemmas.{run_of, goes_join, goes_one, goes_more}
 use Rattle.curly_grammar.proofs.HeadLemmas.{row_stands, row_head, row_alone, fixed_wants_name, rows_there}

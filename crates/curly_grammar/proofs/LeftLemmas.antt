@@ -10,6 +10,7 @@ use Rattle.cfg_base.specs.Words.{joined}
 use Rattle.cfg_entries.specs.EntryMap.{Pair}
 use Rattle.cfg_lex.specs.declared.token.TokenKind.{TokenKind}
 use Rattle.cfg_lex.specs.declared.token.TokenKind.TheVariants as kind
+use Rattle.cfg_lex.specs.Lexed.{Lexed, is_word_kind}
 use Rattle.cfg_schema.specs.declared.answer.Child.{Child}
 use Rattle.cfg_schema.specs.declared.answer.Child.TheVariants as begun
 use Rattle.cfg_schema.specs.Profile.{row_of}
@@ -19,7 +20,7 @@ use Rattle.cfg_tree.specs.Resolve.{AllSpelled}
 use Rattle.curly_grammar.specs.declared.phase.Marks.{Marks}
 use Rattle.curly_grammar.specs.declared.phase.Phase.{Phase}
 use Rattle.curly_grammar.specs.declared.phase.Phase.TheVariants.{Between, Marked, Naming, Valuing, Listing, After}
-use Rattle.curly_grammar.specs.Grammar.{Lexed, sign, IsWord, is_word_kind, is_mark, Part, One, Two, Listed, Text, End, Short, Block, spell_part, spell, head_of, IsValue, AreValues, word_of, StandsFor, Level, top_level, LeadsTo, is_open, said, LeadTo, Says, tagged, Tells, Derives}
+use Rattle.curly_grammar.specs.Grammar.{sign, IsWord, is_mark, Part, One, Two, Listed, Text, End, Short, Block, spell_part, spell, head_of, IsValue, AreValues, word_of, StandsFor, Level, top_level, LeadsTo, is_open, said, LeadTo, Says, tagged, Tells, Derives}
 use Rattle.curly_grammar.specs.Reading.{no_marks, with_mark, State, state, start, IsFinal, Run, Turn, quiet, item_of, tag_of, whole, below, child_at, BeginsAs, BeginsStep, NamesAs, NamesStep, TakesFirst, TakesAfter, IsValued, TakesWord, TakesSemicolon, TakesOpenBrace, Leaves, TakesCloseBrace, TakesOpenBracket, TakesCloseBracket, TakesWordTo, TakesBy, Takes, Goes}
 use Rattle.curly_grammar.proofs.HeadLemmas.{row_alone}
 use Rattle.curly_grammar.proofs.GoesLemmas.{with_marks, item_said, tag_said, other_shape}

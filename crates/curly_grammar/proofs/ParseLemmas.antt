@@ -7,6 +7,7 @@ use Rattle.std.proofs.lemmas.Option.{slice_get-get_or, slice_get_past}
 use Rattle.cfg_base.specs.declared.path.Step.{Step}
 use Rattle.cfg_lex.specs.declared.token.Token.{Token}
 use Rattle.cfg_lex.specs.declared.token.TokenKind.TheVariants as kind
+use Rattle.cfg_lex.specs.Lexed.{Lexed, lexed_in}
 use Rattle.cfg_lex.specs.Tokens.{IsTokens}
 use Rattle.cfg_tree.specs.declared.limit.TheConstants.{MAX_STATEMENTS}
 use Rattle.cfg_tree.specs.Statements.{Statements, size_of}
@@ -23,7 +24,7 @@ use Rattle.curly_grammar.specs.declared.phase.Phase.{Phase}
 use Rattle.curly_grammar.specs.declared.phase.Phase.TheVariants as phase
 use Rattle.curly_grammar.specs.declared.reader.Reader.{Reader}
 use Rattle.curly_grammar.specs.Fault.{why_not, paths_met, byte_of, IsLeftmostFault}
-use Rattle.curly_grammar.specs.Grammar.{Lexed, Level, sign, lexed_in, Derives}
+use Rattle.curly_grammar.specs.Grammar.{Level, sign, Derives}
 use Rattle.curly_grammar.specs.Held.{run_in, state_in, IsTaken, IsPlacedPhase, IsPlacedReader}
 use Rattle.curly_grammar.specs.Parsed.{IsEndAt, IsRead, IsRefusal, Makes, Parses}
 use Rattle.curly_grammar.specs.Reading.{start, IsFinal, Run, begun_paths, Takes, Goes}

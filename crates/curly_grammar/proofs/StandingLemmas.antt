@@ -13,6 +13,7 @@ use Rattle.cfg_base.proofs.WordLemmas.{joined-distinct, joined-all, joined-some}
 use Rattle.cfg_entries.specs.EntryMap.{Pair}
 use Rattle.cfg_lex.specs.declared.token.TokenKind.{TokenKind}
 use Rattle.cfg_lex.specs.declared.token.TokenKind.TheVariants as kind
+use Rattle.cfg_lex.specs.Lexed.{Lexed}
 use Rattle.cfg_schema.specs.declared.answer.Child.{Child}
 use Rattle.cfg_schema.specs.declared.answer.Child.TheVariants as begun
 use Rattle.cfg_schema.specs.declared.place.Place.{Place}
@@ -35,7 +36,7 @@ use Rattle.cfg_tree.proofs.TypedLemmas.{place_snoc, follows_snoc}
 use Rattle.curly_grammar.specs.declared.phase.Marks.{Marks}
 use Rattle.curly_grammar.specs.declared.phase.Phase.{Phase}
 use Rattle.curly_grammar.specs.declared.phase.Phase.TheVariants.{Between, Marked, Naming, Valuing, Listing, After}
-use Rattle.curly_grammar.specs.Grammar.{Lexed, Level, is_mark, is_open}
+use Rattle.curly_grammar.specs.Grammar.{Level, is_mark, is_open}
 use Rattle.curly_grammar.specs.Reading as reading
 use Rattle.curly_grammar.specs.Reading.{State, start, Run, Turn, turned, quiet, whole, item_of, below, child_at, HasRows, BeginsAs, BeginsStep, NamesAs, NamesStep, TakesFirst, TakesAfter, TakesWord, TakesSemicolon, TakesOpenBrace, Leaves, TakesCloseBrace, TakesOpenBracket, TakesCloseBracket, TakesWordTo, TakesBy, Takes, Goes}
 use Rattle.curly_grammar.proofs.GoesLemmas.{other_shape}

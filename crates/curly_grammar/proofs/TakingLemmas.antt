@@ -7,6 +7,7 @@ use Rattle.cfg_base.specs.declared.value.Value.{Value}
 use Rattle.cfg_entries.specs.EntryMap.{Pair}
 use Rattle.cfg_lex.specs.declared.token.TokenKind.{TokenKind}
 use Rattle.cfg_lex.specs.declared.token.TokenKind.TheVariants as kind
+use Rattle.cfg_lex.specs.Lexed.{Lexed, is_word_kind, lexed}
 use Rattle.cfg_schema.specs.Profile.{row_of}
 use Rattle.cfg_tree.specs.Gather.{is_many}
 use Rattle.curly_grammar.specs.declared.effect.Effect.{Effect}
@@ -17,9 +18,9 @@ use Rattle.curly_grammar.specs.declared.phase.Phase.TheVariants.{Between, Marked
 use Rattle.curly_grammar.specs.declared.reader.Reader.{Reader}
 use Rattle.curly_grammar.specs.declared.stop.Stop.{Stop}
 use Rattle.curly_grammar.specs.declared.stop.Stop.TheVariants.{Refused, NoMemory}
-use Rattle.curly_grammar.specs.Answer.{Answers, lexed, turn_of}
+use Rattle.curly_grammar.specs.Answer.{Answers, turn_of}
 use Rattle.curly_grammar.specs.Fault.{why_no_word}
-use Rattle.curly_grammar.specs.Grammar.{Lexed, Level, is_open, is_word_kind}
+use Rattle.curly_grammar.specs.Grammar.{Level, is_open}
 use Rattle.curly_grammar.specs.Held.{run_in, state_in, Follows, IsTaken, IsNotTaken, HasTaken, HasTakenWord, HasEntered, HasLeft, IsListed, IsListEnd}
 use Rattle.curly_grammar.specs.Reading.{State, state, Run, Turn, silent, quiet, whole, TakesWord, TakesSemicolon, TakesOpenBrace, Leaves, TakesCloseBrace, TakesOpenBracket, and_then, turned}
 use Rattle.curly_grammar.proofs.RunLemmas.{run_of}

@@ -1,7 +1,6 @@
 -- What the reader's private functions answer.
 use Rattle.std.specs.Prelude.{◌≡◌, ℕ, List, Bool, Some, Result, Ok, Err}
 use Rattle.cfg_base.specs.declared.kind.Kind.{Kind}
-use Rattle.cfg_lex.specs.declared.token.TokenKind.{TokenKind}
 use Rattle.cfg_schema.specs.Place.{place_of}
 use Rattle.cfg_values.specs.Spelling.{IsSpelling, IsCanonicalOf}
 use Rattle.cfg_tree.specs.Typed.{IsNameOf}
@@ -11,12 +10,8 @@ use Rattle.curly_grammar.specs.declared.fault.Why.{Why}
 use Rattle.curly_grammar.specs.declared.fault.Why.TheVariants.{BadValue}
 use Rattle.curly_grammar.specs.declared.stop.Stop.{Stop}
 use Rattle.curly_grammar.specs.declared.stop.Stop.TheVariants.{Refused, NoMemory}
-use Rattle.curly_grammar.specs.Grammar.{Level, Lexed}
+use Rattle.curly_grammar.specs.Grammar.{Level}
 use Rattle.curly_grammar.specs.Reading.{Turn, quiet, whole}
-
--- a token of this kind that means this word
-abbrev pub lexed : TokenKind → List ℕ → Lexed
-lexed kind word = record { kind = kind; word = word }
 
 -- the level has the path that leads to its row
 abbrev pub IsPlaced : Level → Type 0

@@ -1,5 +1,6 @@
 -- The leftmost fault of a text that isn't read. Its place is told by the grammar alone. Which faults there are is this project's own.
-use Rattle.std.specs.Prelude.{◌≡◌, ◌≤◌, ◌<◌, ◌+◌, ℕ, List, [], ◌++◌, length, map, take, min, Bool, true, false, Option, Some, None, slice_get}
+use Rattle.std.specs.Prelude.{◌≡◌, ◌≤◌, ◌<◌, ◌+◌, ℕ, List, [], ◌++◌, length, map, take, min, slice_get}
+use Rattle.std.specs.Prelude.{Bool, true, false, Option, Some, None}
 use Rattle.cfg_base.specs.declared.path.Step.{Step}
 use Rattle.cfg_base.specs.declared.value.Value.{Value}
 use Rattle.cfg_entries.specs.EntryMap.{Pair}
@@ -8,6 +9,7 @@ use Rattle.cfg_lex.specs.declared.fault.LexFault.TheVariants as lexical
 use Rattle.cfg_lex.specs.declared.token.Token.{Token}
 use Rattle.cfg_lex.specs.declared.token.TokenKind.{TokenKind}
 use Rattle.cfg_lex.specs.declared.token.TokenKind.TheVariants as kind
+use Rattle.cfg_lex.specs.Lexed.{Lexed, lexed_in}
 use Rattle.cfg_lex.specs.Tokens.{IsTokens}
 use Rattle.cfg_lex.specs.Tokens as lex
 use Rattle.cfg_schema.specs.declared.answer.Child.{Child}
@@ -20,7 +22,7 @@ use Rattle.curly_grammar.specs.declared.fault.Why.{Why}
 use Rattle.curly_grammar.specs.declared.fault.Why.TheVariants.{Unexpected, Unknown, BadValue}
 use Rattle.curly_grammar.specs.declared.phase.Phase.{Phase}
 use Rattle.curly_grammar.specs.declared.phase.Phase.TheVariants.{Between, Marked, Naming, Valuing, Listing, After}
-use Rattle.curly_grammar.specs.Grammar.{Lexed, Level, lexed_in, is_open, is_mark, Derives, Begins}
+use Rattle.curly_grammar.specs.Grammar.{Level, is_open, is_mark, Derives, Begins}
 use Rattle.curly_grammar.specs.Reading.{State, Run, start, child_at, Goes, begun_paths}
 
 -- a word that doesn't begin a step: no row takes it, or it is a bare name that isn't of its kind
@@ -62,8 +64,8 @@ why_not s (Some token) = why_by token.kind s token
 abbrev pub paths_met : Run → List (List Step)
 paths_met run = map (λ (item : Pair Value). item.0) run.items ++ begun_paths run.state.phase
 
--- where tokens cease to be a text of the grammar: those before the place begin one, and with the token at the place they begin none; or all begin
--- one and are none
+-- where tokens cease to be a text of the grammar: those before the place begin one, and with the token at the place they begin none; or all
+-- begin one and are none
 pub record IsEndOfBeginning (tokens : List Lexed) (at : ℕ) : Type 0 where
   pub within : at ≤ length tokens
   pub begins : Begins (take at tokens)

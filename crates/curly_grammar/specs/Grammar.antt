@@ -1,22 +1,25 @@
--- Curly text: statements that end in a semicolon, or hold others in braces. Junos OS CLI User Guide, on the statement hierarchy and on inactive and
--- protected statements; that several steps may stand in one statement, and which words a step has, is this project's own.
+-- Curly text: statements that end in a semicolon, or hold others in braces. Junos OS CLI User Guide, on the statement hierarchy and on
+-- inactive and protected statements; that several steps may stand in one statement, and which words a step has, is this project's own.
 --
 --     text      = { statement }
 --     statement = { "inactive:" | "protect:" | "replace:" } step { step } end
 --     end       = ";" | "{" text "}"
-use Rattle.std.specs.Prelude.{◌≡◌, ◌<◌, ℕ, List, [], ◌∷◌, ◌++◌, length, map, Bool, true, false, ◌||◌, ◌&&◌, codes, if◌then◌else◌}
+use Rattle.std.specs.Prelude.{◌≡◌, ◌<◌, ℕ, List, [], ◌∷◌, ◌++◌, length, map, Bool, true, false, ◌||◌, if◌then◌else◌}
 use Rattle.std.specs.List.{flat_map, list_any, AllByRecursion}
 use Rattle.cfg_base.specs.declared.kind.Kind.{Kind}
 use Rattle.cfg_base.specs.declared.kind.Shape.{Shape}
 use Rattle.cfg_base.specs.declared.kind.Shape.TheVariants.{Container, Fixed, Keyed, Bare, Leaf, Flag, Many}
 use Rattle.cfg_base.specs.declared.path.Step.{Step}
 use Rattle.cfg_base.specs.declared.value.Value.{Value}
-use Rattle.cfg_base.specs.Words.{joined, same_word}
+use Rattle.cfg_base.specs.Words.{joined}
 use Rattle.cfg_entries.specs.EntryMap.{Pair}
 use Rattle.cfg_lex.specs.declared.token.Token.{Token}
 use Rattle.cfg_lex.specs.declared.token.TokenKind.{TokenKind}
 use Rattle.cfg_lex.specs.declared.token.TokenKind.TheVariants as kind
-use Rattle.cfg_lex.specs.Tokens.{IsTokens, word_in}
+use Rattle.cfg_lex.specs.declared.mark.Mark.TheVariants.{Inactive, Protect, Replace}
+use Rattle.cfg_lex.specs.Lexed.{Lexed, lexed, lexed_in, is_word_kind, is_bare_word}
+use Rattle.cfg_lex.specs.Mark.{mark_word}
+use Rattle.cfg_lex.specs.Tokens.{IsTokens}
 use Rattle.cfg_schema.specs.declared.answer.Child.TheVariants as begun
 use Rattle.cfg_schema.specs.Profile.{row_of, is_level}
 use Rattle.cfg_schema.specs.Child.{child_of}
@@ -29,54 +32,23 @@ use Rattle.cfg_tree.specs.Typed.{IsNameOf}
 use Rattle.cfg_tree.specs.Resolve.{AllSpelled}
 pub use Rattle.curly_grammar.specs.declared.level.Level.{Level}
 
--- a token, and the word that it means; of a sign the empty one
-pub record Lexed : Type 0 where
-  pub kind : TokenKind
-  pub word : List ℕ
-
--- a token as it means in its text
-abbrev pub lexed_in : List ℕ → Token → Lexed
-lexed_in text token = record { kind = token.kind; word = word_in text token }
-
 -- the signs
 abbrev pub sign : TokenKind → Lexed
-sign kind = record { kind = kind; word = [] }
+sign kind = lexed kind []
 
--- a token that is a word, bare or in quotes
-abbrev pub is_word_kind : TokenKind → Bool
-is_word_kind kind.OpenBrace = false
-is_word_kind kind.CloseBrace = false
-is_word_kind kind.OpenBracket = false
-is_word_kind kind.CloseBracket = false
-is_word_kind kind.Semicolon = false
-is_word_kind kind.Bare = true
-is_word_kind kind.Quoted = true
-
-abbrev pub is_bare_kind : TokenKind → Bool
-is_bare_kind kind.OpenBrace = false
-is_bare_kind kind.CloseBrace = false
-is_bare_kind kind.OpenBracket = false
-is_bare_kind kind.CloseBracket = false
-is_bare_kind kind.Semicolon = false
-is_bare_kind kind.Bare = true
-is_bare_kind kind.Quoted = false
-
+-- the token is a word
 abbrev pub IsWord : Lexed → Type 0
 IsWord token = is_word_kind token.kind ≡ true
 
--- the bare word is this one; the same word in quotes is none of the marks
-abbrev pub is_bare_word : List ℕ → Lexed → Bool
-is_bare_word word token = is_bare_kind token.kind && same_word word token.word
-
--- the marks that a statement may have in front
+-- the marks that a statement may have in front; the same words in quotes are none
 abbrev pub is_inactive : Lexed → Bool
-is_inactive token = is_bare_word (codes "inactive:") token
+is_inactive token = is_bare_word (mark_word Inactive) token
 
 abbrev pub is_protect : Lexed → Bool
-is_protect token = is_bare_word (codes "protect:") token
+is_protect token = is_bare_word (mark_word Protect) token
 
 abbrev pub is_replace : Lexed → Bool
-is_replace token = is_bare_word (codes "replace:") token
+is_replace token = is_bare_word (mark_word Replace) token
 
 abbrev pub is_mark : Lexed → Bool
 is_mark token = is_inactive token || (is_protect token || is_replace token)
@@ -87,7 +59,8 @@ pub data Part : Type 0 where
   Two : (head word : Lexed) → Part
   Listed : (head : Lexed) (words : List Lexed) → Part
 
--- a text as it is written: nothing more; or a statement with its marks and steps, that ends in `;` or holds statements in braces, and then more text
+-- a text as it is written: nothing more; or a statement with its marks and steps, that ends in `;` or holds statements in braces, and then
+-- more text
 pub data Text : Type 0 where
   End : Text
   Short : (marks : List Lexed) (first : Part) (more : List Part) (rest : Text) → Text
@@ -187,10 +160,11 @@ LeadTo here marks (part ∷ next ∷ more) items last =
     × (items ≡ said marks level words ∷ others)
 
 -- a statement up to its end, with what it says: its marks are marks, and what follows them is none
-pub record Says (here : Level) (marks : List Lexed) (first : Part) (more : List Part) (items : List (Pair Value)) (last : Level) : Type 0 where
+pub record Says (here : Level) (marks : List Lexed) (first : Part) (more : List Part)
+    (own : List (Pair Value)) (last : Level) : Type 0 where
   pub are_marks : AllByRecursion (λ token. is_mark token ≡ true) marks
   pub no_mark : is_mark (head_of first) ≡ false
-  pub steps : LeadTo here marks (first ∷ more) items last
+  pub steps : LeadTo here marks (first ∷ more) own last
 
 -- the paths that a statement tags: that of its first step, where `replace:` is among its marks
 abbrev pub first_path : List (Pair Value) → List (List Step)

@@ -1,7 +1,7 @@
 -- What a reader holds, as a run over the tokens that it has read, and what it makes of the next one.
 use Rattle.std.specs.Prelude.{◌≡◌, List, [], ◌∷◌, ◌++◌, ℕ, ◌<◌, length, reverse, Result, Ok, Err}
 use Rattle.cfg_base.specs.Words.{joined}
-use Rattle.cfg_schema.specs.Profile.{row_of}
+use Rattle.cfg_lex.specs.Lexed.{Lexed}
 use Rattle.cfg_values.specs.Spelling.{IsSpelling, IsCanonicalOf}
 use Rattle.curly_grammar.specs.declared.effect.Effect.{Effect}
 use Rattle.curly_grammar.specs.declared.fault.Why.{Why}
@@ -14,8 +14,8 @@ use Rattle.curly_grammar.specs.declared.phase.Phase.{Phase}
 use Rattle.curly_grammar.specs.declared.phase.Phase.TheVariants.{Between, Naming, After}
 use Rattle.curly_grammar.specs.Answer.{IsPlaced, turn_of}
 use Rattle.curly_grammar.specs.Fault.{why_by, why_no_word}
-use Rattle.curly_grammar.specs.Grammar.{Lexed, Level}
-use Rattle.curly_grammar.specs.Reading.{State, state, Run, Turn, turned, whole, and_then, TakesWord, Takes}
+use Rattle.curly_grammar.specs.Grammar.{Level}
+use Rattle.curly_grammar.specs.Reading.{State, state, Run, Turn, turned, whole, and_then, value_kind_of, TakesWord, Takes}
 
 abbrev pub state_in : Reader → State
 state_in reader = record { here = reader.here; outer = reverse reader.outer.items; phase = reader.phase }
@@ -66,8 +66,8 @@ pub record IsPlacedReader (reader : Reader) : Type 0 where
 
 -- a value is put at the end of a list, or it is none
 abbrev pub IsListed : Level → List (List ℕ) → List ℕ → List (List ℕ) → Result (Unit {0}) Stop → Type 0
-IsListed level old bytes new (Ok done) = (word : List ℕ) × IsCanonicalOf (row_of level.place.row).value_kind bytes word × (new ≡ old ++ word ∷ [])
-IsListed level old bytes new (Err (Refused reason)) = (reason ≡ BadValue) × (new ≡ old) × ¬ (IsSpelling (row_of level.place.row).value_kind bytes)
+IsListed level old bytes new (Ok done) = (word : List ℕ) × IsCanonicalOf (value_kind_of level) bytes word × (new ≡ old ++ word ∷ [])
+IsListed level old bytes new (Err (Refused reason)) = (reason ≡ BadValue) × (new ≡ old) × ¬ (IsSpelling (value_kind_of level) bytes)
 IsListed level old bytes new (Err NoMemory) = Unit {0}
 
 -- the same of a word

@@ -1,6 +1,7 @@
 -- What the functions behind `parse` answer.
 use Rattle.std.specs.Prelude.{◌≡◌, ◌≢◌, ◌⊎◌, ◌≤◌, ◌<◌, ℕ, List, length, take, min, Option, Some, None, Result, Ok, Err, slice_get}
 use Rattle.cfg_base.specs.declared.path.Step.{Step}
+use Rattle.cfg_lex.specs.Lexed.{Lexed}
 use Rattle.cfg_tree.specs.declared.limit.TheConstants.{MAX_STATEMENTS}
 use Rattle.cfg_tree.specs.Statements.{size_of}
 use Rattle.cfg_tree.specs.Stated.{stated_from_none, different, paths_of}
@@ -10,7 +11,7 @@ use Rattle.curly_grammar.specs.declared.fault.TextFault.TheVariants as fault
 use Rattle.curly_grammar.specs.declared.fault.Why.{Why}
 use Rattle.curly_grammar.specs.declared.marked.Marked.{Marked}
 use Rattle.curly_grammar.specs.Fault.{why_not, of_reason, IsLeftmostFault}
-use Rattle.curly_grammar.specs.Grammar.{Lexed, Reads}
+use Rattle.curly_grammar.specs.Grammar.{Reads}
 use Rattle.curly_grammar.specs.Reading.{Run, start, Takes, Goes}
 
 -- tokens were read up to one that isn't taken
@@ -29,7 +30,8 @@ IsRead tokens (Some end) run = IsEndAt tokens end run
 abbrev pub IsRefusal : List (List Step) → Why → ℕ → TextFault → Type 0
 IsRefusal paths why byte told =
     (told ≡ fault.NoMemory)
-    ⊎ (((MAX_STATEMENTS < different paths) × (told ≡ fault.TooMany)) ⊎ ((different paths ≤ MAX_STATEMENTS) × (told ≡ of_reason why (min byte 4294967295))))
+    ⊎ (((MAX_STATEMENTS < different paths) × (told ≡ fault.TooMany))
+    ⊎ ((different paths ≤ MAX_STATEMENTS) × (told ≡ of_reason why (min byte 4294967295))))
 
 -- what the statements of a run make
 pub record IsMade (run : Run) (marked : Marked) : Type 0 where

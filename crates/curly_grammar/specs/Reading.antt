@@ -1,5 +1,5 @@
--- What a reader of a curly text has in mind between two tokens, and which token it takes next. It reads one token after another, and says each
--- statement at the token with which its step is whole. This is this project's own.
+-- What a reader of a curly text has in mind between two tokens, and which token it takes next. It reads one token after another, and says
+-- each statement at the token with which its step is whole. This is this project's own.
 use Rattle.std.specs.Prelude.{◌≡◌, ◌<◌, ℕ, List, [], ◌∷◌, ◌++◌, length, Bool, true, false, ◌||◌, if◌then◌else◌}
 use Rattle.cfg_base.specs.declared.kind.Kind.{Kind}
 use Rattle.cfg_base.specs.declared.kind.Shape.{Shape}
@@ -10,6 +10,7 @@ use Rattle.cfg_base.specs.Words.{joined}
 use Rattle.cfg_entries.specs.EntryMap.{Pair}
 use Rattle.cfg_lex.specs.declared.token.TokenKind.{TokenKind}
 use Rattle.cfg_lex.specs.declared.token.TokenKind.TheVariants as kind
+use Rattle.cfg_lex.specs.Lexed.{Lexed}
 use Rattle.cfg_schema.specs.declared.answer.Child.{Child}
 use Rattle.cfg_schema.specs.declared.answer.Child.TheVariants as begun
 use Rattle.cfg_schema.specs.Profile.{row_of, rows_below}
@@ -22,15 +23,18 @@ use Rattle.cfg_tree.specs.Typed.{IsNameOf}
 use Rattle.curly_grammar.specs.declared.phase.Marks.{Marks}
 use Rattle.curly_grammar.specs.declared.phase.Phase.{Phase}
 use Rattle.curly_grammar.specs.declared.phase.Phase.TheVariants.{Between, Marked, Naming, Valuing, Listing, After}
-use Rattle.curly_grammar.specs.Grammar.{Lexed, Level, top_level, is_open, is_inactive, is_protect, is_replace, is_mark}
+use Rattle.curly_grammar.specs.Grammar.{Level, top_level, is_open, is_inactive, is_protect, is_replace, is_mark}
 
 abbrev pub no_marks : Marks
 no_marks = record { inactive = false; protected = false; replace = false }
 
 -- the marks with one more
 abbrev pub with_mark : Marks → Lexed → Marks
-with_mark marks token =
-    record { inactive = marks.inactive || is_inactive token; protected = marks.protected || is_protect token; replace = marks.replace || is_replace token }
+with_mark marks token = record {
+  inactive = marks.inactive || is_inactive token;
+  protected = marks.protected || is_protect token;
+  replace = marks.replace || is_replace token;
+}
 
 -- between two tokens: the level whose text is read, those around it from the inside, and what has been read of a statement
 pub record State : Type 0 where
@@ -111,7 +115,8 @@ pub record IsNamed (in_group : Bool) (kind : Kind) (bytes : List ℕ) (marks : M
 abbrev pub BeginsAs : Shape → Kind → ℕ → Level → Marks → List ℕ → Turn → Type 0
 BeginsAs Container name_kind row at marks word turn = turn ≡ whole marks (below at row (step_of word [])) []
 BeginsAs Flag name_kind row at marks word turn = turn ≡ whole marks (below at row (step_of word [])) []
-BeginsAs Bare name_kind row at marks word turn = IsNamed at.place.in_group name_kind word marks (λ name. below at row (step_of [] name)) turn
+BeginsAs Bare name_kind row at marks word turn =
+    IsNamed at.place.in_group name_kind word marks (λ name. below at row (step_of [] name)) turn
 BeginsAs Keyed name_kind row at marks word turn = turn ≡ quiet (Naming marks at word)
 BeginsAs Fixed name_kind row at marks word turn = turn ≡ quiet (Naming marks at word)
 BeginsAs Leaf name_kind row at marks word turn = turn ≡ quiet (Valuing marks (below at row (step_of word [])))
@@ -124,7 +129,8 @@ BeginsStep (begun.Row row) at marks word turn = BeginsAs (row_of row).shape (row
 
 -- the name behind a head
 abbrev pub NamesAs : Shape → Kind → ℕ → Level → Marks → List ℕ → List ℕ → Turn → Type 0
-NamesAs Keyed name_kind row at marks head word turn = IsNamed at.place.in_group name_kind word marks (λ name. below at row (step_of head name)) turn
+NamesAs Keyed name_kind row at marks head word turn =
+    IsNamed at.place.in_group name_kind word marks (λ name. below at row (step_of head name)) turn
 NamesAs Fixed name_kind row at marks head word turn = turn ≡ whole marks (below at row (step_of head word)) []
 NamesAs _ name_kind row at marks head word turn = ⊥
 
@@ -142,10 +148,14 @@ abbrev pub TakesAfter : Bool → Level → List ℕ → Turn → Type 0
 TakesAfter true level word turn = BeginsStep (child_at level word []) level no_marks word turn
 TakesAfter false level word turn = ⊥
 
+-- the kind of a statement's values
+abbrev pub value_kind_of : Level → Kind
+value_kind_of level = (row_of level.place.row).value_kind
+
 -- a value of a statement, which makes this of it
 pub record IsValued (level : Level) (bytes : List ℕ) (make : List ℕ → Turn) (turn : Turn) : Type 0 where
   pub word : List ℕ
-  pub spelled : IsCanonicalOf (row_of level.place.row).value_kind bytes word
+  pub spelled : IsCanonicalOf (value_kind_of level) bytes word
   pub makes : turn ≡ make word
 
 -- a word is taken in a level's text
@@ -154,7 +164,8 @@ TakesWord Between here token turn = TakesFirst (is_mark token) here no_marks tok
 TakesWord (Marked marks) here token turn = TakesFirst (is_mark token) here marks token turn
 TakesWord (Naming marks at head) here token turn = NamesStep (child_at at head token.word) at marks head token.word turn
 TakesWord (Valuing marks level) here token turn = IsValued level token.word (λ word. whole marks level (word ∷ [])) turn
-TakesWord (Listing marks level words) here token turn = IsValued level token.word (λ word. quiet (Listing marks level (words ++ word ∷ []))) turn
+TakesWord (Listing marks level words) here token turn =
+    IsValued level token.word (λ word. quiet (Listing marks level (words ++ word ∷ []))) turn
 TakesWord (After level) here token turn = TakesAfter (is_open level) level token.word turn
 
 -- the signs

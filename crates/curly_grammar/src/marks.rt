@@ -1,9 +1,11 @@
 //! The marks of statements.
 
 ghost use Rattle.std.specs.Prelude.{◌≡◌, ◌||◌, Decides, IfOk};
-ghost use Rattle.curly_grammar.specs.Answer.{Answers, IsPlaced, lexed};
+ghost use Rattle.cfg_lex.specs.Lexed.{is_bare_word, lexed};
+ghost use Rattle.cfg_lex.specs.Mark.{mark_word};
+ghost use Rattle.curly_grammar.specs.Answer.{Answers, IsPlaced};
 ghost use Rattle.curly_grammar.specs.Fault.{why_no_more, why_no_statement};
-ghost use Rattle.curly_grammar.specs.Grammar.{is_bare_kind, is_bare_word, is_mark, is_open};
+ghost use Rattle.curly_grammar.specs.Grammar.{is_mark, is_open};
 ghost use Rattle.curly_grammar.specs.Reading.{HasRows, TakesAfter, TakesFirst, no_marks, with_mark};
 
 use crate::effect::Effect;
@@ -13,7 +15,7 @@ use crate::phase::{Marks, Phase};
 use crate::steps::begin_step;
 use crate::stop::Stop;
 use cfg_base::NoMemory;
-use cfg_lex::TokenKind;
+use cfg_lex::{Mark, TokenKind};
 use cfg_schema::rows_below;
 use std::alloc::Global;
 
@@ -28,16 +30,11 @@ pub(crate) fn no_marks() -> Marks
     }
 }
 
-fn is_bare(kind: TokenKind) -> bool
-    ensures { result ≡ is_bare_kind kind }
+/// Whether a token is this mark.
+fn is_this_mark(kind: TokenKind, word: &[u8], mark: Mark) -> bool
+    ensures { result ≡ is_bare_word (mark_word mark) (lexed kind word.now) }
 {
-    matches!(kind, TokenKind::Bare)
-}
-
-fn is_bare_word(kind: TokenKind, word: &[u8], mark: &[u8]) -> bool
-    ensures { result ≡ is_bare_word mark.now (lexed kind word.now) }
-{
-    is_bare(kind) && mark == word
+    kind.is_bare() && mark.word() == word
 }
 
 /// The mark that a token is, if it is one.
@@ -45,9 +42,9 @@ fn mark_of(kind: TokenKind, word: &[u8]) -> Marks
     ensures { result ≡ with_mark no_marks (lexed kind word.now) }
 {
     Marks {
-        inactive: is_bare_word(kind, word, b"inactive:"),
-        protected: is_bare_word(kind, word, b"protect:"),
-        replace: is_bare_word(kind, word, b"replace:"),
+        inactive: is_this_mark(kind, word, Mark::Inactive),
+        protected: is_this_mark(kind, word, Mark::Protect),
+        replace: is_this_mark(kind, word, Mark::Replace),
     }
 }
 

@@ -3,12 +3,13 @@
 ghost use Rattle.std.specs.Prelude.{◌≡◌, ◌≢◌, ◌≤◌, ◌<◌, ◌++◌, map, min, slice_get, Decides, IfOk, IfErr, OnOk};
 ghost use Rattle.std.specs.FinMap as finite;
 ghost use Rattle.std.specs.List.{All};
+ghost use Rattle.cfg_lex.specs.Lexed.{lexed_in};
 ghost use Rattle.cfg_lex.specs.Tokens.{IsPlaced, IsTokens};
 ghost use Rattle.cfg_tree.specs.Statements.{size_of};
 ghost use Rattle.cfg_tree.specs.Stated.{AreSaid, different, paths_of};
 ghost use Rattle.cfg_tree.specs.declared.limit.TheConstants.{MAX_STATEMENTS};
 ghost use Rattle.curly_grammar.specs.Fault.{IsLeftmostFault, byte_of, of_lexical, of_reason, paths_met};
-ghost use Rattle.curly_grammar.specs.Grammar.{Reads, lexed_in};
+ghost use Rattle.curly_grammar.specs.Grammar.{Reads};
 ghost use Rattle.curly_grammar.specs.Held.{HasTaken, IsPlacedReader, run_in, state_in};
 ghost use Rattle.curly_grammar.specs.Parsed.{IsRead, IsRefusal, Makes, Parses};
 ghost use Rattle.curly_grammar.specs.Reading.{IsFinal, begun_paths, silent, start};

@@ -1,11 +1,12 @@
 //! How a reader takes a token.
 
 ghost use Rattle.std.specs.Prelude.{◌≡◌, ◌++◌, ◌∷◌, [], Decides, IfOk, OnOk, if◌then◌else◌};
-ghost use Rattle.curly_grammar.specs.Answer.{Answers, lexed, turn_of};
+ghost use Rattle.curly_grammar.specs.Answer.{Answers, turn_of};
 ghost use Rattle.curly_grammar.specs.Held.{Follows, HasEntered, HasLeft, HasTaken, HasTakenWord, IsListEnd, IsListed, IsPlacedReader, IsTurned};
 ghost use Rattle.curly_grammar.specs.Reading.{quiet, whole};
 ghost use Rattle.curly_grammar.specs.Answer.{IsSpelled};
 ghost use Rattle.cfg_base.specs.Words.{joined};
+ghost use Rattle.cfg_lex.specs.Lexed.{lexed};
 
 use crate::effect::Effect;
 use crate::fault::Why;

@@ -8,6 +8,7 @@ use Rattle.cfg_base.specs.declared.path.TheConstants.{MAX_STEPS}
 use Rattle.cfg_base.specs.declared.value.Value.{Value}
 use Rattle.cfg_entries.specs.EntryMap.{Pair}
 use Rattle.cfg_lex.specs.declared.token.TokenKind.TheVariants as kind
+use Rattle.cfg_lex.specs.Lexed.{Lexed}
 use Rattle.cfg_schema.specs.declared.place.Place.{Place}
 use Rattle.cfg_schema.specs.Profile.{profile, row_of, is_level}
 use Rattle.cfg_schema.specs.Place.{top_place, place_after, place_of, and_then}
@@ -22,7 +23,7 @@ use Rattle.cfg_tree.proofs.TypedLemmas.{place_snoc}
 use Rattle.cfg_tree.proofs.FollowLemmas.{typed_last, below_is_level}
 use Rattle.cfg_tree.proofs.OwnLemmas.{stood}
 use Rattle.curly_grammar.specs.declared.level.Level.{Level}
-use Rattle.curly_grammar.specs.Grammar.{Lexed, sign, Text, End, Short, Block, spell_part, spell, is_mark, is_inactive, is_protect, is_replace, said, LeadsTo, Says, tagged, first_path, Tells, Reads}
+use Rattle.curly_grammar.specs.Grammar.{sign, Text, End, Short, Block, spell_part, spell, is_mark, is_inactive, is_protect, is_replace, said, LeadsTo, Says, tagged, first_path, Tells, Reads}
 use Rattle.curly_print.specs.Printed.{statement_text, text_below, printed}
 use Rattle.curly_print.specs.Printing.{child_text}
 use Rattle.curly_print.proofs.PrintingLemmas.{statement_some}

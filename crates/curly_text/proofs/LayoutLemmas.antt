@@ -3,8 +3,9 @@ use Rattle.std.proofs.Common.{ℕ, Bool, true, false, List, [], ◌∷◌, ◌++
 use Rattle.cfg_base.specs.declared.path.Step.{Step}
 use Rattle.cfg_base.specs.declared.value.Value.{Value}
 use Rattle.cfg_lex.specs.declared.token.TokenKind.TheVariants as kind
+use Rattle.cfg_lex.specs.Lexed.{Lexed}
 use Rattle.cfg_tree.specs.OwnWords.{own_words}
-use Rattle.curly_grammar.specs.Grammar.{Lexed, sign}
+use Rattle.curly_grammar.specs.Grammar.{sign}
 use Rattle.curly_print.specs.Printed.{marks_of, words_line, value_text, line_of, ended, statement_text}
 use Rattle.curly_print.specs.Printing.{blank_words}
 use Rattle.curly_text.proofs.LexedLemmas.{Closed, Open, Stops, Shuts, closed_closed, closed_open, open_open, open_closed, nothing_made, space_made, sign_made, bare_made, lexed_word, word_made, spaces_made}

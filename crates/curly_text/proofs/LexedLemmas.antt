@@ -4,12 +4,13 @@ use Rattle.std.proofs.lemmas.List.{append_assoc}
 use Rattle.cfg_lex.specs.declared.token.Token.{Token}
 use Rattle.cfg_lex.specs.declared.token.TokenKind.{TokenKind}
 use Rattle.cfg_lex.specs.declared.token.TokenKind.TheVariants as kind
+use Rattle.cfg_lex.specs.Lexed.{Lexed, lexed_in}
 use Rattle.cfg_lex.specs.Bytes.{is_space, is_run, goes_on, sign_of}
 use Rattle.cfg_lex.specs.Lexeme.{Lexeme, Space, Sign, BareWord, spelled, kind_of, word_of, BeginsWith}
 use Rattle.cfg_lex.specs.Tokens.{IsTokens, token_at, tokens_at, word_in, word_at, words_of}
 use Rattle.cfg_lex.specs.Printed.{IsPrintable, printed_kind, printed_word}
 use Rattle.cfg_lex.proofs.WordLemmas.{printed_as, words_are}
-use Rattle.curly_grammar.specs.Grammar.{Lexed, lexed_in, sign}
+use Rattle.curly_grammar.specs.Grammar.{sign}
 
 -- the token of a lexeme, and the word that it means
 abbrev pub lexed_as : Option TokenKind → List ℕ → List Lexed

@@ -11,6 +11,7 @@ use Rattle.cfg_base.specs.declared.path.Step.{Step}
 use Rattle.cfg_base.specs.Words.{joined, lists, same_word}
 use Rattle.cfg_base.proofs.WordLemmas.{lists_more}
 use Rattle.cfg_lex.specs.declared.token.TokenKind.TheVariants as kind
+use Rattle.cfg_lex.specs.Lexed.{is_word_kind, is_bare_kind}
 use Rattle.cfg_lex.specs.Mark.{is_mark as is_mark_word}
 use Rattle.cfg_lex.specs.Printed.{IsPrintable, is_plain}
 use Rattle.cfg_schema.specs.declared.place.Place.{Place}
@@ -29,7 +30,7 @@ use Rattle.cfg_tree.specs.OwnWords.{words_of_step, own_words}
 use Rattle.cfg_tree.proofs.NameLemmas.{name_some}
 use Rattle.cfg_tree.proofs.TypedLemmas.{bare_step}
 use Rattle.cfg_tree.proofs.OwnLemmas.{stood, words_at, plain_words, plain_step, two_words, bare_words, begins_own, other_shape, fixed_name, fixed_name_some, all_spelled, is_plain as is_plain_shape}
-use Rattle.curly_grammar.specs.Grammar.{IsWord, is_word_kind, is_bare_kind, is_mark, Part, One, Two, Listed, spell_part, head_of as head_token, next_of, AreWords, IsValue, StandsFor, word_of}
+use Rattle.curly_grammar.specs.Grammar.{IsWord, is_mark, Part, One, Two, Listed, spell_part, head_of as head_token, next_of, AreWords, IsValue, StandsFor, word_of}
 use Rattle.curly_text.proofs.LexedLemmas.{lexed_word}
 use Rattle.curly_text.proofs.LayoutLemmas.{word_tokens, value_tokens}
 use Rattle.curly_text.proofs.PrintableLemmas.{AllPrintable, name_printable, heads_printable}

@@ -1,5 +1,5 @@
 use Rattle.std.proofs.Common.{map}
-use Rattle.curly_grammar.specs.Grammar.{lexed_in}
+use Rattle.cfg_lex.specs.Lexed.{lexed_in}
 use Rattle.curly_grammar.specs.Held.{run_in}
 use Rattle.curly_grammar.proofs.ParseLemmas.{all_read, none_parse, read_said, some_parse, whole_parse}
 use Rattle.curly_grammar.proofs.reading.outcome.Goals as goal

@@ -1,6 +1,6 @@
 use Rattle.std.proofs.Common.{map, arith}
 use Rattle.std.proofs.lemmas.List.{length-map}
-use Rattle.curly_grammar.specs.Grammar.{lexed_in}
+use Rattle.cfg_lex.specs.Lexed.{lexed_in}
 use Rattle.curly_grammar.specs.Held.{run_in}
 use Rattle.curly_grammar.proofs.ParseLemmas.{reader_placed, read_more, read_whole}
 use Rattle.curly_grammar.proofs.reading.read.Goals as goal

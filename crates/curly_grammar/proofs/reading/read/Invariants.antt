@@ -1,5 +1,5 @@
 use Rattle.std.proofs.Common.{take, map}
-use Rattle.curly_grammar.specs.Grammar.{lexed_in}
+use Rattle.cfg_lex.specs.Lexed.{lexed_in}
 use Rattle.curly_grammar.specs.Held.{run_in}
 use Rattle.curly_grammar.specs.Reading.{start, Goes}
 use Rattle.curly_grammar.proofs.reading.read.Given as goal

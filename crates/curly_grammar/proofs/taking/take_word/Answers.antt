@@ -1,4 +1,4 @@
-use Rattle.curly_grammar.specs.Answer.{lexed}
+use Rattle.cfg_lex.specs.Lexed.{lexed}
 use Rattle.curly_grammar.specs.declared.phase.Phase.TheVariants.{After, Marked, Naming, Valuing}
 use Rattle.curly_grammar.proofs.TakingLemmas.{in_phase, word_followed, word_taken, value_listed}
 use Rattle.curly_grammar.proofs.taking.take_word.Goals as goal
