@@ -18,7 +18,6 @@ use Rattle.cfg_lex.specs.Printed.{printed_word}
 use Rattle.commands.specs.Verb.{keyword}
 use Rattle.commands.specs.declared.verb.Verb.{Verb}
 use Rattle.commands.specs.declared.verb.Verb.TheVariants.{Set, Deactivate, Protect}
-use Rattle.commands.specs.Verb.{keyword}
 
 -- a line: what its keyword asks of the words behind it
 pub record Line : Type 0 where
