@@ -1,1 +1,5 @@
 pub mod PrintingLemmas
+pub mod TopLemmas
+pub mod ListedLemmas
+pub mod LengthLemmas
+pub mod HoldsLemmas

@@ -1,28 +1,24 @@
 -- The statements of a tree, said in printing order, make that tree.
-use Rattle.std.proofs.Common.{◌≡◌, ◌≢◌, ℕ, zero, suc, ◌+◌, ◌<◌, ◌≤◌, Bool, true, false, cond, List, [], ◌∷◌, ◌++◌, length, map as each, filter, flat_map, refl, sym, ap, subst, ◌∙◌, ◌⊎◌, inl, inr, Option, Some, None, is_some, is_none, option_map, if◌then◌else◌, ◌&&◌, arith, length-append, append-nil}
+use Rattle.std.proofs.Common.{◌≡◌, ◌≢◌, ℕ, zero, suc, ◌+◌, ◌<◌, ◌≤◌, Bool, true, false, cond, List, [], ◌∷◌, ◌++◌, length, map as each, filter, flat_map, refl, sym, ap, subst, ◌∙◌, inl, inr, Option, Some, None, is_some, is_none, option_map, if◌then◌else◌, ◌&&◌, arith, length-append, append-nil}
 use Rattle.std.specs.FinMap as map
-use Rattle.std.specs.Ordering.{eq_by_cmp}
 use Rattle.std.proofs.lemmas.List.{append_assoc, append_cancel_left}
-use Rattle.cfg_base.specs.Order.{path_cmp, step_cmp}
+use Rattle.cfg_base.specs.Order.{path_cmp}
 use Rattle.cfg_base.specs.declared.path.Step.{Step}
 use Rattle.cfg_base.specs.declared.path.TheConstants.{MAX_STEPS}
 use Rattle.cfg_base.specs.declared.value.Value.{Value}
 use Rattle.cfg_entries.specs.EntryMap.{Pair}
-use Rattle.cfg_schema.specs.declared.place.Place.{Place}
 use Rattle.cfg_schema.specs.Place.{top_place, place_of}
-use Rattle.cfg_schema.proofs.LevelLemmas.{path_most}
 use Rattle.cfg_tree.specs.Statements.{Statements, parent_of, last_of}
-use Rattle.cfg_tree.specs.Tree.{ordered_head, IsStatementMap, IsTree}
+use Rattle.cfg_tree.specs.Tree.{ordered_head, IsTree}
 use Rattle.cfg_tree.specs.Change.{has_head, with_order, put_last, put_at}
-use Rattle.cfg_tree.specs.Children.{step_if, children_at, children_of}
+use Rattle.cfg_tree.specs.Children.{children_of}
 use Rattle.cfg_tree.specs.Gather.{joined_at}
 use Rattle.cfg_tree.specs.Stated.{stated_one, stated, stated_from_none}
-use Rattle.cfg_tree.proofs.MapLemmas.{same_step, same_statements}
-use Rattle.cfg_tree.proofs.PathLemmas.{split, same_ends, child_longer, child_differs, get_here, get_other, renamed, order_at, order_other}
+use Rattle.cfg_tree.proofs.MapLemmas.{same_statements}
+use Rattle.cfg_tree.proofs.PathLemmas.{child_longer, child_differs, get_here, get_other, renamed, order_at, order_other}
 use Rattle.cfg_tree.proofs.FollowLemmas.{typed_place}
-use Rattle.cfg_tree.proofs.ReadyLemmas.{no_child}
 use Rattle.cfg_tree.proofs.StatedLemmas.{stated-append}
-use Rattle.cfg_tree.proofs.OnceLemmas.{children_once}
+pub use Rattle.curly_print.proofs.ListedLemmas.{Lists, Differ, children_differ, child_there, there_listed, none_below, parent_child, no_deeper}
 use Rattle.curly_text.proofs.OrderBackLemmas.{ordered_names, order_back}
 
 -- a statement without its order, and the statements below it; none where it isn't there
@@ -39,103 +35,6 @@ items_below (suc levels) m path =
 -- a child of a path with what is below it
 abbrev pub child_items : ℕ → Statements → List Step → Step → List (Pair Value)
 child_items levels m path step = item_and (path ++ step ∷ []) (map.get m (path ++ step ∷ [])) (items_below levels m (path ++ step ∷ []))
-
--- a step is among these
-abbrev pub Lists : List Step → Step → Type 0
-Lists [] s = ⊥
-Lists (t ∷ steps) s = (s ≡ t) ⊎ Lists steps s
-
--- no two steps are one
-abbrev pub Differ : List Step → Type 0
-Differ [] = Unit {0}
-Differ (s ∷ steps) = (Lists steps s → ⊥) × Differ steps
-
--- what is listed once
-is_self : (s : Step) → eq_by_cmp step_cmp s s ≡ true
-is_self s = (same_step s s).1 refl
-
-kept_length : (s : Step) (steps : List Step) → Lists steps s → 0 < length (filter (eq_by_cmp step_cmp s) steps)
-kept_length s [] l = absurd l
-kept_length s (t ∷ steps) l =
-    elim l [
-      | inl e ↦
-          let same = ap (λ (x : Step). eq_by_cmp step_cmp s x) (sym e) ∙ is_self s
-          in subst (λ (b : Bool). 0 < length (cond b (t ∷ filter (eq_by_cmp step_cmp s) steps) (filter (eq_by_cmp step_cmp s) steps))) (sym same) (omega arith)
-      | inr r ↦ more (eq_by_cmp step_cmp s t) (kept_length s steps r)
-    ]
-  where
-    more : (b : Bool) → 0 < length (filter (eq_by_cmp step_cmp s) steps)
-        → 0 < length (cond b (t ∷ filter (eq_by_cmp step_cmp s) steps) (filter (eq_by_cmp step_cmp s) steps))
-    more true h = omega arith
-    more false h = h
-
-listed_kept : (s : Step) (steps : List Step) → 0 < length (filter (eq_by_cmp step_cmp s) steps) → Lists steps s
-listed_kept s [] h = absurd (omega (arith, h))
-listed_kept s (t ∷ steps) h = by_test _ refl (listed_kept s steps) h
-  where
-    by_test : (b : Bool) → eq_by_cmp step_cmp s t ≡ b → (0 < length (filter (eq_by_cmp step_cmp s) steps) → Lists steps s)
-        → 0 < length (cond b (t ∷ filter (eq_by_cmp step_cmp s) steps) (filter (eq_by_cmp step_cmp s) steps)) → Lists (t ∷ steps) s
-    by_test true e go h = inl ((same_step s t).0 e)
-    by_test false e go h = inr (go h)
-
-abbrev AtMostOnce : List Step → Type 0
-AtMostOnce steps = (s : Step) → length (filter (eq_by_cmp step_cmp s) steps) ≤ 1
-
-differ : (steps : List Step) → AtMostOnce steps → Differ steps
-differ [] h = tt
-differ (s ∷ steps) h = (apart, differ steps fewer)
-  where
-    apart : Lists steps s → ⊥
-    apart l =
-        let some = kept_length s steps l
-        in let twice = subst (λ (b : Bool). length (cond b (s ∷ filter (eq_by_cmp step_cmp s) steps) (filter (eq_by_cmp step_cmp s) steps)) ≤ 1) (is_self s) (h s)
-        in omega (arith, some, twice)
-
-    fewer : AtMostOnce steps
-    fewer t = by_test (eq_by_cmp step_cmp t s) (h t)
-      where
-        by_test : (b : Bool) → length (cond b (s ∷ filter (eq_by_cmp step_cmp t) steps) (filter (eq_by_cmp step_cmp t) steps)) ≤ 1
-            → length (filter (eq_by_cmp step_cmp t) steps) ≤ 1
-        by_test true g = omega (arith, g)
-        by_test false g = g
-
-step_if_few : (there : Bool) (s : Step) → length (step_if there s) ≤ 1
-step_if_few true s = omega arith
-step_if_few false s = omega arith
-
-some_there : (there : Bool) (s : Step) → 0 < length (step_if there s) → there ≡ true
-some_there true s h = refl
-some_there false s h = absurd (omega (arith, h))
-
-module _ (m : Statements) (tree : IsTree m) (p : List Step) where
-  pub children_differ : Differ (children_of m p)
-  children_differ =
-      differ (children_of m p) (λ s. subst (λ (ss : List Step). length ss ≤ 1) (sym (children_once m p s tree)) (step_if_few _ s))
-
-  pub child_there : (s : Step) → Lists (children_of m p) s → is_some (map.get m (p ++ s ∷ [])) ≡ true
-  child_there s l = some_there _ s (subst (λ (ss : List Step). 0 < length ss) (children_once m p s tree) (kept_length s (children_of m p) l))
-
-  pub there_listed : (s : Step) → is_some (map.get m (p ++ s ∷ [])) ≡ true → Lists (children_of m p) s
-  there_listed s e =
-      let one = children_once m p s tree ∙ ap (λ (b : Bool). step_if b s) e
-      in listed_kept s (children_of m p) (subst (λ (ss : List Step). 0 < length ss) (sym one) (omega arith))
-
--- what is below a path that isn't there isn't there
-none_of : (o : Option Value) → is_some o ≡ is_some {T = Value} None → o ≡ None
-none_of None e = refl
-none_of (Some v) e = cc
-
-pub none_below : (m : Statements) (rest path : List Step) → IsStatementMap m → 0 < length path → map.get m path ≡ None → map.get m (path ++ rest) ≡ None
-none_below m [] path statements long e = ap (λ (q : List Step). map.get m q) (append-nil path) ∙ e
-none_below m (t ∷ rest) path statements long e =
-    ap (λ (q : List Step). map.get m q) (sym (append_assoc path (t ∷ []) rest))
-    ∙ none_below m rest (path ++ t ∷ []) statements (omega (arith, child_longer path t)) (none_of _ (no_child m path t statements long e))
-
--- the child of a path
-pub parent_child : (p : List Step) (s : Step) → (parent_of (p ++ s ∷ []) ≡ p) × (last_of (p ++ s ∷ []) ≡ s)
-parent_child p s =
-    let long : 0 < length (p ++ s ∷ []) = omega (arith, child_longer p s)
-    in same_ends (parent_of (p ++ s ∷ [])) p (last_of (p ++ s ∷ [])) s (sym (split (p ++ s ∷ []) long))
 
 longer : (p rest : List Step) (s : Step) → p ++ s ∷ rest ≢ p
 longer p rest s e = let k = ap (λ (xs : List Step). length xs) e in omega (arith, k, length-append p (s ∷ rest))
@@ -335,17 +234,10 @@ module _ (m : Statements) (tree : IsTree m) where
       ∙ free t rest (inr l))
       more))
 
-  pub no_deeper : (p : List Step) → 10 ≤ length p → children_of m p ≡ []
-  no_deeper p long = by_place (place_of p) refl
-    where
-      by_place : (o : Option Place) → place_of p ≡ o → children_at m p o ≡ []
-      by_place None e = refl
-      by_place (Some here) e = let most = (path_most p here e).2 in absurd (omega (arith, most, long))
-
   adds_below : (levels : ℕ) (p : List Step) → 10 ≤ levels + length p → AddsBelow levels p
   unfolding items_below
   adds_below zero p deep x free =
-      subst (λ (steps : List Step). Adds m x x p steps) (sym (no_deeper p (omega (arith, deep)))) (adds_none m x p)
+      subst (λ (steps : List Step). Adds m x x p steps) (sym (no_deeper m tree p (omega (arith, deep)))) (adds_none m x p)
   adds_below (suc levels) p deep x free =
       all_children levels p (children_of m p) x (children_differ m tree p) (child_there m tree p) (λ s rest l. free s rest)
       (λ s. adds_below levels (p ++ s ∷ []) (omega (arith, deep, child_longer p s)))

@@ -10,7 +10,7 @@ use Rattle.cfg_entries.specs.EntryMap.{Pair}
 use Rattle.cfg_lex.specs.declared.token.TokenKind.TheVariants as kind
 use Rattle.cfg_lex.specs.Lexed.{Lexed}
 use Rattle.cfg_schema.specs.declared.place.Place.{Place}
-use Rattle.cfg_schema.specs.Profile.{profile, row_of, is_level}
+use Rattle.cfg_schema.specs.Profile.{row_of, is_level}
 use Rattle.cfg_schema.specs.Place.{top_place, place_after, place_of, and_then}
 use Rattle.cfg_schema.proofs.LevelLemmas.{led_to, path_most}
 use Rattle.cfg_tree.specs.Statements.{Statements, parent_of, last_of}
@@ -27,6 +27,7 @@ use Rattle.curly_grammar.specs.Grammar.{sign, Text, End, Short, Block, spell_par
 use Rattle.curly_print.specs.Printed.{statement_text, text_below, printed}
 use Rattle.curly_print.specs.Printing.{child_text}
 use Rattle.curly_print.proofs.PrintingLemmas.{statement_some}
+use Rattle.curly_print.proofs.TopLemmas.{top_text}
 use Rattle.curly_text.proofs.FillLemmas.{Lists, item_and, items_below, child_items, child_there, said_back}
 use Rattle.curly_text.proofs.LexedLemmas.{Closed, closed_closed, nothing_made, whole_made}
 use Rattle.curly_text.proofs.LayoutLemmas.{inactive_mark, protect_mark, mark_if, mark_tokens, word_tokens, value_tokens, statement_made}
@@ -175,10 +176,6 @@ module _ (here : Level) (step : Step) (next : Place) (value : Value) (led : plac
     none = λ e. absurd (some_text indent step value (byte ∷ body) bytes e);
   }
 
-top_is_level : is_level (row_of 0).shape ≡ true
-unfolding profile
-top_is_level = refl
-
 -- the children of a path in a tree
 module _ (m : Statements) (tree : IsTree m) where
   -- where a child that is there leads
@@ -274,13 +271,10 @@ module _ (m : Statements) (tree : IsTree m) where
       laid_children levels indent path here (children_of m path) placed (λ step. laid_below levels (indent + 4) (path ++ step ∷ []))
 
   -- the printed text reads as the tree
-  pub top_text : text_below MAX_STEPS m [] 0 ≡ printed m []
-  top_text = sym (ap (λ (b : Bool). if b then text_below MAX_STEPS m [] 0 else statement_text 0 (last_of []) (map.get m []) []) top_is_level)
-
   pub reads_back : Reads (printed m []) m []
   reads_back =
       let laid = laid_below MAX_STEPS 0 [] top_place refl
-      in let made = whole_made (printed m []) (spell laid.text) (subst (λ (bytes : List ℕ). Closed bytes (spell laid.text)) top_text laid.lexes)
+      in let made = whole_made (printed m []) (spell laid.text) (subst (λ (bytes : List ℕ). Closed bytes (spell laid.text)) (top_text m) laid.lexes)
       in record {
         tokens = made.all;
         are_tokens = made.are_tokens;

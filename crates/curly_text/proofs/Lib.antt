@@ -5,5 +5,3 @@ pub mod PrintableLemmas
 pub mod LayoutLemmas
 pub mod WrittenLemmas
 pub mod LaidLemmas
-pub mod LengthLemmas
-pub mod HoldsLemmas

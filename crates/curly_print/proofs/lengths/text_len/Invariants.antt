@@ -1,8 +1,8 @@
 use Rattle.std.proofs.Common.{◌≡◌, ◌+◌, ◌^◌, ◌<◌, length}
 use Rattle.std.specs.FinMap as map
 use Rattle.std.specs.List.{sum_by}
-use Rattle.curly_text.specs.Length.{capped, entry_len}
-use Rattle.curly_text.proofs.lengths.text_len.Given as goal
+use Rattle.curly_print.specs.Length.{capped, entry_len}
+use Rattle.curly_print.proofs.lengths.text_len.Given as goal
 
 abbrev pub invariant-loop-path : goal.invariant-loop-path
 invariant-loop-path l = record {

@@ -19,9 +19,9 @@ use Rattle.cfg_tree.proofs.PathLemmas.{child_differs}
 use Rattle.cfg_tree.proofs.BelowLemmas.{below_le, below_between, below_self, below_more}
 use Rattle.cfg_tree.proofs.OnceLemmas.{below_rest}
 use Rattle.curly_print.specs.Printed.{printed}
-use Rattle.curly_text.specs.Length.{holds, entry_len, capped}
-use Rattle.curly_text.proofs.FillLemmas.{Lists, child_there, there_listed}
-use Rattle.curly_text.proofs.LengthLemmas.{child_above, lt_is, lt_told, length-printed}
+use Rattle.curly_print.specs.Length.{holds, entry_len, capped}
+use Rattle.curly_print.proofs.ListedLemmas.{Lists, child_there, there_listed}
+use Rattle.curly_print.proofs.LengthLemmas.{child_above, lt_is, lt_told, length-printed}
 
 some_listed : (steps : List Step) (s : Step) → Lists steps s → 0 < length steps
 some_listed [] s l = absurd l

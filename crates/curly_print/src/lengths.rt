@@ -4,7 +4,7 @@ ghost use Rattle.std.specs.Prelude.{◌≡◌, ◌≤◌, ◌+◌, [], ◌∷◌
 ghost use Rattle.cfg_tree.specs.OwnWords.{own_words, word_if_any};
 ghost use Rattle.cfg_tree.specs.Statements.{last_of};
 ghost use Rattle.cfg_tree.specs.Tree.{IsTree};
-ghost use Rattle.curly_text.specs.Length.{capped, holds, indent_of, own_len};
+ghost use Rattle.curly_print.specs.Length.{capped, holds, indent_of, own_len};
 ghost use Rattle.curly_print.specs.Printed.{marks_of, printed, value_text, words_line};
 ghost use Rattle.curly_print.specs.Printing.{blank_words};
 

@@ -26,10 +26,10 @@ use Rattle.cfg_tree.proofs.FollowLemmas.{typed_place}
 use Rattle.cfg_tree.proofs.OnceLemmas.{same_test, below_rest, below_apart, children_once}
 use Rattle.curly_print.specs.Printed.{line_of, spaces, ended, statement_text, text_below, printed}
 use Rattle.curly_print.specs.Printing.{child_text}
-use Rattle.curly_text.specs.Length.{holds, indent_of, own_len, entry_len}
+use Rattle.curly_print.specs.Length.{holds, indent_of, own_len, entry_len}
 use Rattle.curly_print.proofs.PrintingLemmas.{some_printed}
-use Rattle.curly_text.proofs.FillLemmas.{Lists, child_there, none_below, no_deeper, parent_child}
-use Rattle.curly_text.proofs.LaidLemmas.{top_text}
+use Rattle.curly_print.proofs.TopLemmas.{top_text}
+use Rattle.curly_print.proofs.ListedLemmas.{Lists, child_there, none_below, no_deeper, parent_child}
 
 -- sums
 sum_same : {X : Type 0} (f g : X → ℕ) (xs : List X) → AllByRecursion (λ x. f x ≡ g x) xs → sum_by f xs ≡ sum_by g xs
@@ -391,4 +391,4 @@ module _ (m : Statements) (tree : IsTree m) where
 
   -- the printed text is as long as its statements
   pub length-printed : length (printed m []) ≡ sum_by (entry_len m) (map.entries m)
-  length-printed = ap (λ (bytes : List ℕ). length bytes) (sym (top_text m tree)) ∙ has_length MAX_STEPS [] (omega arith) ∙ all_inside
+  length-printed = ap (λ (bytes : List ℕ). length bytes) (sym (top_text m)) ∙ has_length MAX_STEPS [] (omega arith) ∙ all_inside

@@ -1,6 +1,6 @@
 use Rattle.std.proofs.Common.{sym, ◌∙◌}
-use Rattle.curly_text.proofs.HoldsLemmas.{whole_len, no_len}
-use Rattle.curly_text.proofs.lengths.text_len.Goals as goal
+use Rattle.curly_print.proofs.HoldsLemmas.{whole_len, no_len}
+use Rattle.curly_print.proofs.lengths.text_len.Goals as goal
 
 pub returns-then-count-eq0 : goal.returns-then-count-eq0
 returns-then-count-eq0 c = no_len c.args.tree.now c.count.ensures.tree (sym c.count.ensures.count ∙ c.if-count-eq0.true)

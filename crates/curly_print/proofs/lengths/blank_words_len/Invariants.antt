@@ -1,7 +1,7 @@
 use Rattle.std.proofs.Common.{◌≡◌, ◌+◌, ◌^◌, ◌<◌, length}
-use Rattle.curly_text.specs.Length.{capped}
+use Rattle.curly_print.specs.Length.{capped}
 use Rattle.curly_print.specs.Printing.{blank_words}
-use Rattle.curly_text.proofs.lengths.blank_words_len.Given as goal
+use Rattle.curly_print.proofs.lengths.blank_words_len.Given as goal
 
 abbrev pub invariant-loop-word : goal.invariant-loop-word
 invariant-loop-word l = record {
