@@ -2,6 +2,7 @@
 
 ghost use Rattle.std.specs.Prelude.{◌≡◌, ◌<◌, ◌≤◌, [], length, IfOk, OnOk, IsErrOf};
 ghost use Rattle.std.specs.FinMap as map;
+ghost use Rattle.cfg_tree.specs.Tree.{IsTree};
 ghost use Rattle.cfg_tree.specs.Full.{Expansion};
 ghost use Rattle.cfg_tree.specs.declared.limit.TheConstants.{MAX_EXPANDED};
 ghost use Rattle.group_expand.specs.Expansion.{IsExpansion};
@@ -53,6 +54,7 @@ pub fn expand(alloc: Global, tree: &Tree) -> Result<Full, ExpandFault>
     ensures ok { IfOk result (λ full. IsExpansion tree.now full) }
     ensures within { IfOk result (λ full. map.len full ≤ MAX_EXPANDED) }
     ensures wide { IsErrOf result ExpandFault.TooWide → (full : Expansion) × IsExpansion tree.now full × (MAX_EXPANDED < map.len full) }
+    ensures tree { OnOk result (IsTree tree.now) }
 {
     let row = row_of(alloc, tree)?;
     expanded(alloc, &row)

@@ -26,3 +26,4 @@ pub use laws::{
     expansion_is_of_what_is_applied, expansion_is_one, expansion_is_what_is_local_or_has_a_source,
     expansion_without_groups_is_the_live_part, limit_is_stated,
 };
+pub use step::is_apply;
