@@ -1,0 +1,10 @@
+pub mod FirstLemmas
+pub mod LeastLemmas
+pub mod CheckLemmas
+pub mod GroupLemmas
+pub mod CutLemmas
+pub mod InOrderLemmas
+pub mod KeptLemmas
+pub mod LengthLemmas
+pub mod RepeatLemmas
+pub mod UnitLemmas

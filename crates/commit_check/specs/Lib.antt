@@ -1,0 +1,11 @@
+pub mod Kinds
+pub mod Least
+pub mod Tests
+pub mod Groups
+pub mod Repeats
+pub mod Units
+pub mod Network
+pub mod Rules
+pub mod First
+pub mod Accepts
+pub mod Among

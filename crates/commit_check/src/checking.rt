@@ -1,0 +1,69 @@
+//! The whole check.
+
+ghost use Rattle.std.specs.Prelude.{IfErr, IfOk, OnOk, ◌≤◌};
+ghost use Rattle.std.specs.List.{AllByRecursion};
+ghost use Rattle.std.specs.FinMap as map;
+ghost use Rattle.cfg_tree.specs.declared.limit.TheConstants.{MAX_EXPANDED};
+ghost use Rattle.commit_check.specs.Accepts.{Holds, IsAccepted, IsCheckFault};
+ghost use Rattle.commit_check.specs.Among.{IsFaultOf, IsFaultAmong};
+
+use crate::fault::CheckFault;
+use crate::least::least;
+use crate::rule::{CommitRule, number_of, rules};
+use cfg_base::{NoMemory, Path};
+use cfg_tree::{Full, Tree};
+use group_expand::{ExpandFault, expand};
+use std::alloc::Global;
+
+/// Asks a rule of a configuration and its expansion.
+fn ask(alloc: Global, rule: CommitRule, tree: &Tree, full: &Full) -> Result<(), CheckFault>
+    requires { map.len full.now ≤ MAX_EXPANDED }
+    ensures ok { OnOk result (Holds rule tree.now full.now) }
+    ensures err { IfErr result (IsFaultOf rule tree.now full.now) }
+{
+    match least(alloc, rule, tree, full) {
+        Err(NoMemory) => Err(CheckFault::NoMemory),
+        Ok(None) => Ok(()),
+        Ok(Some(path)) => Err(CheckFault::Rule {
+            number: number_of(rule),
+            path,
+        }),
+    }
+}
+
+/// Asks some rules, one after the other.
+fn ask_all(alloc: Global, rules: &[CommitRule], tree: &Tree, full: &Full) -> Result<(), CheckFault>
+    requires { map.len full.now ≤ MAX_EXPANDED }
+    ensures ok { OnOk result (AllByRecursion (λ rule. Holds rule tree.now full.now) rules.now) }
+    ensures err { IfErr result (IsFaultAmong rules.now tree.now full.now) }
+{
+    match rules {
+        [] => Ok(()),
+        [rule, rules @ ..] => {
+            if let Err(fault) = ask(alloc, *rule, tree, full) {
+                return Err(fault);
+            }
+            ask_all(alloc, rules, tree, full)
+        }
+    }
+}
+
+/// The expansion of a configuration that every rule accepts, or the least fault: that of the rule of the lowest number that
+/// doesn't hold, at the least path.
+#[tactic(auto, using(crate::proofs::CheckLemmas::accepted, crate::proofs::CheckLemmas::fault_is, crate::proofs::CheckLemmas::wide_is))]
+pub fn check(alloc: Global, tree: &Tree) -> Result<Full, CheckFault>
+    ensures ok { IfOk result (IsAccepted tree.now) }
+    ensures err { IfErr result (IsCheckFault tree.now) }
+{
+    match expand(alloc, tree) {
+        Err(ExpandFault::NoMemory) => Err(CheckFault::NoMemory),
+        Err(ExpandFault::TooWide) => Err(CheckFault::Rule {
+            number: number_of(CommitRule::Width),
+            path: Path::top(alloc),
+        }),
+        Ok(full) => match ask_all(alloc, rules(), tree, &full) {
+            Err(fault) => Err(fault),
+            Ok(()) => Ok(full),
+        },
+    }
+}

@@ -1,0 +1,85 @@
+//! Which statements the rules speak of.
+
+ghost use Rattle.std.specs.Prelude.{◌≡◌, ◌<◌, ◌∷◌, [], length};
+ghost use Rattle.std.specs.List.{AllByRecursion};
+ghost use Rattle.cfg_schema.specs.Profile.{same_word, head_of};
+ghost use Rattle.cfg_schema.specs.declared.rows.TheConstants.{ROWS};
+ghost use Rattle.commit_check.specs.Kinds.{begin_as, is_user, is_user_class, is_vlan_id, is_route, is_neighbor, is_policy_list, is_from_list};
+
+use cfg_base::{Path, Step};
+use cfg_schema::{RowId, head};
+
+/// Whether a step begins as a row does.
+pub fn has_head(step: &Step, row: u8) -> bool
+    requires { row < ROWS }
+    ensures { result ≡ same_word step.now.head (head_of row) }
+{
+    step.head.as_bytes() == head(RowId::at(usize::from(row)))
+}
+
+/// Whether steps begin as these rows do, one by one.
+pub fn begin_as(steps: &[Step], rows: &[u8]) -> bool
+    requires { AllByRecursion (λ row. row < ROWS) rows.now }
+    ensures { result ≡ begin_as rows.now steps.now }
+{
+    match (steps, rows) {
+        ([], []) => true,
+        ([step, steps @ ..], [row, rows @ ..]) => has_head(step, *row) && begin_as(steps, rows),
+        _ => false,
+    }
+}
+
+/// Whether a path is that of a user.
+pub fn is_user(path: &Path) -> bool
+    ensures { result ≡ is_user path.now }
+{
+    begin_as(path.steps(), &[6, 11, 14])
+}
+
+/// Whether a path is that of a user's class.
+pub fn is_user_class(path: &Path) -> bool
+    ensures { result ≡ is_user_class path.now }
+{
+    begin_as(path.steps(), &[6, 11, 14, 17])
+}
+
+/// Whether a path is that of a unit's `vlan-id`.
+pub fn is_vlan_id(path: &Path) -> bool
+    ensures { result ≡ is_vlan_id path.now }
+{
+    begin_as(path.steps(), &[30, 31, 36, 39])
+}
+
+/// Whether a path is that of a static route.
+pub fn is_route(path: &Path) -> bool
+    ensures { result ≡ is_route path.now }
+{
+    begin_as(path.steps(), &[43, 44, 45])
+}
+
+/// Whether a path is that of a BGP neighbor.
+pub fn is_neighbor(path: &Path) -> bool
+    ensures { result ≡ is_neighbor path.now }
+{
+    begin_as(path.steps(), &[51, 52, 53, 59])
+}
+
+/// Whether a path is that of a list of policies.
+pub fn is_policy_list(path: &Path) -> bool
+    ensures { result ≡ is_policy_list path.now }
+{
+    let steps = path.steps();
+    begin_as(steps, &[51, 52, 53, 56])
+        || begin_as(steps, &[51, 52, 53, 57])
+        || begin_as(steps, &[51, 52, 53, 59, 61])
+        || begin_as(steps, &[51, 52, 53, 59, 62])
+        || begin_as(steps, &[51, 64, 65])
+}
+
+/// Whether a path is that of a prefix list from which a policy takes.
+pub fn is_from_list(path: &Path) -> bool
+    ensures { result ≡ is_from_list path.now }
+{
+    let steps = path.steps();
+    begin_as(steps, &[73, 76, 77, 78, 81]) || begin_as(steps, &[73, 76, 91, 81])
+}

@@ -1,0 +1,33 @@
+//! What a configuration must meet before it may become active.
+//!
+//! Guarantees: `check` gives the expansion of a configuration that all rules accept, and else the least fault, by the number
+//! of its rule and then by its path.
+//! Leaves to others: what groups bring (`group_expand`), and when a configuration is checked (`config_core`).
+#![tactic(auto)]
+
+mod breach;
+mod checking;
+mod fault;
+mod groups;
+mod interfaces;
+mod kinds;
+mod laws;
+mod least;
+mod lookup;
+mod name;
+mod network;
+mod peers;
+mod policies;
+mod repeat;
+mod routes;
+mod rule;
+mod size;
+mod unit;
+mod users;
+
+pub use checking::check;
+pub use fault::CheckFault;
+pub use laws::{accepted_configurations_fit, checks_have_one_answer, limit_is_stated};
+pub use network::stray_bits_are_told;
+pub use repeat::numbers_are_told_by_their_text;
+pub use unit::names_of_units_are_cut;
