@@ -3,3 +3,5 @@ pub mod TopLemmas
 pub mod ListedLemmas
 pub mod LengthLemmas
 pub mod HoldsLemmas
+pub mod InheritedLemmas
+pub mod EntriesLemmas

@@ -1,3 +1,5 @@
 pub mod Printed
 pub mod Printing
 pub mod Length
+pub mod Inherited
+pub mod Inheriting

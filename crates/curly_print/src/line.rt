@@ -4,6 +4,7 @@ ghost use Rattle.std.specs.Prelude.{◌≡◌, [], ◌∷◌, ◌++◌, OnOk, if
 ghost use Rattle.cfg_tree.specs.OwnWords.{own_words, word_if_any};
 ghost use Rattle.curly_print.specs.Printed.{line_of, marks_of, spaces, value_text, words_line};
 ghost use Rattle.curly_print.specs.Printing.{blank_words};
+ghost use Rattle.curly_print.specs.Inherited.{unmarked_line};
 
 use cfg_base::{NoMemory, Step, Value, WordList};
 use cfg_lex::push_word;
@@ -102,11 +103,22 @@ fn push_words(text: &mut Vec<u8>, words: &WordList) -> Result<(), NoMemory>
     push_bytes(text, b" ]".as_slice())
 }
 
+/// Puts a statement's step and its words at the end of a text.
+pub(crate) fn push_unmarked_line(
+    text: &mut Vec<u8>,
+    step: &Step,
+    words: &WordList,
+) -> Result<(), NoMemory>
+    ensures { OnOk result (text.new.items ≡ text.old.items ++ unmarked_line step.now words.now) }
+{
+    push_step(text, step)?;
+    push_words(text, words)
+}
+
 /// Puts a statement's marks, its step and its words at the end of a text.
 pub(crate) fn push_line(text: &mut Vec<u8>, step: &Step, value: &Value) -> Result<(), NoMemory>
     ensures { OnOk result (text.new.items ≡ text.old.items ++ line_of step.now value.now) }
 {
     push_marks(text, value)?;
-    push_step(text, step)?;
-    push_words(text, &value.words)
+    push_unmarked_line(text, step, &value.words)
 }

@@ -16,7 +16,7 @@ use cfg_tree::{Steps, Tree};
 use std::alloc::Global;
 
 /// How many spaces a level stands behind the one above it.
-const INDENT: usize = 4;
+pub(crate) const INDENT: usize = 4;
 
 fn child_of(path: &Path, step: &Step) -> Result<Path, NoMemory>
     requires { length path.now < MAX_STEPS }
@@ -108,7 +108,7 @@ fn push_children(
     Ok(())
 }
 
-fn is_level(shape: Shape) -> bool
+pub(crate) fn is_level(shape: Shape) -> bool
     ensures { result ≡ is_level shape }
 {
     matches!(

@@ -1,0 +1,10 @@
+use Rattle.std.proofs.Common.{◌≡◌, ◌++◌, length}
+use Rattle.curly_print.specs.Inheriting.{given_entries}
+use Rattle.curly_print.proofs.EntriesLemmas.{ahead}
+use Rattle.curly_print.proofs.entries.entries_below.Given as goal
+
+abbrev pub invariant-loop-at : goal.invariant-loop-at
+invariant-loop-at l = l.entries.items ++ ahead l.path l.walk ≡ given_entries l.full l.path
+
+abbrev pub decreases-loop-at : goal.decreases-loop-at
+decreases-loop-at l = length l.walk

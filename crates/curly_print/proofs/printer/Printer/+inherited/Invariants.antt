@@ -1,0 +1,49 @@
+use Rattle.std.proofs.Common.{◌≡◌, ◌+◌, ◌*◌, ◌++◌, length, map, take}
+use Rattle.std.specs.List.{flat_map}
+use Rattle.std.specs.FinMap as finite
+use Rattle.cfg_tree.specs.Tree.{step_of}
+use Rattle.curly_print.specs.Inherited.{given_order}
+use Rattle.curly_print.specs.Inheriting.{given_child_text, headed_text, row_text}
+use Rattle.curly_print.proofs.printer.Printer.+inherited.Given as goal
+
+abbrev pub decreases-push_rows : goal.decreases-push_rows
+decreases-push_rows l = 7 * l.levels + 6
+
+abbrev pub decreases-push_row : goal.decreases-push_row
+decreases-push_row l = 7 * l.levels + 5
+
+abbrev pub decreases-push_named : goal.decreases-push_named
+decreases-push_named l = 7 * l.levels + 4
+
+abbrev pub decreases-push_child : goal.decreases-push_child
+decreases-push_child l = 7 * l.levels + 3
+
+abbrev pub decreases-push_headed : goal.decreases-push_headed
+decreases-push_headed l = 7 * l.levels + 3
+
+abbrev pub decreases-push_entry : goal.decreases-push_entry
+decreases-push_entry l = 7 * l.levels + 2
+
+abbrev pub decreases-push_end : goal.decreases-push_end
+decreases-push_end l = 7 * l.levels + 1
+
+abbrev pub decreases-push_below : goal.decreases-push_below
+decreases-push_below l = 7 * l.levels
+
+abbrev pub invariant-push_rows-loop-id : goal.invariant-push_rows-loop-id
+invariant-push_rows-loop-id l =
+    l.text.items ≡ l.fn.text.items ++ flat_map (row_text l.levels l.self.full.now l.path l.indent) (take l.id-index l.rows)
+
+abbrev pub invariant-push_named-loop-name : goal.invariant-push_named-loop-name
+invariant-push_named-loop-name l =
+    l.text.items ++ flat_map (given_child_text l.levels l.self.full.now l.path l.indent) (map (step_of l.head) l.left)
+    ≡ l.fn.text.items
+    ++ flat_map (given_child_text l.levels l.self.full.now l.path l.indent)
+    (map (step_of l.head) (given_order (finite.get l.self.full.now l.path)))
+
+abbrev pub decreases-push_named-loop-name : goal.decreases-push_named-loop-name
+decreases-push_named-loop-name l = length l.left
+
+abbrev pub invariant-push_headed-loop-entry : goal.invariant-push_headed-loop-entry
+invariant-push_headed-loop-entry l =
+    l.text.items ≡ l.fn.text.items ++ headed_text l.head l.levels l.self.full.now l.indent (take l.entry-index l.entries)

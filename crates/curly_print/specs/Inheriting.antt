@@ -1,0 +1,38 @@
+-- What the private functions that print an expansion give and print.
+use Rattle.std.specs.Prelude.{ℕ, ◌+◌, List, [], ◌∷◌, ◌++◌, filter, Some, if◌then◌else◌}
+use Rattle.std.specs.List.{flat_map}
+use Rattle.std.specs.FinMap as finite
+use Rattle.cfg_base.specs.declared.path.Step.{Step}
+use Rattle.cfg_schema.specs.Profile.{same_word}
+use Rattle.cfg_tree.specs.declared.full.Given.{Given}
+use Rattle.cfg_tree.specs.Statements.{last_of}
+use Rattle.cfg_tree.specs.Children.{is_child, row_steps}
+use Rattle.cfg_tree.specs.Full.{Expansion}
+use Rattle.curly_print.specs.Inherited.{given_below, given_order, given_steps, given_text}
+
+-- a path of an expansion, and what is given there
+abbrev pub FullEntry : Type 0
+FullEntry = List Step × Given
+
+-- those right below a path
+abbrev pub given_entries : Expansion → List Step → List FullEntry
+given_entries full path = filter (λ e. is_child path e.0) (finite.entries full)
+
+-- what is given at a path, behind so many spaces, with so many levels below it
+abbrev pub entry_text : ℕ → Expansion → ℕ → FullEntry → List ℕ
+entry_text levels full indent e = given_text indent (last_of e.0) (Some e.1) (given_below levels full e.0 (indent + 4))
+
+-- of these what has a head
+abbrev pub headed_text : List ℕ → ℕ → Expansion → ℕ → List FullEntry → List ℕ
+headed_text head levels full indent es =
+    flat_map (λ e. if same_word head (last_of e.0).head then entry_text levels full indent e else []) es
+
+-- what is given at a step below a path, where something is
+abbrev pub given_child_text : ℕ → Expansion → List Step → ℕ → Step → List ℕ
+given_child_text levels full path indent step =
+    given_text indent step (finite.get full (path ++ step ∷ [])) (given_below levels full (path ++ step ∷ []) (indent + 4))
+
+-- what is given below a path by a row
+abbrev pub row_text : ℕ → Expansion → List Step → ℕ → ℕ → List ℕ
+row_text levels full path indent id =
+    flat_map (given_child_text levels full path indent) (row_steps id (given_order (finite.get full path)) (given_steps full path))

@@ -1,0 +1,248 @@
+//! What is given below a path of an expansion, as curly text.
+
+ghost use Rattle.std.specs.Prelude.{◌≡◌, ◌<◌, ◌≤◌, ◌+◌, ◌*◌, [], ◌++◌, ◌∷◌, length, map, IfOk, OnOk};
+ghost use Rattle.std.specs.List.{flat_map};
+ghost use Rattle.std.specs.FinMap as finite;
+ghost use Rattle.cfg_base.specs.declared.path.TheConstants.{MAX_STEPS};
+ghost use Rattle.cfg_tree.specs.Statements.{last_of};
+ghost use Rattle.cfg_tree.specs.Tree.{step_of};
+ghost use Rattle.curly_print.specs.Printed.{ended, spaces};
+ghost use Rattle.curly_print.specs.Inherited.{given_below, given_order, note_of, unmarked_line};
+ghost use Rattle.curly_print.specs.Inheriting.{entry_text, given_child_text, given_entries, headed_text, row_text};
+
+use crate::entries::{Entry, entries_below};
+use crate::line::{push_bytes, push_spaces, push_unmarked_line};
+use crate::note::push_note;
+use crate::printing::INDENT;
+use cfg_base::{NoMemory, Path, Step, Word};
+use cfg_schema::{Place, RowId, head, row, rows_below};
+use cfg_tree::Full;
+use std::alloc::Global;
+
+fn named_child(alloc: Global, path: &Path, head: &[u8], name: &Word) -> Result<Path, NoMemory>
+    requires { length path.now < MAX_STEPS }
+    ensures { IfOk result (λ child. child ≡ path.now ++ step_of head.now name.now ∷ []) }
+{
+    let head = match Word::of(alloc, head) {
+        Ok(head) => head,
+        Err(_) => return Err(NoMemory),
+    };
+    let name = name.clone()?;
+    match path.push(Step { head, name }) {
+        Ok(child) => Ok(child),
+        Err(_) => Err(NoMemory),
+    }
+}
+
+/// Puts the note, the spaces and the line of what is given at a path at the end of a text, up to the line's end.
+pub(crate) fn push_front(
+    text: &mut Vec<u8>,
+    entry: &Entry<'_>,
+    indent: usize,
+) -> Result<(), NoMemory>
+    ensures { OnOk result (text.new.items
+        ≡ text.old.items ++ (note_of indent (last_of entry.now.0) entry.now.1.group
+        ++ (spaces indent ++ unmarked_line (last_of entry.now.0) entry.now.1.words))) }
+{
+    let step = entry.step();
+    let given = entry.given();
+    push_note(text, indent, step, &given.group)?;
+    push_spaces(text, indent)?;
+    push_unmarked_line(text, step, &given.words)
+}
+
+/// An expansion that is printed.
+#[derive(Debug, Drop)]
+pub(crate) struct Printer<'a> {
+    alloc: Global,
+    full: &'a Full,
+}
+
+impl<'a> Printer<'a> {
+    pub fn of(alloc: Global, full: &'a Full) -> Printer<'a>
+        ensures { result.full.now ≡ full.now }
+    {
+        Printer { alloc, full }
+    }
+
+    /// Puts what is given below a path at the end of a text, so many levels deep.
+    #[cycle(inherited)]
+    pub fn push_below(
+        &self,
+        text: &mut Vec<u8>,
+        path: &Path,
+        levels: usize,
+        indent: usize,
+    ) -> Result<(), NoMemory>
+        requires { indent + 4 * levels ≤ 64 }
+        ensures { OnOk result (text.new.items ≡ text.old.items ++ given_below levels self.now.full.now path.now indent) }
+    {
+        if levels == 0 {
+            return Ok(());
+        }
+        let entries = entries_below(self.alloc, self.full, path)?;
+        if entries.is_empty() {
+            return Ok(());
+        }
+        let here = match Place::of(path.steps()) {
+            None => return Ok(()),
+            Some(here) => here,
+        };
+        let rows = rows_below(self.alloc, here.row, here.in_group)?;
+        self.push_rows(text, path, &entries, &rows, levels - 1, indent)
+    }
+
+    /// Puts what is given below a path by these rows at the end of a text.
+    #[cycle(inherited)]
+    fn push_rows(
+        &self,
+        text: &mut Vec<u8>,
+        path: &Path,
+        entries: &[Entry<'a>],
+        rows: &[RowId],
+        levels: usize,
+        indent: usize,
+    ) -> Result<(), NoMemory>
+        requires short { length path.now < MAX_STEPS }
+        requires below { entries.now ≡ given_entries self.now.full.now path.now }
+        requires near { indent + 4 * levels ≤ 60 }
+        ensures { OnOk result (text.new.items ≡ text.old.items ++ flat_map (row_text levels self.now.full.now path.now indent) rows.now) }
+    {
+        for id in rows {
+            self.push_row(text, path, entries, *id, levels, indent)?;
+        }
+        Ok(())
+    }
+
+    #[cycle(inherited)]
+    fn push_row(
+        &self,
+        text: &mut Vec<u8>,
+        path: &Path,
+        entries: &[Entry<'a>],
+        id: RowId,
+        levels: usize,
+        indent: usize,
+    ) -> Result<(), NoMemory>
+        requires short { length path.now < MAX_STEPS }
+        requires below { entries.now ≡ given_entries self.now.full.now path.now }
+        requires near { indent + 4 * levels ≤ 60 }
+        ensures { OnOk result (text.new.items ≡ text.old.items ++ row_text levels self.now.full.now path.now indent id) }
+    {
+        if row(id).ordered {
+            self.push_named(text, path, head(id), levels, indent)
+        } else {
+            self.push_headed(text, entries, head(id), levels, indent)
+        }
+    }
+
+    /// Puts the children with a head at the end of a text, in the order of their level.
+    #[cycle(inherited)]
+    fn push_named(
+        &self,
+        text: &mut Vec<u8>,
+        path: &Path,
+        head: &[u8],
+        levels: usize,
+        indent: usize,
+    ) -> Result<(), NoMemory>
+        requires short { length path.now < MAX_STEPS }
+        requires near { indent + 4 * levels ≤ 60 }
+        ensures { OnOk result (text.new.items ≡ text.old.items ++ flat_map (given_child_text levels self.now.full.now path.now indent)
+            (map (step_of head.now) (given_order (finite.get self.now.full.now path.now)))) }
+    {
+        let given = match self.full.at(path) {
+            None => return Ok(()),
+            Some(given) => given,
+        };
+        let mut left = given.order.iter();
+        while let Some(name) = left.next() {
+            self.push_child(text, path, head, name, levels, indent)?;
+        }
+        Ok(())
+    }
+
+    #[cycle(inherited)]
+    fn push_child(
+        &self,
+        text: &mut Vec<u8>,
+        path: &Path,
+        head: &[u8],
+        name: &Word,
+        levels: usize,
+        indent: usize,
+    ) -> Result<(), NoMemory>
+        requires short { length path.now < MAX_STEPS }
+        requires near { indent + 4 * levels ≤ 60 }
+        ensures { OnOk result (text.new.items
+            ≡ text.old.items ++ given_child_text levels self.now.full.now path.now indent (step_of head.now name.now)) }
+    {
+        let child = named_child(self.alloc, path, head, name)?;
+        match self.full.at(&child) {
+            None => Ok(()),
+            Some(given) => self.push_entry(text, &Entry::of(&child, given), levels, indent),
+        }
+    }
+
+    /// Puts those with a head at the end of a text.
+    #[cycle(inherited)]
+    fn push_headed(
+        &self,
+        text: &mut Vec<u8>,
+        entries: &[Entry<'a>],
+        head: &[u8],
+        levels: usize,
+        indent: usize,
+    ) -> Result<(), NoMemory>
+        requires { indent + 4 * levels ≤ 60 }
+        ensures { OnOk result (text.new.items ≡ text.old.items ++ headed_text head.now levels self.now.full.now indent entries.now) }
+    {
+        for entry in entries {
+            if head == entry.step().head.as_bytes() {
+                self.push_entry(text, entry, levels, indent)?;
+            }
+        }
+        Ok(())
+    }
+
+    /// Puts what is given at a path at the end of a text, with what stands in it.
+    #[cycle(inherited)]
+    fn push_entry(
+        &self,
+        text: &mut Vec<u8>,
+        entry: &Entry<'_>,
+        levels: usize,
+        indent: usize,
+    ) -> Result<(), NoMemory>
+        requires { indent + 4 * levels ≤ 60 }
+        ensures { OnOk result (text.new.items ≡ text.old.items ++ entry_text levels self.now.full.now indent entry.now) }
+    {
+        push_front(text, entry, indent)?;
+        self.push_end(text, entry.path(), levels, indent)
+    }
+
+    /// Puts the end of a statement's line at the end of a text, and what stands in it before that.
+    #[cycle(inherited)]
+    fn push_end(
+        &self,
+        text: &mut Vec<u8>,
+        path: &Path,
+        levels: usize,
+        indent: usize,
+    ) -> Result<(), NoMemory>
+        requires { indent + 4 * levels ≤ 60 }
+        ensures { OnOk result (text.new.items ≡ text.old.items ++ ended indent (given_below levels self.now.full.now path.now (indent + 4))) }
+    {
+        let end = text.len();
+        push_bytes(text, b" {\n".as_slice())?;
+        let inside = text.len();
+        self.push_below(text, path, levels, indent + INDENT)?;
+        // What its order names may not be there, so that only the text tells whether something stands in it.
+        if text.len() == inside {
+            text.truncate(end);
+            return push_bytes(text, b";\n".as_slice());
+        }
+        push_spaces(text, indent)?;
+        push_bytes(text, b"}\n".as_slice())
+    }
+}
