@@ -5,3 +5,4 @@ pub mod LengthLemmas
 pub mod HoldsLemmas
 pub mod InheritedLemmas
 pub mod EntriesLemmas
+pub mod OwnLemmas

@@ -3,3 +3,4 @@ pub mod Printing
 pub mod Length
 pub mod Inherited
 pub mod Inheriting
+pub mod Own
