@@ -1,3 +1,5 @@
 pub mod LevelLemmas
 pub mod StepLemmas
 pub mod OutcomeLemmas
+pub mod ShowingLemmas
+pub mod AcceptedLemmas

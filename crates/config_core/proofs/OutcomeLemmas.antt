@@ -1,34 +1,40 @@
 -- A step has one outcome.
-use Rattle.std.proofs.Common.{◌≡◌, ◌≢◌, ◌⊎◌, ℕ, Bool, true, false, ◌==◌, List, [], length, refl, sym, ap, ◌∙◌, inl, inr, Some, None, Result, Ok, Err}
+use Rattle.std.proofs.Common.{◌≡◌, ◌≢◌, ◌⊎◌, ℕ, Bool, true, false, ◌==◌, List, [], length, refl, sym, ap, subst, ◌∙◌, inl, inr, Some, None, Result, Ok, Err}
 use Rattle.std.specs.Prelude.{MatchBool}
 use Rattle.commands.specs.declared.command.Command.{Command}
-use Rattle.commands.specs.declared.command.Command.TheVariants.{Configure, ShowActive, Logout, Edit, Up, Top, Exit, ExitAll, Show, Change, Commit as CommitOf}
+use Rattle.commands.specs.declared.command.Command.TheVariants.{Configure, ShowActive, Logout, Edit, Up, Top, Exit, ExitAll, Show, Change, CheckOnly, Commit as CommitOf}
 use Rattle.commands.specs.declared.command.Form.{Form}
+use Rattle.commands.specs.declared.command.Form.TheVariants.{Curly, SetLines, Inherited}
 use Rattle.commands.specs.declared.command.Op.{Op}
 use Rattle.cfg_base.specs.declared.path.Step.{Step}
 use Rattle.cfg_tree.specs.declared.target.Target.{Target}
 use Rattle.cfg_tree.specs.declared.target.WordsFault.{WordsFault}
 use Rattle.cfg_tree.specs.declared.target.WordsFault.TheVariants as words
+use Rattle.cfg_tree.specs.Full.{Expansion}
 use Rattle.cfg_tree.specs.Statements.{Statements}
 use Rattle.cfg_tree.specs.Resolve.{ResolvesTo, IsLevelPath}
 use Rattle.cfg_tree.proofs.TopLemmas.{top_is_level}
 use Rattle.edit_ops.specs.declared.fault.EditFault.{EditFault}
 use Rattle.edit_ops.specs.declared.fault.EditFault.TheVariants as edit
 use Rattle.edit_ops.specs.Answer.{edit_fault, IsChange, IsEditFault}
+use Rattle.group_expand.specs.Expansion.{IsExpansion}
+use Rattle.commit_check.specs.Accepts.{Accepts, IsFirst}
 use Rattle.config_core.specs.declared.event.Event.{Event}
 use Rattle.config_core.specs.declared.event.Event.TheVariants.{Command as CommandOf}
 use Rattle.config_core.specs.declared.reply.Refusal.{Refusal}
-use Rattle.config_core.specs.declared.reply.Refusal.TheVariants.{WrongMode}
-use Rattle.config_core.specs.declared.reply.Reply.TheVariants.{Done}
+use Rattle.config_core.specs.declared.reply.Refusal.TheVariants.{WrongMode, Check}
+use Rattle.config_core.specs.declared.reply.Reply.{Reply}
+use Rattle.config_core.specs.declared.reply.Reply.TheVariants.{Done, Checked}
 use Rattle.config_core.specs.Kept.{active_of}
 use Rattle.config_core.specs.State.{State}
-use Rattle.config_core.specs.Machine.{Turned, answered, refused, level_of, is_configuring, edited, refusal_of, Moves, IsLost, ShowsNamed, Shows, shown_of, Changes, IsUnchanged, committed, Operational, Configuring, Serves, later, Steps}
+use Rattle.config_core.specs.Showing.{refusal_of, NamesNone, NamesOne, path_alone, AsksFor, shown_full, ShowsBelow, ShowsAnswer, IsShow}
+use Rattle.config_core.specs.Machine.{Turned, answered, refused, level_of, is_configuring, edited, Moves, IsLost, Shows, Changes, IsUnchanged, Checks, committed, Operational, Configuring, Serves, later, Steps}
 
 both_served : (b : Bool) (P Q P' Q' R : Type 0) → (P → P' → R) → (Q → Q' → R) → MatchBool b P Q → MatchBool b P' Q' → R
 both_served true P Q P' Q' R f g h k = f h k
 both_served false P Q P' Q' R f g h k = g h k
 
-both_are : (a one other : Turned) → one ≡ a → other ≡ a → one ≡ other
+both_are : {A : Type 0} (a one other : A) → one ≡ a → other ≡ a → one ≡ other
 both_are a one other h k = h ∙ sym k
 
 same_some : {A : Type 0} (a b : A) → Some a ≡ Some b → a ≡ b
@@ -63,41 +69,81 @@ why_has_cause why refusal told e = has_cause (edit_fault why) refusal told (ap e
 ok_has_none : (target : Target) → named target ≢ misnamed words.NoMemory
 ok_has_none target e = ok_differs target words.NoMemory e
 
-module _ (s : State) (level : List Step)
+module _ (level : List Step)
     (words_once : (asked : List (List ℕ)) (one other : Result Target WordsFault) → ResolvesTo level asked one
     → ResolvesTo level asked other → one ≢ misnamed words.NoMemory → other ≢ misnamed words.NoMemory → one ≡ other) where
   -- words name one statement
   named_once : (asked : List (List ℕ)) (one other : Target) → ResolvesTo level asked (named one) → ResolvesTo level asked (named other) → one ≡ other
   named_once asked one other f g = same_target one other (words_once asked (named one) (named other) f g (ok_has_none one) (ok_has_none other))
 
-  -- words that name a statement aren't refused
-  named_or_lost : (asked : List (List ℕ)) (target : Target) (turned : Turned) → ResolvesTo level asked (named target) → IsLost s level asked turned → ⊥
-  named_or_lost asked target turned f lost =
-      ok_differs target lost.why
-      (words_once asked (named target) (misnamed lost.why) f lost.names (ok_has_none target) (why_has_cause lost.why lost.refusal lost.told))
+  module _ {A : Type 0} (of_target : Target → A) (of_refusal : Refusal → A) (asked : List (List ℕ)) where
+    -- words that name a statement aren't refused
+    one_or_none : (one other : A) → NamesOne of_target level asked one → NamesNone of_refusal level asked other → ⊥
+    one_or_none one other a b =
+        ok_differs a.target b.why
+        (words_once asked (named a.target) (misnamed b.why) a.names b.names (ok_has_none a.target) (why_has_cause b.why b.refusal b.told))
 
-  lost_once : (asked : List (List ℕ)) (one other : Turned) → IsLost s level asked one → IsLost s level asked other → one ≡ other
-  lost_once asked one other a b =
-      let same = words_once asked (misnamed a.why) (misnamed b.why) a.names b.names (why_has_cause a.why a.refusal a.told) (why_has_cause b.why b.refusal b.told)
-      in let one_refusal = sym a.told ∙ ap (λ (w : WordsFault). refusal_of (edit_fault w)) (same_why a.why b.why same) ∙ b.told
-      in a.is ∙ ap (refused s) (same_some a.refusal b.refusal one_refusal) ∙ sym b.is
+    none_once : (one other : A) → NamesNone of_refusal level asked one → NamesNone of_refusal level asked other → one ≡ other
+    none_once one other a b =
+        let same = words_once asked (misnamed a.why) (misnamed b.why) a.names b.names (why_has_cause a.why a.refusal a.told) (why_has_cause b.why b.refusal b.told)
+        in let one_refusal = sym a.told ∙ ap (λ (w : WordsFault). refusal_of (edit_fault w)) (same_why a.why b.why same) ∙ b.told
+        in a.is ∙ ap of_refusal (same_some a.refusal b.refusal one_refusal) ∙ sym b.is
 
-  named_shows_once : (m : Statements) (asked : List (List ℕ)) (form : Form) (one other : Turned) → ShowsNamed s m level asked form one ⊎ IsLost s level asked one
-      → ShowsNamed s m level asked form other ⊎ IsLost s level asked other → one ≡ other
-  named_shows_once m asked form one other (inl a) (inl b) =
-      a.is ∙ ap (λ (t : Target). shown_of s m form t) (named_once asked a.target b.target a.names b.names) ∙ sym b.is
-  named_shows_once m asked form one other (inl a) (inr b) = absurd (named_or_lost asked a.target other a.names b)
-  named_shows_once m asked form one other (inr a) (inl b) = absurd (named_or_lost asked b.target one b.names a)
-  named_shows_once m asked form one other (inr a) (inr b) = lost_once asked one other a b
+    -- words have one answer
+    answer_once : (one other : A) → NamesOne of_target level asked one ⊎ NamesNone of_refusal level asked one
+        → NamesOne of_target level asked other ⊎ NamesNone of_refusal level asked other → one ≡ other
+    answer_once one other (inl a) (inl b) = a.is ∙ ap of_target (named_once asked a.target b.target a.names b.names) ∙ sym b.is
+    answer_once one other (inl a) (inr b) = absurd (one_or_none one other a b)
+    answer_once one other (inr a) (inl b) = absurd (one_or_none other one b a)
+    answer_once one other (inr a) (inr b) = none_once one other a b
 
-  shows_once : (m : Statements) (asked : List (List ℕ)) (form : Form) (one other : Turned) → Shows s m level asked form one
-      → Shows s m level asked form other → one ≡ other
-  shows_once m asked form one other =
-      both_served (length asked == 0) _ _ _ _ (one ≡ other) (both_are _ one other) (named_shows_once m asked form one other)
+  -- a show asks for one path
+  path_once : (asked : List (List ℕ)) (one other : Result (List Step) Refusal) → AsksFor level asked one → AsksFor level asked other → one ≡ other
+  path_once asked one other =
+      both_served (length asked == 0) _ _ _ _ (one ≡ other) (both_are _ one other) (answer_once path_alone Err asked one other)
+
+  module _ (full_once : (m : Statements) (full other : Expansion) → IsExpansion m full → IsExpansion m other → full ≡ other) where
+    below_once : (form : Form) (m : Statements) (path : List Step) (one other : Reply) → ShowsBelow form m path one → ShowsBelow form m path other → one ≡ other
+    below_once Curly m path one other a b = both_are _ one other a b
+    below_once SetLines m path one other a b = both_are _ one other a b
+    below_once Inherited m path one other a b =
+        a.is ∙ ap (λ (full : Expansion). shown_full full path) (full_once m a.full b.full a.expansion b.expansion) ∙ sym b.is
+
+    said_once : (form : Form) (m : Statements) (answer : Result (List Step) Refusal) (one other : Reply) → ShowsAnswer form m answer one
+        → ShowsAnswer form m answer other → one ≡ other
+    said_once form m (Ok path) one other = below_once form m path one other
+    said_once form m (Err refusal) one other = both_are _ one other
+
+    -- a show says one thing
+    show_once : (m : Statements) (asked : List (List ℕ)) (form : Form) (one other : Reply) → IsShow m level asked form one
+        → IsShow m level asked form other → one ≡ other
+    show_once m asked form one other a b =
+        said_once form m b.answer one other
+        (subst (λ (answer : Result (List Step) Refusal). ShowsAnswer form m answer one) (path_once asked a.answer b.answer a.names b.names) a.shows) b.shows
+
+    shows_once : (s : State) (m : Statements) (asked : List (List ℕ)) (form : Form) (one other : Turned) → Shows s m level asked form one
+        → Shows s m level asked form other → one ≡ other
+    shows_once s m asked form one other a b = a.is ∙ ap (answered s) (show_once m asked form a.reply b.reply a.show b.show) ∙ sym b.is
+
+-- a check has one outcome
+module _ (first_once : (m : Statements) (number other : ℕ) (path again : List Step) → IsFirst m number path → IsFirst m other again
+    → (number ≡ other) × (path ≡ again))
+    (accepted_or_first : (m : Statements) (number : ℕ) (path : List Step) → Accepts m → IsFirst m number path → ⊥) where
+  checks_once : (s : State) (accepted one other : Turned) → Checks s one accepted → Checks s other accepted → one ≡ other
+  checks_once s accepted one other (inl a) (inl b) = a.1 ∙ sym b.1
+  checks_once s accepted one other (inl a) (inr b) = absurd (accepted_or_first s.candidate b.number b.path a.0 b.first)
+  checks_once s accepted one other (inr a) (inl b) = absurd (accepted_or_first s.candidate a.number a.path b.0 a.first)
+  checks_once s accepted one other (inr a) (inr b) =
+      let same = first_once s.candidate a.number b.number a.path b.path a.first b.first in
+      a.is ∙ ap (λ (n : ℕ). refused s (Check n a.path)) same.0 ∙ ap (λ (p : List Step). refused s (Check b.number p)) same.1 ∙ sym b.is
 
 module _ (s : State) (caller : ℕ)
     (words_once : (level : List Step) (asked : List (List ℕ)) (one other : Result Target WordsFault) → IsLevelPath level → ResolvesTo level asked one
     → ResolvesTo level asked other → one ≢ misnamed words.NoMemory → other ≢ misnamed words.NoMemory → one ≡ other)
+    (full_once : (m : Statements) (full other : Expansion) → IsExpansion m full → IsExpansion m other → full ≡ other)
+    (first_once : (m : Statements) (number other : ℕ) (path again : List Step) → IsFirst m number path → IsFirst m other again
+    → (number ≡ other) × (path ≡ again))
+    (accepted_or_first : (m : Statements) (number : ℕ) (path : List Step) → Accepts m → IsFirst m number path → ⊥)
     (is_level : IsLevelPath (level_of s caller))
     (map_once : (op : Op) (one other : Statements) (told again : Bool) → IsChange s.candidate one (level_of s caller) op told
     → IsChange s.candidate other (level_of s caller) op again → (one ≡ other) × (told ≡ again))
@@ -111,16 +157,8 @@ module _ (s : State) (caller : ℕ)
 
   moves_once : (asked : List (List ℕ)) (one other : Turned) → Moves s caller asked one ⊎ IsLost s (level_of s caller) asked one
       → Moves s caller asked other ⊎ IsLost s (level_of s caller) asked other → one ≡ other
-  moves_once asked one other (inl a) (inl b) =
-      a.is
-      ∙ ap (λ (t : Target). edited s caller t.path)
-      (named_once s (level_of s caller) (once_at (level_of s caller) is_level) asked a.target b.target a.names b.names)
-      ∙ sym b.is
-  moves_once asked one other (inl a) (inr b) =
-      absurd (named_or_lost s (level_of s caller) (once_at (level_of s caller) is_level) asked a.target other a.names b)
-  moves_once asked one other (inr a) (inl b) =
-      absurd (named_or_lost s (level_of s caller) (once_at (level_of s caller) is_level) asked b.target one b.names a)
-  moves_once asked one other (inr a) (inr b) = lost_once s (level_of s caller) (once_at (level_of s caller) is_level) asked one other a b
+  moves_once asked one other =
+      answer_once (level_of s caller) (once_at (level_of s caller) is_level) (λ (target : Target). edited s caller target.path) (refused s) asked one other
 
   changes_once : (op : Op) (one other : Turned) → Changes s caller op one ⊎ IsUnchanged s caller op one
       → Changes s caller op other ⊎ IsUnchanged s caller op other → one ≡ other
@@ -149,7 +187,7 @@ module _ (s : State) (caller : ℕ)
     pub serves_once : (command : Command) → Serves s caller command one → Serves s caller command other → one ≡ other
     serves_once (Configure mode) = operational_once _ _ (both_are _ one other)
     serves_once (ShowActive asked form) =
-        operational_once _ _ (shows_once s [] (once_at [] (top_is_level [] refl)) (active_of s.kept) asked form one other)
+        operational_once _ _ (shows_once [] (once_at [] (top_is_level [] refl)) full_once s (active_of s.kept) asked form one other)
     serves_once Logout = both_are _ one other
     serves_once (Edit asked) = configuring_once _ _ (moves_once asked one other)
     serves_once (Up count) = configuring_once _ _ (both_are _ one other)
@@ -157,14 +195,19 @@ module _ (s : State) (caller : ℕ)
     serves_once Exit = configuring_once _ _ (both_are _ one other)
     serves_once ExitAll = configuring_once _ _ (both_are _ one other)
     serves_once (Show asked form) =
-        configuring_once _ _ (shows_once s (level_of s caller) (once_at (level_of s caller) is_level) s.candidate asked form one other)
+        configuring_once _ _ (shows_once (level_of s caller) (once_at (level_of s caller) is_level) full_once s s.candidate asked form one other)
     serves_once (Change op) = configuring_once _ _ (changes_once op one other)
-    serves_once CommitOf = configuring_once _ _ (both_are _ one other)
+    serves_once CheckOnly = configuring_once _ _ (checks_once first_once accepted_or_first s (answered s Checked) one other)
+    serves_once CommitOf = configuring_once _ _ (checks_once first_once accepted_or_first s (committed s caller) one other)
 
 -- an event has one outcome
 pub steps_once :
     ((level : List Step) (asked : List (List ℕ)) (one other : Result Target WordsFault) → IsLevelPath level → ResolvesTo level asked one
     → ResolvesTo level asked other → one ≢ misnamed words.NoMemory → other ≢ misnamed words.NoMemory → one ≡ other)
+    → ((m : Statements) (full other : Expansion) → IsExpansion m full → IsExpansion m other → full ≡ other)
+    → ((m : Statements) (number other : ℕ) (path again : List Step) → IsFirst m number path → IsFirst m other again
+    → (number ≡ other) × (path ≡ again))
+    → ((m : Statements) (number : ℕ) (path : List Step) → Accepts m → IsFirst m number path → ⊥)
     → ((m one other : Statements) (level : List Step) (op : Op) (told again : Bool) → IsLevelPath level → IsChange m one level op told
     → IsChange m other level op again → (one ≡ other) × (told ≡ again))
     → ((m : Statements) (level : List Step) (op : Op) (one other : EditFault) → IsLevelPath level → IsEditFault m level op one
@@ -173,8 +216,8 @@ pub steps_once :
     → IsEditFault m level op fault → fault ≡ edit.NoMemory)
     → (s : State) (caller moment : ℕ) (event : Event) (one other : Turned) → IsLevelPath (level_of s caller)
     → Steps s caller moment event one → Steps s caller moment event other → one ≡ other
-steps_once words_once map_once fault_once map_or_fault s caller moment (CommandOf command) one other is_level =
-    serves_once (later s moment) caller words_once is_level
+steps_once words_once full_once first_once accepted_or_first map_once fault_once map_or_fault s caller moment (CommandOf command) one other is_level =
+    serves_once (later s moment) caller words_once full_once first_once accepted_or_first is_level
     (λ op one other told again. map_once s.candidate one other (level_of s caller) op told again is_level)
     (λ op one other. fault_once s.candidate (level_of s caller) op one other is_level)
     (λ op n told fault. map_or_fault s.candidate n (level_of s caller) op told fault is_level)

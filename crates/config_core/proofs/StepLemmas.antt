@@ -1,18 +1,19 @@
 -- Prepared steps.
-use Rattle.std.proofs.Common.{◌≡◌, ◌⊎◌, ◌==◌, ℕ, List, length, Bool, true, false, cond, refl, sym, ap, subst, ◌∙◌, inl, inr, Result, Ok, Err}
+use Rattle.std.proofs.Common.{◌≡◌, ℕ, List, Bool, true, false, refl, sym, ap, subst, inl, Result, Ok, Err}
 use Rattle.std.specs.Prelude.{MatchBool, IfOk}
 use Rattle.commands.specs.declared.command.Form.{Form}
 use Rattle.commands.specs.declared.command.Op.{Op}
-use Rattle.commands.specs.declared.command.Command.TheVariants.{Change}
+use Rattle.commands.specs.declared.command.Command.TheVariants.{Change, CheckOnly, Commit as CommitOf}
 use Rattle.cfg_base.specs.declared.path.Step.{Step}
+use Rattle.cfg_tree.specs.Full.{Expansion}
 use Rattle.cfg_tree.specs.Statements.{Statements}
 use Rattle.edit_ops.specs.Answer.{IsChange}
-use Rattle.config_core.specs.declared.effect.Effect.TheVariants.{Edit}
-use Rattle.config_core.specs.declared.reply.Reply.{Reply}
-use Rattle.config_core.specs.declared.reply.Reply.TheVariants.{Done, Text}
+use Rattle.commit_check.specs.Accepts.{Accepts, IsAccepted}
+use Rattle.config_core.specs.declared.effect.Effect.TheVariants.{Stay, Edit}
+use Rattle.config_core.specs.declared.reply.Reply.TheVariants.{Done, Checked}
 use Rattle.config_core.specs.Plan.{Plan}
 use Rattle.config_core.specs.State.{State}
-use Rattle.config_core.specs.Machine.{IsCaller, Turned, Serves, IsLost, Shows, ShowsNamed, answered, later, level_of, is_configuring, text_as}
+use Rattle.config_core.specs.Machine.{IsCaller, Turned, Serves, Shows, committed, later, level_of, is_configuring}
 use Rattle.config_core.specs.Prepared.{Prepares}
 
 pub served : (b : Bool) (P Q : Type 0) → b ≡ true → P → MatchBool b P Q
@@ -35,15 +36,32 @@ prepares_change s caller moment op next told plan is_caller configuring change i
       steps = served (is_configuring s caller) _ _ configuring (inl record { next = next; told = told; change = change; is = refl });
     }
 
+-- a candidate that is accepted
+accepted_there : (candidate next : Statements) (full : Expansion) → candidate ≡ next → IsAccepted candidate full → Accepts next
+accepted_there candidate next full same accepted = subst Accepts same (full, accepted)
+
+pub prepares_checked : (s : State) (candidate : Statements) (caller moment : ℕ) (full : Expansion) (plan : Plan) → IsCaller s caller
+    → is_configuring s caller ≡ true → candidate ≡ s.candidate → IsAccepted candidate full
+    → plan ≡ record { caller = caller; moment = moment; effect = Stay; reply = Checked } → Prepares s (Serves (later s moment) caller CheckOnly) plan
+prepares_checked s candidate caller moment full plan is_caller configuring same accepted is =
+    subst (Prepares s (Serves (later s moment) caller CheckOnly)) (sym is) record {
+      follows = record { is_caller = is_caller; fits = tt };
+      steps = served (is_configuring s caller) _ _ configuring (inl (accepted_there candidate s.candidate full same accepted, refl));
+    }
+
+pub prepares_commit : {E : Type 0} (s : State) (candidate : Statements) (caller moment : ℕ) (full : Expansion) (answer : Result Plan E)
+    → is_configuring s caller ≡ true → candidate ≡ s.candidate → IsAccepted candidate full
+    → IfOk answer (Prepares s (λ turned. turned ≡ committed (later s moment) caller))
+    → IfOk answer (Prepares s (Serves (later s moment) caller CommitOf))
+prepares_commit s candidate caller moment full answer configuring same accepted =
+    prepares_more s (λ turned. turned ≡ committed (later s moment) caller) (Serves (later s moment) caller CommitOf) answer
+    (λ turned is. served (is_configuring s caller) _ _ configuring (inl (accepted_there candidate s.candidate full same accepted, is)))
+
 -- a show leaves the state as it was
 pub shows_stay : (s : State) (m : Statements) (level : List Step) (asked : List (List ℕ)) (form : Form) (turned : Turned) → Shows s m level asked form turned → turned.state ≡ s
-shows_stay s m level asked form turned = by_words (length asked == 0)
-  where
-    shown_stays : (b : Bool) (one other : Reply) → (cond b (answered s one) (answered s other)).state ≡ s
-    shown_stays true one other = refl
-    shown_stays false one other = refl
+shows_stay s m level asked form turned shows = ap (λ (t : Turned). t.state) shows.is
 
-    by_words : (b : Bool) → MatchBool b (turned ≡ answered s (Text (text_as form m level))) (ShowsNamed s m level asked form turned ⊎ IsLost s level asked turned) → turned.state ≡ s
-    by_words true is = ap (λ (t : Turned). t.state) is
-    by_words false (inl named) = ap (λ (t : Turned). t.state) named.is ∙ shown_stays (length named.target.words == 0) _ _
-    by_words false (inr lost) = ap (λ (t : Turned). t.state) lost.is
+-- a command is served, or refused for its mode
+pub by_mode : (b : Bool) (A B P : Type 0) → (A → P) → (B → P) → MatchBool b A B → P
+by_mode true A B P first second so = first so
+by_mode false A B P first second so = second so

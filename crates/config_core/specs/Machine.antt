@@ -1,36 +1,31 @@
 -- One step of the machine: what an event makes of the state, and the reply to it.
 -- Junos OS CLI User Guide, on entering and leaving configuration mode, on moves through levels, on changes of the candidate,
--- on commit, on show and on display set.
-use Rattle.std.specs.Prelude.{◌≡◌, ◌⊎◌, ℕ, ◌+◌, ◌-◌, ◌≤◌, ◌<◌, nat_lt, List, [], length, Bool, ◌==◌, if◌then◌else◌, MatchBool, Option, None, Some, is_some, slice_get, slice_set, Ok, Err}
+-- on commit and commit check, and on show.
+use Rattle.std.specs.Prelude.{◌≡◌, ◌⊎◌, ℕ, ◌+◌, ◌-◌, ◌≤◌, ◌<◌, nat_lt, List, [], length, Bool, if◌then◌else◌, MatchBool, Option, None, Some, is_some, slice_get, slice_set}
 use Rattle.commands.specs.declared.command.Mode.{Mode}
 use Rattle.commands.specs.declared.command.Form.{Form}
-use Rattle.commands.specs.declared.command.Form.TheVariants.{Curly, SetLines}
 use Rattle.commands.specs.declared.command.Op.{Op}
 use Rattle.commands.specs.declared.command.Command.{Command}
-use Rattle.commands.specs.declared.command.Command.TheVariants.{Configure, ShowActive, Logout, Edit, Up, Top, Exit, ExitAll, Show, Change, Commit as CommitOf}
+use Rattle.commands.specs.declared.command.Command.TheVariants.{Configure, ShowActive, Logout, Edit, Up, Top, Exit, ExitAll, Show, Change, CheckOnly, Commit as CommitOf}
 use Rattle.cfg_base.specs.declared.path.Step.{Step}
-use Rattle.cfg_tree.specs.declared.target.Target.{Target}
-use Rattle.cfg_tree.specs.declared.target.WordsFault.{WordsFault}
 use Rattle.cfg_tree.specs.Statements.{Statements}
-use Rattle.cfg_tree.specs.Resolve.{ResolvesTo}
-use Rattle.curly_print.specs.Printed.{printed}
-use Rattle.set_text.specs.Printed.{printed_set}
 use Rattle.edit_ops.specs.declared.fault.EditFault.{EditFault}
-use Rattle.edit_ops.specs.declared.fault.EditFault.TheVariants as edit
-use Rattle.edit_ops.specs.Answer.{edit_fault, IsChange, IsEditFault}
+use Rattle.edit_ops.specs.Answer.{IsChange, IsEditFault}
+use Rattle.commit_check.specs.Accepts.{Accepts, IsFirst}
 use Rattle.config_core.specs.declared.commit.Commit.{Commit}
 use Rattle.config_core.specs.declared.commit.Via.TheVariants.{Cli}
 use Rattle.config_core.specs.declared.event.Event.{Event}
 use Rattle.config_core.specs.declared.event.Event.TheVariants.{Command as CommandOf}
 use Rattle.config_core.specs.declared.ledger.TheConstants.{MAX_ENTRIES}
 use Rattle.config_core.specs.declared.reply.Refusal.{Refusal}
-use Rattle.config_core.specs.declared.reply.Refusal.TheVariants.{WrongMode, Unknown, BadValue, Incomplete, Extra, NotThere, NotALevel, Protected, TooMany, Exhausted}
+use Rattle.config_core.specs.declared.reply.Refusal.TheVariants.{WrongMode, NotALevel, Check, Exhausted}
 use Rattle.config_core.specs.declared.reply.Reply.{Reply}
-use Rattle.config_core.specs.declared.reply.Reply.TheVariants.{Done, LoggedOut, Text, Entered, Left, Committed, Refused}
+use Rattle.config_core.specs.declared.reply.Reply.TheVariants.{Done, LoggedOut, Entered, Left, Checked, Committed, Refused}
 use Rattle.config_core.specs.Kept.{append_entry, active_of}
 use Rattle.config_core.specs.declared.caller.Caller.{Caller}
 use Rattle.config_core.specs.State.{State, operational}
 use Rattle.config_core.specs.Levels.{Position, at_top, is_level_at, moved_to, moved_up, moved_back}
+use Rattle.config_core.specs.Showing.{refusal_of, NamesNone, NamesOne, IsShow}
 
 -- what an event leaves: the state after it, and its reply
 pub record Turned : Type 0 where
@@ -97,56 +92,35 @@ abbrev pub exited : State → ℕ → Option Position → Turned
 exited s caller None = answered (without_mode s caller) Left
 exited s caller (Some position) = answered (with_position s caller position) Done
 
--- a change is refused so; want of memory is no refusal
-abbrev pub refusal_of : EditFault → Option Refusal
-refusal_of (edit.Unknown path) = Some (Unknown path)
-refusal_of (edit.BadValue path) = Some (BadValue path)
-refusal_of (edit.Incomplete path) = Some (Incomplete path)
-refusal_of (edit.Extra path) = Some (Extra path)
-refusal_of (edit.NotThere path) = Some (NotThere path)
-refusal_of (edit.Protected path) = Some (Protected path)
-refusal_of edit.TooMany = Some TooMany
-refusal_of edit.NoMemory = None
-
 -- `edit` goes to the level that the words name
 abbrev pub edited : State → ℕ → List Step → Turned
 edited s caller path =
     if is_level_at path then answered (with_position s caller (moved_to (position_of s caller) path)) Done
     else refused s (NotALevel path)
 
-pub record Moves (s : State) (caller : ℕ) (asked : List (List ℕ)) (turned : Turned) : Type 0 where
-  pub target : Target
-  pub names : ResolvesTo (level_of s caller) asked (Ok target)
-  pub is : turned ≡ edited s caller target.path
+abbrev pub Moves : State → ℕ → List (List ℕ) → Turned → Type 0
+Moves s caller asked turned = NamesOne (λ target. edited s caller target.path) (level_of s caller) asked turned
 
 -- words that name no statement from a level on are refused
-pub record IsLost (s : State) (level : List Step) (asked : List (List ℕ)) (turned : Turned) : Type 0 where
-  pub why : WordsFault
-  pub refusal : Refusal
-  pub names : ResolvesTo level asked (Err why)
-  pub told : refusal_of (edit_fault why) ≡ Some refusal
-  pub is : turned ≡ refused s refusal
+abbrev pub IsLost : State → List Step → List (List ℕ) → Turned → Type 0
+IsLost s level asked turned = NamesNone (refused s) level asked turned
 
--- the text of the statements below a path in a form
-abbrev pub text_as : Form → Statements → List Step → List ℕ
-text_as Curly m path = printed m path
-text_as SetLines m path = printed_set m path
+-- a show of statements from a level on changes nothing
+pub record Shows (s : State) (m : Statements) (level : List Step) (asked : List (List ℕ)) (form : Form) (turned : Turned) : Type 0 where
+  pub reply : Reply
+  pub show : IsShow m level asked form reply
+  pub is : turned ≡ answered s reply
 
--- the text of what words name is shown, and words behind its path are refused
-abbrev pub shown_of : State → Statements → Form → Target → Turned
-shown_of s m form target =
-    if length target.words == 0 then answered s (Text (text_as form m target.path)) else refused s (Extra target.path)
+-- the candidate breaks a rule, and is refused for the first fault
+pub record BreaksRule (s : State) (turned : Turned) : Type 0 where
+  pub number : ℕ
+  pub path : List Step
+  pub first : IsFirst s.candidate number path
+  pub is : turned ≡ refused s (Check number path)
 
-pub record ShowsNamed (s : State) (m : Statements) (level : List Step) (asked : List (List ℕ)) (form : Form) (turned : Turned) : Type 0 where
-  pub target : Target
-  pub names : ResolvesTo level asked (Ok target)
-  pub is : turned ≡ shown_of s m form target
-
--- a show of statements from a level on: without words of what stands below the level
-abbrev pub Shows : State → Statements → List Step → List (List ℕ) → Form → Turned → Type 0
-Shows s m level asked form turned =
-    MatchBool (length asked == 0) (turned ≡ answered s (Text (text_as form m level)))
-    (ShowsNamed s m level asked form turned ⊎ IsLost s level asked turned)
+-- the candidate is checked: where it is accepted this comes of it
+abbrev pub Checks : State → Turned → Turned → Type 0
+Checks s turned accepted = (Accepts s.candidate × (turned ≡ accepted)) ⊎ BreaksRule s turned
 
 -- a change makes another candidate of the candidate
 pub record Changes (s : State) (caller : ℕ) (op : Op) (turned : Turned) : Type 0 where
@@ -184,7 +158,8 @@ Serves s caller Exit turned = Configuring s caller turned (turned ≡ exited s c
 Serves s caller ExitAll turned = Configuring s caller turned (turned ≡ answered (without_mode s caller) Left)
 Serves s caller (Show asked form) turned = Configuring s caller turned (Shows s s.candidate (level_of s caller) asked form turned)
 Serves s caller (Change op) turned = Configuring s caller turned (Changes s caller op turned ⊎ IsUnchanged s caller op turned)
-Serves s caller CommitOf turned = Configuring s caller turned (turned ≡ committed s caller)
+Serves s caller CheckOnly turned = Configuring s caller turned (Checks s turned (answered s Checked))
+Serves s caller CommitOf turned = Configuring s caller turned (Checks s turned (committed s caller))
 
 -- the state at a later moment
 abbrev pub later : State → ℕ → State

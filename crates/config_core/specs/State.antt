@@ -1,6 +1,7 @@
 -- The state of the machine between two events.
 use Rattle.std.specs.Prelude.{ℕ, List, map, None}
 use Rattle.cfg_tree.specs.Statements.{Statements}
+use Rattle.commit_check.specs.Accepts.{Accepts}
 use Rattle.config_core.specs.declared.caller.Caller.{Caller}
 use Rattle.config_core.specs.Kept.{Kept, active_of}
 use Rattle.config_core.specs.Levels.{at_top}
@@ -27,3 +28,7 @@ opening_of kept users = record {
   callers = map operational users;
   greatest = kept.last.moment;
 }
+
+-- the active configuration keeps the rules that a commit asks of it
+abbrev pub IsActiveAccepted : State → Type 0
+IsActiveAccepted s = Accepts (active_of s.kept)

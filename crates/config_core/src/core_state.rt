@@ -5,7 +5,8 @@ ghost use Rattle.cfg_tree.specs.Typed.{IsTypedPath};
 ghost use Rattle.config_core.specs.declared.effect.Effect.TheVariants.{Stay};
 ghost use Rattle.config_core.specs.declared.reply.Reply.TheVariants.{Refused};
 ghost use Rattle.config_core.specs.State.{opening_of, operational};
-ghost use Rattle.config_core.specs.Machine.{Fits, IsCaller, Steps, Serves, later, caller_of, level_of, is_configuring, with_caller, edited, commit_of, committed, shown_of, IsLost, Shows};
+ghost use Rattle.commit_check.specs.Accepts.{IsCheckFault};
+ghost use Rattle.config_core.specs.Machine.{Fits, IsCaller, Steps, Serves, later, caller_of, level_of, is_configuring, with_caller, edited, commit_of, committed, BreaksRule, IsLost, Shows};
 ghost use Rattle.config_core.specs.Prepared.{applied, Follows, Prepares};
 
 use crate::caller::Caller;
@@ -17,10 +18,11 @@ use crate::position::Position;
 use crate::prepared::Prepared;
 use crate::refusing::{is_level_at, refusal_of};
 use crate::reply::{Refusal, Reply};
-use crate::showing::text_as;
+use crate::showing::show;
 use cfg_base::{Moment, NoMemory, Path, UserName, Users, Words};
-use cfg_tree::{Target, Tree, WordsFault, resolve};
+use cfg_tree::{Tree, WordsFault, resolve};
 use commands::{Command, Form, Mode, Op};
+use commit_check::{CheckFault, check};
 use edit_ops::{EditFault, apply};
 use std::alloc::Global;
 use std::marker::Model;
@@ -143,6 +145,7 @@ impl Core {
             Command::ExitAll => Ok(self.prepare_exit_all(caller, moment)),
             Command::Show { words, form } => self.prepare_show(caller, moment, words, *form),
             Command::Change(op) => self.prepare_change(caller, moment, op),
+            Command::CheckOnly => self.prepare_check(caller, moment),
             Command::Commit => self.prepare_commit(caller, moment),
         }
     }
@@ -171,25 +174,6 @@ impl Core {
         step(caller, moment, Effect::Enter(mode), Reply::Entered(mode))
     }
 
-    // The text of what words name, or the refusal of words behind it.
-    fn shown(
-        &self,
-        caller: u32,
-        moment: Moment,
-        tree: &Tree,
-        form: Form,
-        target: Target,
-    ) -> Result<Prepared, NoMemory>
-        requires { IsCaller self.now caller }
-        ensures { IfOk result (Prepares self.now (λ turned. turned ≡ shown_of (later self.now moment) tree.now form target)) }
-    {
-        if !target.words.as_slice().is_empty() {
-            return Ok(refused(caller, moment, Refusal::Extra(target.path)));
-        }
-        let text = text_as(self.alloc, form, tree, &target.path)?;
-        Ok(step(caller, moment, Effect::Stay, Reply::Text(text)))
-    }
-
     // The refusal of words that name no statement.
     fn lost(&self, caller: u32, moment: Moment, why: WordsFault) -> Result<Prepared, NoMemory>
         requires { IsCaller self.now caller }
@@ -214,14 +198,8 @@ impl Core {
         requires level { IsLevelPath level.now }
         ensures { IfOk result (Prepares self.now (Shows (later self.now moment) tree.now level.now words.now form)) }
     {
-        if words.as_slice().is_empty() {
-            let text = text_as(self.alloc, form, tree, level)?;
-            return Ok(step(caller, moment, Effect::Stay, Reply::Text(text)));
-        }
-        match resolve(self.alloc, level, words) {
-            Ok(target) => self.shown(caller, moment, tree, form, target),
-            Err(why) => self.lost(caller, moment, why),
-        }
+        let reply = show(self.alloc, tree, level, words, form)?;
+        Ok(step(caller, moment, Effect::Stay, reply))
     }
 
     fn prepare_show_active(
@@ -363,6 +341,45 @@ impl Core {
         }
     }
 
+    // The refusal of a candidate that breaks a rule.
+    fn broken(&self, caller: u32, moment: Moment, fault: CheckFault) -> Result<Prepared, NoMemory>
+        requires caller { IsCaller self.now caller }
+        requires cause { IsCheckFault self.now.candidate fault }
+        ensures { IfOk result (Prepares self.now (BreaksRule (later self.now moment))) }
+    {
+        match fault {
+            CheckFault::Rule { number, path } => {
+                Ok(refused(caller, moment, Refusal::Check { number, path }))
+            }
+            CheckFault::NoMemory => Err(NoMemory),
+        }
+    }
+
+    fn prepare_check(&self, caller: u32, moment: Moment) -> Result<Prepared, NoMemory>
+        requires { IsCaller self.now caller }
+        ensures { IfOk result (Prepares self.now (Serves (later self.now moment) caller Command.CheckOnly)) }
+    {
+        if !self.is_configuring(caller) {
+            return Ok(refused(caller, moment, Refusal::WrongMode));
+        }
+        match check(self.alloc, &self.candidate) {
+            Ok(_) => Ok(step(caller, moment, Effect::Stay, Reply::Checked)),
+            Err(fault) => self.broken(caller, moment, fault),
+        }
+    }
+
+    // The commit of a candidate that is accepted.
+    fn committed(&self, caller: u32, moment: Moment) -> Result<Prepared, NoMemory>
+        requires { IsCaller self.now caller }
+        ensures { IfOk result (Prepares self.now (λ turned. turned ≡ committed (later self.now moment) caller)) }
+    {
+        if self.ledger.count() >= MAX_ENTRIES {
+            return Ok(refused(caller, moment, Refusal::Exhausted));
+        }
+        let commit = self.next_commit(caller, moment)?;
+        Ok(step(caller, moment, Effect::Append(commit), Reply::Committed))
+    }
+
     fn prepare_commit(&self, caller: u32, moment: Moment) -> Result<Prepared, NoMemory>
         requires { IsCaller self.now caller }
         ensures { IfOk result (Prepares self.now (Serves (later self.now moment) caller Command.Commit)) }
@@ -370,11 +387,10 @@ impl Core {
         if !self.is_configuring(caller) {
             return Ok(refused(caller, moment, Refusal::WrongMode));
         }
-        if self.ledger.count() >= MAX_ENTRIES {
-            return Ok(refused(caller, moment, Refusal::Exhausted));
+        match check(self.alloc, &self.candidate) {
+            Ok(_) => self.committed(caller, moment),
+            Err(fault) => self.broken(caller, moment, fault),
         }
-        let commit = self.next_commit(caller, moment)?;
-        Ok(step(caller, moment, Effect::Append(commit), Reply::Committed))
     }
 
     fn next_commit(&self, caller: u32, moment: Moment) -> Result<Commit, NoMemory>

@@ -1,9 +1,12 @@
 //! The machine of the configuration service: one event at a time, with its reply.
 //!
 //! Guarantees: `prepare` then `accept` is exactly one step of the machine (specs/Machine.antt);
-//! `prepare` changes nothing and takes all memory, `accept` can't fail and takes none.
-//! Leaves to others: which statement words name (`cfg_tree`), what a change makes of the statements (`edit_ops`), how they
-//! are printed (`curly_print`, `set_text`), where events come from and what is kept of them (`session_history`, `service`), and how a reply is written.
+//! `prepare` changes nothing and takes all memory, `accept` can't fail and takes none. The active configuration is accepted
+//! at the beginning and after every step (src/laws.rt).
+//! Leaves to others: which statement words name (`cfg_tree`), what a change makes of the statements (`edit_ops`), what groups
+//! bring (`group_expand`), which configurations are accepted (`commit_check`), how statements are printed (`curly_print`,
+//! `set_text`), where events come from and what is kept of them (`session_history`, `service`), and how a reply is written
+//! (`reply_text`).
 #![tactic(auto)]
 
 mod caller;
@@ -24,8 +27,9 @@ pub use commit::{Commit, Via};
 pub use core_state::Core;
 pub use effect::Effect;
 pub use event::{Event, Outcome};
-pub use laws::steps_have_one_outcome;
+pub use laws::{active_configuration_stays_accepted, steps_have_one_outcome};
 pub use ledger::{Ledger, MAX_ENTRIES, limits_are_stated};
 pub use position::Position;
 pub use prepared::Prepared;
 pub use reply::{Refusal, Reply};
+pub use showing::show_active;

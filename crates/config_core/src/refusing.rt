@@ -2,7 +2,7 @@
 
 ghost use Rattle.std.specs.Prelude.{◌≡◌};
 ghost use Rattle.config_core.specs.Levels.{is_level_at};
-ghost use Rattle.config_core.specs.Machine.{refusal_of};
+ghost use Rattle.config_core.specs.Showing.{refusal_of};
 
 use crate::reply::Refusal;
 use cfg_base::{Path, Shape};

@@ -22,6 +22,10 @@ pub enum Refusal {
     Protected(Path),
     /// There would be more than 16384 statements.
     TooMany,
+    /// The expansion that is to be shown has more than 65536 paths.
+    TooWide,
+    /// The candidate breaks the rule of this number first at this path, and no rule of a lower number.
+    Check { number: u8, path: Path },
     /// The list of entries is full.
     Exhausted,
 }
@@ -34,6 +38,8 @@ pub enum Reply {
     Text(Bytes),
     Entered(Mode),
     Left,
+    /// The candidate is accepted.
+    Checked,
     Committed,
     Refused(Refusal),
 }

@@ -4,4 +4,5 @@ use Rattle.config_core.proofs.laws.steps_have_one_outcome.Goals as goal
 pub returns : goal.returns
 returns c =
     let changes = c.changes_have_one_answer.ensures in
-    steps_once c.words_have_one_answer.ensures changes.one_map changes.one_fault changes.apart
+    let checks = c.checks_have_one_answer.ensures in
+    steps_once c.words_have_one_answer.ensures c.expansion_is_one.ensures.one checks.one checks.apart changes.one_map changes.one_fault changes.apart
