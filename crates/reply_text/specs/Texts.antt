@@ -4,9 +4,9 @@ use Rattle.std.specs.List.{join_by}
 use Rattle.cfg_base.specs.declared.path.Step.{Step}
 use Rattle.commands.specs.declared.command.Mode.TheVariants.{Shared}
 use Rattle.config_core.specs.declared.reply.Refusal.{Refusal}
-use Rattle.config_core.specs.declared.reply.Refusal.TheVariants.{WrongMode, Unknown, BadValue, Incomplete, Extra, NotThere, NotALevel, Protected, TooMany, Exhausted}
+use Rattle.config_core.specs.declared.reply.Refusal.TheVariants.{WrongMode, Unknown, BadValue, Incomplete, Extra, NotThere, NotALevel, Protected, TooMany, TooWide, Check, Exhausted}
 use Rattle.config_core.specs.declared.reply.Reply.{Reply}
-use Rattle.config_core.specs.declared.reply.Reply.TheVariants.{Done, LoggedOut, Text, Entered, Left, Committed, Refused}
+use Rattle.config_core.specs.declared.reply.Reply.TheVariants.{Done, LoggedOut, Text, Entered, Left, Checked, Committed, Refused}
 use Rattle.cfg_lex.specs.Printed.{printed_word}
 use Rattle.reply_text.specs.declared.fault.ShellFault.{ShellFault}
 use Rattle.reply_text.specs.declared.fault.ShellFault.TheVariants.{Syntax, LineTooLong}
@@ -42,6 +42,8 @@ text_of_refusal (NotThere path) = error_line (codes "statement not found: " ++ p
 text_of_refusal (NotALevel path) = error_line (codes "not a level: " ++ printed_path path)
 text_of_refusal (Protected path) = error_line (codes "statement is protected: " ++ printed_path path)
 text_of_refusal TooMany = error_line (codes "more than 16384 statements")
+text_of_refusal TooWide = error_line (codes "more than 65536 expanded statements")
+text_of_refusal (Check number path) = error_line (codes "check C" ++ (decimal number ++ (codes " failed: " ++ printed_path path)))
 text_of_refusal Exhausted = error_line (codes "no more entries")
 
 abbrev pub text_of_reply : Reply → List ℕ
@@ -50,6 +52,7 @@ text_of_reply LoggedOut = []
 text_of_reply (Text bytes) = bytes
 text_of_reply (Entered Shared) = codes "Entering configuration mode\n"
 text_of_reply Left = codes "Exiting configuration mode\n"
+text_of_reply Checked = codes "configuration check succeeds\n"
 text_of_reply Committed = codes "commit complete\n"
 text_of_reply (Refused refusal) = text_of_refusal refusal
 

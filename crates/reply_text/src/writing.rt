@@ -1,6 +1,7 @@
 //! The texts of replies, written piece by piece, without memory.
 
-ghost use Rattle.std.specs.Prelude.{◌≡◌, ◌≤◌, ◌∷◌, ◌++◌, [], OnErr, decimal};
+ghost use Rattle.std.specs.Prelude.{◌≡◌, ◌≤◌, ◌∷◌, ◌++◌, [], OnErr, codes, decimal};
+ghost use Rattle.config_core.specs.declared.reply.Refusal.TheVariants.{Check};
 ghost use Rattle.std.specs.List.{flat_map, join_by};
 ghost use Rattle.cfg_base.specs.Counts.{Rose};
 ghost use Rattle.io_edge.specs.Wrote.{Wrote};
@@ -186,6 +187,37 @@ fn put_path_line<K: Sink>(sink: &mut K, front: &[u8], path: &Path) -> Result<(),
     }
 }
 
+fn put_number<K: Sink>(sink: &mut K, number: u8) -> Result<(), PutFailed>
+    ensures wrote { Wrote result (decimal number) (K.held sink.old) (K.held sink.new) }
+    ensures cause { OnErr result (Rose (K.faults sink.old) (K.faults sink.new)) }
+    ensures later { K.faults sink.old ≤ K.faults sink.new }
+{
+    let mut digits = Buffer::new();
+    put_all(sink, digits.format(number).as_bytes())
+}
+
+fn put_failed_rule<K: Sink>(sink: &mut K, number: u8, path: &Path) -> Result<(), PutFailed>
+    ensures wrote { Wrote result (decimal number ++ (codes " failed: " ++ (printed_path path.now ++ 10 ∷ []))) (K.held sink.old) (K.held sink.new) }
+    ensures cause { OnErr result (Rose (K.faults sink.old) (K.faults sink.new)) }
+    ensures later { K.faults sink.old ≤ K.faults sink.new }
+{
+    match put_number(sink, number) {
+        Ok(()) => put_path_line(sink, b" failed: ", path),
+        Err(failed) => Err(failed),
+    }
+}
+
+fn put_check<K: Sink>(sink: &mut K, number: u8, path: &Path) -> Result<(), PutFailed>
+    ensures wrote { Wrote result (text_of_refusal (Check number path.now)) (K.held sink.old) (K.held sink.new) }
+    ensures cause { OnErr result (Rose (K.faults sink.old) (K.faults sink.new)) }
+    ensures later { K.faults sink.old ≤ K.faults sink.new }
+{
+    match put_all(sink, b"error: check C") {
+        Ok(()) => put_failed_rule(sink, number, path),
+        Err(failed) => Err(failed),
+    }
+}
+
 fn put_refusal<K: Sink>(sink: &mut K, refusal: &Refusal) -> Result<(), PutFailed>
     ensures wrote { Wrote result (text_of_refusal refusal.now) (K.held sink.old) (K.held sink.new) }
     ensures cause { OnErr result (Rose (K.faults sink.old) (K.faults sink.new)) }
@@ -201,6 +233,8 @@ fn put_refusal<K: Sink>(sink: &mut K, refusal: &Refusal) -> Result<(), PutFailed
         Refusal::NotALevel(path) => put_path_line(sink, b"error: not a level: ", path),
         Refusal::Protected(path) => put_path_line(sink, b"error: statement is protected: ", path),
         Refusal::TooMany => put_all(sink, b"error: more than 16384 statements\n"),
+        Refusal::TooWide => put_all(sink, b"error: more than 65536 expanded statements\n"),
+        Refusal::Check { number, path } => put_check(sink, *number, path),
         Refusal::Exhausted => put_all(sink, b"error: no more entries\n"),
     }
 }
@@ -216,6 +250,7 @@ pub fn put_reply<K: Sink>(sink: &mut K, reply: &Reply) -> Result<(), PutFailed>
         Reply::Text(text) => put_all(sink, text.as_slice()),
         Reply::Entered(Mode::Shared) => put_all(sink, b"Entering configuration mode\n"),
         Reply::Left => put_all(sink, b"Exiting configuration mode\n"),
+        Reply::Checked => put_all(sink, b"configuration check succeeds\n"),
         Reply::Committed => put_all(sink, b"commit complete\n"),
         Reply::Refused(refusal) => put_refusal(sink, refusal),
     }
