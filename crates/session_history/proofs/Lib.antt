@@ -3,3 +3,4 @@ pub mod ServedLemmas
 pub mod LineLemmas
 pub mod OutcomeLemmas
 pub mod AgreeLemmas
+pub mod AcceptedLemmas

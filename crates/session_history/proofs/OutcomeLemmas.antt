@@ -1,11 +1,11 @@
 -- A history that begins with every session at a level leads to one state, with one reply at each place.
-use Rattle.std.proofs.Common.{◌≡◌, ℕ, ◌-◌, ◌⊎◌, List, [], ◌∷◌, length, map, take, Bool, true, false, MatchBool, cond, refl, sym, ap, subst, ◌∙◌, zero, suc, nat_lt, Option, Some, inl, inr, slice_get, slice_set}
+use Rattle.std.proofs.Common.{◌≡◌, ℕ, ◌-◌, ◌⊎◌, List, [], ◌∷◌, length, map, take, Bool, true, false, cond, refl, sym, ap, subst, ◌∙◌, zero, suc, nat_lt, Option, Some, inl, inr, slice_get, slice_set}
 use Rattle.std.specs.List.{All, AllByRecursion}
 use Rattle.std.proofs.lemmas.List.Elements.{All-nil, All-cons, All-head, All-tail}
 use Rattle.commands.specs.declared.command.Form.{Form}
 use Rattle.commands.specs.declared.command.Mode.{Mode}
 use Rattle.commands.specs.declared.command.Command.{Command}
-use Rattle.commands.specs.declared.command.Command.TheVariants.{Configure, ShowActive, Logout, Edit, Up, Top, Exit, ExitAll, Show, Change, Commit}
+use Rattle.commands.specs.declared.command.Command.TheVariants.{Configure, ShowActive, Logout, Edit, Up, Top, Exit, ExitAll, Show, Change, CheckOnly, Commit}
 use Rattle.cfg_base.specs.declared.path.Step.{Step}
 use Rattle.cfg_tree.specs.Statements.{Statements}
 use Rattle.cfg_tree.specs.Typed.{IsTypedPath}
@@ -21,9 +21,9 @@ use Rattle.config_core.specs.declared.reply.Reply.TheVariants.{Done, Committed}
 use Rattle.config_core.specs.Kept.{active_of, append_entry}
 use Rattle.config_core.specs.Levels.{Position, AreLevels, at_top, is_level_place, is_level_at, moved_to, to_last}
 use Rattle.config_core.specs.State.{State, operational}
-use Rattle.config_core.specs.Machine.{Turned, answered, refused, caller_in, position_of, level_of, with_caller, with_position, is_configuring, commit_of, committed, exited, edited, Moves, IsLost, Changes, IsUnchanged, Shows, later, Serves, Steps}
+use Rattle.config_core.specs.Machine.{Turned, answered, refused, caller_in, position_of, level_of, with_caller, with_position, is_configuring, commit_of, committed, exited, edited, Moves, IsLost, Changes, IsUnchanged, Shows, Checks, later, Serves, Steps}
 use Rattle.config_core.proofs.LevelLemmas.{top_alone, level_front}
-use Rattle.config_core.proofs.StepLemmas.{shows_stay}
+use Rattle.config_core.proofs.StepLemmas.{by_mode, shows_stay}
 use Rattle.session_history.specs.declared.history.Happened.{Happened}
 use Rattle.session_history.specs.Events.{Leads, IsAt}
 
@@ -55,10 +55,6 @@ Stands turned = Stand turned.state.callers
 stands_by : (turned to : Turned) → turned ≡ to → Stands to → Stands turned
 stands_by turned to is stand = subst Stands (sym is) stand
 
-pub by_mode : (b : Bool) (A B P : Type 0) → (A → P) → (B → P) → MatchBool b A B → P
-by_mode true A B P first second so = first so
-by_mode false A B P first second so = second so
-
 placed : (s : State) (caller : ℕ) (mode : Option Mode) (position : Position) → Stand s.callers → AreLevels position → Stand (with_caller s caller mode position).callers
 placed s caller mode position stand is = stand_set s.callers (caller - 1) _ stand is
 
@@ -89,6 +85,10 @@ committed_stands s caller stand = by_room (nat_lt s.kept.count MAX_ENTRIES)
     by_room : (b : Bool) → Stands (cond b (answered (record s { kept = append_entry s.kept (commit_of s caller) }) Committed) (refused s Exhausted))
     by_room true = stand
     by_room false = stand
+
+checked_stands : (s : State) (turned after : Turned) → Stand s.callers → Stands after → Checks s turned after → Stands turned
+checked_stands s turned after stand more (inl checked) = stands_by turned after checked.1 more
+checked_stands s turned after stand more (inr broken) = stands_by turned _ broken.is stand
 
 shows_stand : (s : State) (m : Statements) (level : List Step) (asked : List (List ℕ)) (form : Form) (turned : Turned) → Stand s.callers → Shows s m level asked form turned → Stands turned
 shows_stand s m level asked form turned stand shows = subst (λ x. Stand x.callers) (sym (shows_stay s m level asked form turned shows)) stand
@@ -130,8 +130,11 @@ serves_stands s caller (Change op) turned stand serves =
     either_way : Changes s caller op turned ⊎ IsUnchanged s caller op turned → Stands turned
     either_way (inl changes) = stands_by turned _ changes.is stand
     either_way (inr same) = stands_by turned _ same.is stand
+serves_stands s caller CheckOnly turned stand serves =
+    by_mode (is_configuring s caller) _ _ _ (λ checks. checked_stands s turned _ stand stand checks) (λ is. stands_by turned _ is stand) serves
 serves_stands s caller Commit turned stand serves =
-    by_mode (is_configuring s caller) _ _ _ (λ is. stands_by turned _ is (committed_stands s caller stand)) (λ is. stands_by turned _ is stand) serves
+    by_mode (is_configuring s caller) _ _ _ (λ checks. checked_stands s turned _ stand (committed_stands s caller stand) checks)
+    (λ is. stands_by turned _ is stand) serves
 
 steps_stand : (s : State) (caller moment : ℕ) (event : Event) (turned : Turned) → Stand s.callers → Steps s caller moment event turned → Stands turned
 steps_stand s caller moment (CommandOf command) turned stand steps = serves_stands (later s moment) caller command turned stand steps

@@ -4,7 +4,7 @@ use Rattle.commands.specs.declared.command.Command.{Command}
 use Rattle.config_core.specs.declared.event.Event.TheVariants.{Command as CommandOf}
 use Rattle.config_core.specs.declared.event.Outcome.TheVariants.{Done}
 use Rattle.config_core.specs.declared.reply.Reply.{Reply}
-use Rattle.config_core.specs.State.{State}
+use Rattle.config_core.specs.State.{State, IsActiveAccepted}
 use Rattle.config_core.specs.Machine.{Fits, Turned, Steps}
 use Rattle.session_history.specs.declared.history.Happened.{Happened}
 
@@ -53,3 +53,13 @@ places_from place caller (event ∷ events) =
 -- the places of a caller's events
 abbrev pub places_of : ℕ → List Happened → List ℕ
 places_of caller events = places_from 0 caller events
+
+-- the events lead to a state whose active configuration is accepted
+pub record LeadsAccepted (s : State) (events : List Happened) : Type 0 where
+  pub last : State
+  pub leads : Leads s events last
+  pub accepted : IsActiveAccepted last
+
+-- the active configuration is accepted at the opening and after every event: the first events lead to such a state, however many they are
+abbrev pub StaysAccepted : State → List Happened → Type 0
+StaysAccepted s events = (count : ℕ) → LeadsAccepted s (take count events)

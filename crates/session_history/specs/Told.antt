@@ -2,7 +2,7 @@
 use Rattle.std.specs.Prelude.{ℕ, List, [], ◌∷◌}
 use Rattle.commands.specs.declared.command.Command.{Command}
 use Rattle.config_core.specs.declared.reply.Reply.{Reply}
-use Rattle.config_core.specs.declared.reply.Reply.TheVariants.{Done, LoggedOut, Text, Entered, Left, Committed, Refused}
+use Rattle.config_core.specs.declared.reply.Reply.TheVariants.{Done, LoggedOut, Text, Entered, Left, Checked, Committed, Refused}
 use Rattle.config_core.specs.State.{State}
 use Rattle.session_history.specs.declared.history.Happened.{Happened}
 use Rattle.reply_text.specs.declared.fault.ShellFault.{ShellFault}
@@ -57,6 +57,7 @@ after_reply stance LoggedOut = Out
 after_reply stance (Text bytes) = stance
 after_reply stance (Entered mode) = Configuring
 after_reply stance Left = Operational
+after_reply stance Checked = stance
 after_reply stance Committed = stance
 after_reply stance (Refused refusal) = stance
 

@@ -1,15 +1,15 @@
-//! A history has one outcome, and a session one text.
+//! A history has one outcome and keeps the active configuration accepted, and a session has one text.
 
 ghost use Rattle.std.specs.Prelude.{◌≡◌, ℕ, List, []};
 ghost use Rattle.config_core.specs.Kept.{Kept};
-ghost use Rattle.config_core.specs.State.{State, opening_of};
+ghost use Rattle.config_core.specs.State.{State, IsActiveAccepted, opening_of};
 ghost use Rattle.config_core.specs.declared.reply.Reply.{Reply};
 ghost use Rattle.session_history.specs.declared.history.Happened.{Happened};
-ghost use Rattle.session_history.specs.Events.{Leads, IsAt, places_of};
+ghost use Rattle.session_history.specs.Events.{Leads, IsLegal, IsAt, StaysAccepted, places_of};
 ghost use Rattle.session_history.specs.Session.{Sides};
 ghost use Rattle.session_history.specs.Undisturbed.{Undisturbed, RepliesAgree};
 
-use config_core::steps_have_one_outcome;
+use config_core::{active_configuration_stays_accepted, steps_have_one_outcome};
 use shell_words::lines_are_read_in_one_way;
 
 /// The events of a run lead to one state, and what happened at a place of them is one event, with one reply.
@@ -21,6 +21,13 @@ pub fn histories_have_one_outcome()
         → IsAt (opening_of kept users) events place again same other → (event ≡ same) × (before ≡ again) × (one ≡ other) }
 {
     steps_have_one_outcome();
+}
+
+/// Where events lead on from an accepted active configuration, it is accepted at the opening and after every one of them.
+pub fn histories_stay_accepted()
+    ensures { (s : State) (events : List Happened) → IsActiveAccepted s → IsLegal s events → StaysAccepted s events }
+{
+    active_configuration_stays_accepted();
 }
 
 /// Two sessions over the same bytes and the same clock that nothing disturbs have the same turns and the same text, where their
