@@ -5,7 +5,7 @@ use Rattle.std.proofs.Math.Seq.{take-append_seam}
 use Rattle.std.proofs.Math.ListN.{length-set}
 use Rattle.commands.specs.declared.command.Mode.{Mode}
 use Rattle.commands.specs.declared.command.Command.{Command}
-use Rattle.commands.specs.declared.command.Command.TheVariants.{Configure, ShowActive, Logout, Edit, Up, Top, Exit, ExitAll, Show, Change, Commit}
+use Rattle.commands.specs.declared.command.Command.TheVariants.{Configure, ShowActive, Logout, Edit, Up, Top, Exit, ExitAll, Show, Change, CheckOnly, Commit}
 use Rattle.cfg_base.specs.declared.path.Step.{Step}
 use Rattle.config_core.specs.declared.event.Event.{Event}
 use Rattle.config_core.specs.declared.event.Event.TheVariants.{Command as CommandOf}
@@ -14,12 +14,11 @@ use Rattle.config_core.specs.declared.ledger.TheConstants.{MAX_ENTRIES}
 use Rattle.config_core.specs.Kept.{active_of}
 use Rattle.config_core.specs.State.{State, opening_of, operational}
 use Rattle.config_core.specs.Levels.{Position, is_level_at}
-use Rattle.config_core.specs.Machine.{Fits, Turned, is_configuring, later, with_caller, committed, exited, edited, Moves, IsLost, Changes, IsUnchanged, level_of, Serves, Steps}
-use Rattle.config_core.proofs.StepLemmas.{shows_stay}
+use Rattle.config_core.specs.Machine.{Fits, Turned, is_configuring, later, with_caller, committed, exited, edited, Moves, IsLost, Changes, IsUnchanged, Checks, level_of, Serves, Steps}
+use Rattle.config_core.proofs.StepLemmas.{by_mode, shows_stay}
 use Rattle.session_history.specs.declared.history.Happened.{Happened}
 use Rattle.session_history.specs.Events.{Leads, IsAt, asked_event}
 use Rattle.session_history.proofs.EventLemmas.{Leads-push, at_seam}
-use Rattle.session_history.proofs.OutcomeLemmas.{by_mode}
 use Rattle.service.specs.Log.{Log, IsLog, Adds, opened}
 
 -- there are as many callers after a step as before it
@@ -42,6 +41,10 @@ exited_keeps s caller (Some place) = moved s caller _ place
 
 edited_keeps : (s : State) (caller : ℕ) (path : List Step) → Keeps s (edited s caller path)
 edited_keeps s caller path = either s (is_level_at path) _ _ (moved s caller _ _) refl
+
+checked_keeps : (s : State) (turned after : Turned) → Keeps s after → Checks s turned after → Keeps s turned
+checked_keeps s turned after keeps (inl checked) = kept_by s turned after checked.1 keeps
+checked_keeps s turned after keeps (inr broken) = kept_by s turned _ broken.is refl
 
 committed_keeps : (s : State) (caller : ℕ) → Keeps s (committed s caller)
 committed_keeps s caller = either s (nat_lt s.kept.count MAX_ENTRIES) _ _ refl refl
@@ -77,8 +80,10 @@ serves_keeps s caller (Change op) turned serves =
     either_way : Changes s caller op turned ⊎ IsUnchanged s caller op turned → Keeps s turned
     either_way (inl changes) = kept_by s turned _ changes.is refl
     either_way (inr same) = kept_by s turned _ same.is refl
+serves_keeps s caller CheckOnly turned serves =
+    by_mode (is_configuring s caller) _ _ _ (λ checks. checked_keeps s turned _ refl checks) (λ is. kept_by s turned _ is refl) serves
 serves_keeps s caller Commit turned serves =
-    by_mode (is_configuring s caller) _ _ _ (λ is. kept_by s turned _ is (committed_keeps s caller)) (λ is. kept_by s turned _ is refl) serves
+    by_mode (is_configuring s caller) _ _ _ (λ checks. checked_keeps s turned _ (committed_keeps s caller) checks) (λ is. kept_by s turned _ is refl) serves
 
 steps_keep : (s : State) (caller moment : ℕ) (event : Event) (turned : Turned) → Steps s caller moment event turned → Keeps s turned
 steps_keep s caller moment (CommandOf command) turned steps = serves_keeps (later s moment) caller command turned steps

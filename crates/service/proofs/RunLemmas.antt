@@ -3,13 +3,14 @@ use Rattle.std.proofs.Common.{◌≡◌, ◌⊎◌, ℕ, List, [], ◌∷◌, le
 use Rattle.std.specs.List.{AllByRecursion}
 use Rattle.std.proofs.lemmas.List.{length-append}
 use Rattle.config_core.specs.Kept.{factory}
+use Rattle.config_core.specs.State.{State, IsActiveAccepted, opening_of}
 use Rattle.cfg_base.specs.Counts.{Rose}
 use Rattle.session_history.specs.declared.history.Happened.{Happened}
 use Rattle.session_history.specs.declared.history.History.{History}
 use Rattle.session_history.specs.declared.turn.How.{How}
 use Rattle.session_history.specs.declared.turn.How.TheVariants.{Clean, SourceFault, SinkFault, InputFull, NoMemory}
 use Rattle.session_history.specs.declared.turn.Turn.{Turn}
-use Rattle.session_history.specs.Events.{IsLegal}
+use Rattle.session_history.specs.Events.{IsLegal, StaysAccepted}
 use Rattle.session_history.specs.Session.{IsSession, IsInput, Sides, status_of}
 use Rattle.io_edge.specs.Line.{TellsBoth}
 use Rattle.service.specs.declared.session.End.{End}
@@ -41,7 +42,9 @@ module _ {S K C : Type 0} (left : S → Option (List ℕ)) (source_faults : S �
   before end turns events = record { coming = coming end.clock; held = held end.sink; turns = turns; events = events }
 
   -- what was served, of a session that began with a fresh book
-  pub IsServed-of : (old end new : End S K C) (book book' : Log) (turns turns' : List Turn) (history : History) (status : ℕ) (how : How) →
+  pub IsServed-of : ((users : List (List ℕ)) → IsActiveAccepted (opening_of factory users))
+      → ((s : State) (events : List Happened) → IsActiveAccepted s → IsLegal s events → StaysAccepted s events)
+      → (old end new : End S K C) (book book' : Log) (turns turns' : List Turn) (history : History) (status : ℕ) (how : How) →
       end ≡ old → book ≡ record { kept = factory; users = old.user ∷ []; events = [] } → turns ≡ [] → status ≡ status_of how →
       IsSession (opened book) 1 limit how (left end.source) (left new.source) (sink_faults end.sink) (sink_faults new.sink)
       (record { coming = coming end.clock; held = held end.sink; turns = turns; events = book.events })
@@ -50,7 +53,7 @@ module _ {S K C : Type 0} (left : S → Option (List ℕ)) (source_faults : S �
       (how ≡ SourceFault → Rose (source_faults end.source) (source_faults new.source)) → (how ≡ SinkFault → Rose (sink_faults end.sink) (sink_faults new.sink)) →
       history.opening ≡ Some book'.kept → history.users ≡ book'.users → history.events.items ≡ book'.events → IsLegal (opened book') book'.events → history.made ≡ record { a = 0; b = 0 } →
       IsServed left source_faults held sink_faults coming limit old new turns' history status
-  IsServed-of old end new book book' turns turns' history status how is_old fresh no_turns is_status session user kept users source_cause sink_cause opening history_users events legal made =
+  IsServed-of begins stays old end new book book' turns turns' history status how is_old fresh no_turns is_status session user kept users source_cause sink_cause opening history_users events legal made =
       let fresh_log : Log = record { kept = factory; users = old.user ∷ []; events = [] } in
       let after : Sides = record { coming = coming new.clock; held = held new.sink; turns = turns'; events = history.events.items } in
       let same : opened book' ≡ opened fresh_log = same_opening book' fresh_log (kept ∙ ap (λ l. l.kept) fresh) (users ∙ ap (λ l. l.users) fresh) in
@@ -65,14 +68,17 @@ module _ {S K C : Type 0} (left : S → Option (List ℕ)) (source_faults : S �
       (record { coming = coming old.clock; held = held old.sink; turns = []; events = [] }) after
       = subst (λ b. IsSession (opened b) 1 limit how (left old.source) (left new.source) (sink_faults old.sink) (sink_faults new.sink)
       (record { coming = coming old.clock; held = held old.sink; turns = []; events = b.events }) after) fresh at_turns in
+      let legal_of_factory : IsLegal (opened fresh_log) history.events.items =
+      subst (λ s. IsLegal s history.events.items) same (subst (λ ev. IsLegal (opened book') ev) (sym events) legal) in
       record {
         how = how;
         is_status = is_status;
         opening = opening ∙ ap Some (kept ∙ ap (λ l. l.kept) fresh);
         users = history_users ∙ users ∙ ap (λ l. l.users) fresh;
         no_calls = made;
-        legal = subst (λ s. IsLegal s history.events.items) same (subst (λ ev. IsLegal (opened book') ev) (sym events) legal);
+        legal = legal_of_factory;
         own = subst (λ ev. AllByRecursion (λ event. event.caller ≡ 1) ev) (sym whole.served.grown) whole.served.own;
+        accepted = stays (opened fresh_log) history.events.items (begins (old.user ∷ [])) legal_of_factory;
         session = whole;
         user = user ∙ ap (λ e. e.user) is_old;
         source_cause = λ is. subst (λ e. Rose (source_faults e.source) (source_faults new.source)) is_old (source_cause is);

@@ -8,7 +8,7 @@ use Rattle.session_history.specs.declared.history.History.{History}
 use Rattle.session_history.specs.declared.turn.How.{How}
 use Rattle.session_history.specs.declared.turn.How.TheVariants.{SourceFault, SinkFault}
 use Rattle.session_history.specs.declared.turn.Turn.{Turn}
-use Rattle.session_history.specs.Events.{IsLegal}
+use Rattle.session_history.specs.Events.{IsLegal, StaysAccepted}
 use Rattle.session_history.specs.Session.{IsSession, status_of}
 use Rattle.service.specs.declared.session.End.{End}
 
@@ -25,8 +25,9 @@ pub record IsIdle {E : Type 0} (ends ends' : List E) (turns : List (List Turn)) 
   pub no_users : history.users ≡ []
   pub no_calls : history.made ≡ record { a = 0; b = 0 }
 
--- one session was served over the factory commit: the history is legal, each event is this session's, the session is what its
--- bytes say, the status is that of its end, and a fault of its source or sink is answered only where that object's count rose
+-- one session was served over the factory commit: the history is legal, each event is this session's, the active configuration is
+-- accepted all along, the session is what its bytes say, the status is that of its end, and a fault of its source or sink is answered
+-- only where that object's count rose
 pub record IsServed {S K C : Type 0} (left : S → Option (List ℕ)) (source_faults : S → ℕ) (held : K → Option (List ℕ)) (sink_faults : K → ℕ) (coming : C → Option (ℕ → ℕ)) (limit : ℕ) (old new : End S K C) (turns : List Turn) (history : History) (status : ℕ) : Type 0 where
   pub how : How
   pub is_status : status ≡ status_of how
@@ -35,6 +36,7 @@ pub record IsServed {S K C : Type 0} (left : S → Option (List ℕ)) (source_fa
   pub no_calls : history.made ≡ record { a = 0; b = 0 }
   pub legal : IsLegal (opening_of factory (old.user ∷ [])) history.events.items
   pub own : AllByRecursion (λ event. event.caller ≡ 1) history.events.items
+  pub accepted : StaysAccepted (opening_of factory (old.user ∷ [])) history.events.items
   pub session : IsSession (opening_of factory (old.user ∷ [])) 1 limit how (left old.source) (left new.source) (sink_faults old.sink) (sink_faults new.sink)
       (record { coming = coming old.clock; held = held old.sink; turns = []; events = [] })
       (record { coming = coming new.clock; held = held new.sink; turns = turns; events = history.events.items })

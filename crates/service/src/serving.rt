@@ -10,9 +10,10 @@ ghost use Rattle.service.specs.Run.{IsServe, IsIdle, IsServed, Fits};
 use crate::book::Book;
 use crate::session::{End, Ended, run_session};
 use cfg_base::{Calls, Limits, NoMemory, UserName, Users, Words};
+use config_core::active_configuration_stays_accepted;
 use disk_model::Disk;
 use io_edge::{Beat, Clock, Sink, Source};
-use session_history::{History, How, Turn, TurnList};
+use session_history::{History, How, Turn, TurnList, histories_stay_accepted};
 use std::alloc::Global;
 use std::sync::Wait;
 use std::thread::Threads;
@@ -162,6 +163,8 @@ fn serve_one<S: Source, K: Sink, C: Clock, B, D>(
     ensures ticker { result.ticker ≡ ticker }
     ensures disks { (result.disk_a ≡ disk_a) × (result.disk_b ≡ disk_b) }
 {
+    active_configuration_stays_accepted();
+    histories_stay_accepted();
     let Room { lists, turns, book } = room;
     let mut lists = lists;
     let mut book = book;

@@ -84,7 +84,9 @@ fn after_answer(stance: Stance, answer: &Option<Reply>) -> Stance
         Some(Reply::LoggedOut) => Stance::Out,
         Some(Reply::Entered(_)) => Stance::Configuring,
         Some(Reply::Left) => Stance::Operational,
-        Some(Reply::Done | Reply::Text(_) | Reply::Committed | Reply::Refused(_)) => stance,
+        Some(
+            Reply::Done | Reply::Text(_) | Reply::Checked | Reply::Committed | Reply::Refused(_),
+        ) => stance,
     }
 }
 

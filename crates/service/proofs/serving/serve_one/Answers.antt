@@ -16,7 +16,8 @@ returns-clause-served g c = λ old one.
       turns,
       back,
       listed,
-      IsServed-of g.S.Source.left g.S.Source.faults g.K.Sink.held g.K.Sink.faults g.C.Clock.coming INPUT_LIMIT old c.remove-end.result c.run_session-how.result.end c.args.room.book c.run_session-how.new.book c.args.room.turns.items turns c.into_history.result _ c.run_session-how.result.how
+      IsServed-of g.S.Source.left g.S.Source.faults g.K.Sink.held g.K.Sink.faults g.C.Clock.coming INPUT_LIMIT
+          c.active_configuration_stays_accepted.ensures.factory c.histories_stay_accepted.ensures old c.remove-end.result c.run_session-how.result.end c.args.room.book c.run_session-how.new.book c.args.room.turns.items turns c.into_history.result _ c.run_session-how.result.how
           is_old (c.requires.book old one) c.requires.turns.0 c.status_of.ensures c.run_session-how.ensures.session c.run_session-how.ensures.user c.run_session-how.ensures.kept c.run_session-how.ensures.users
           c.run_session-how.ensures.source_cause c.run_session-how.ensures.sink_cause c.into_history.ensures.opening c.into_history.ensures.users c.into_history.ensures.events c.into_history.ensures.legal c.into_history.ensures.made,
     )

@@ -1,8 +1,6 @@
-use Rattle.std.proofs.Common.{◌≡◌, None, Some, Result, Ok, Err, Option, ℕ, refl, sym, subst, inl}
-use Rattle.commands.specs.declared.command.Command.{Command}
+use Rattle.std.proofs.Common.{None, Some, Ok, Err, refl, subst, inl}
 use Rattle.io_edge.specs.declared.lines.Line.TheVariants.{Text}
 use Rattle.reply_text.specs.declared.fault.ShellFault.TheVariants.{Syntax}
-use Rattle.session_history.specs.Items.{IsRead, item_read}
 use Rattle.session_history.specs.Told.{Ask, Wrong}
 use Rattle.shell_words.specs.Reading.{IsReading}
 use Rattle.service.specs.Log.{opened}
