@@ -8,3 +8,4 @@ pub mod KeptLemmas
 pub mod LengthLemmas
 pub mod RepeatLemmas
 pub mod UnitLemmas
+pub mod NothingLemmas

@@ -19,6 +19,11 @@ pub fn checks_have_one_answer()
     ensures apart { (m : Statements) (number : ℕ) (path : List Step) → Accepts m → ¬ (IsFirst m number path) }
 {}
 
+/// The configuration without statements is accepted.
+pub fn nothing_is_accepted()
+    ensures { Accepts map.empty }
+{}
+
 /// A configuration that is accepted is a tree, and neither its text nor its expansion is longer than it may be.
 pub fn accepted_configurations_fit()
     ensures text { (m : Statements) → Accepts m → IsTree m × (length (printed m []) ≤ MAX_TEXT) }

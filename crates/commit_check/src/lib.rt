@@ -27,7 +27,9 @@ mod users;
 
 pub use checking::check;
 pub use fault::CheckFault;
-pub use laws::{accepted_configurations_fit, checks_have_one_answer, limit_is_stated};
+pub use laws::{
+    accepted_configurations_fit, checks_have_one_answer, limit_is_stated, nothing_is_accepted,
+};
 pub use network::stray_bits_are_told;
 pub use repeat::numbers_are_told_by_their_text;
 pub use unit::names_of_units_are_cut;
