@@ -10,6 +10,7 @@ use Rattle.cfg_tree.specs.Statements.{Statements}
 use Rattle.cfg_tree.specs.Tree.{IsTree}
 use Rattle.cfg_tree.proofs.MapLemmas.{same_statements}
 use Rattle.cfg_tree.proofs.FullLemmas.{len_from}
+use Rattle.cfg_base.specs.declared.path.TheConstants.{MAX_STEPS}
 use Rattle.group_expand.specs.Expansion.{IsExpansion}
 use Rattle.group_expand.specs.Row.{Stated, Counted, Ordered, pairs_of}
 use Rattle.group_expand.specs.Placed.{map_of, given_below, IsRow}
@@ -23,14 +24,14 @@ map_is m row e =
 pub row_is : (m : Statements) (row : List Stated) → pairs_of row ≡ finite.entries m → IsTree m → Counted row → Ordered row → IsRow row
 row_is m row e tree c o = record { tree = subst (λ (n : Statements). IsTree n) (sym (map_is m row e)) tree; counted = c; ordered = o }
 
-pub sorted_below : (row : List Stated) → IsRow row → IsStrictlySortedBy path_cmp (keys_of (given_below row 16 []))
+pub sorted_below : (row : List Stated) → IsRow row → IsStrictlySortedBy path_cmp (keys_of (given_below row MAX_STEPS []))
 sorted_below row h = tree_sorted (map_of row) h.tree
 
-pub expansion_is : (m : Statements) (row : List Stated) → map_of row ≡ m → IsRow row → IsExpansion m (finite.from_entries {R = path_cmp} (given_below row 16 []))
-expansion_is m row e h = subst (λ (n : Statements). IsExpansion n (finite.from_entries {R = path_cmp} (given_below row 16 []))) e (tree_full (map_of row) h.tree)
+pub expansion_is : (m : Statements) (row : List Stated) → map_of row ≡ m → IsRow row → IsExpansion m (finite.from_entries {R = path_cmp} (given_below row MAX_STEPS []))
+expansion_is m row e h = subst (λ (n : Statements). IsExpansion n (finite.from_entries {R = path_cmp} (given_below row MAX_STEPS []))) e (tree_full (map_of row) h.tree)
 
-pub size_is : (row : List Stated) → IsRow row → finite.len (finite.from_entries {R = path_cmp} (given_below row 16 [])) ≡ length (given_below row 16 [])
-size_is row h = len_from (given_below row 16 []) (sorted_below row h)
+pub size_is : (row : List Stated) → IsRow row → finite.len (finite.from_entries {R = path_cmp} (given_below row MAX_STEPS [])) ≡ length (given_below row MAX_STEPS [])
+size_is row h = len_from (given_below row MAX_STEPS []) (sorted_below row h)
 
 pub ok_map : {T E : Type 0} (P Q : T → Type 0) → ((x : T) → P x → Q x) → (r : Result T E) → IfOk r P → IfOk r Q
 ok_map P Q go (Ok x) h = go x h

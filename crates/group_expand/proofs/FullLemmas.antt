@@ -13,6 +13,7 @@ use Rattle.std.specs.declared.cmp.Ordering.TheVariants.{Less}
 use Rattle.std.proofs.lemmas.Map.Keys.{sorted_head, sorted_tail}
 use Rattle.cfg_base.specs.Order.{path_cmp, paths_total}
 use Rattle.cfg_base.specs.declared.path.Step.{Step}
+use Rattle.cfg_base.specs.declared.path.TheConstants.{MAX_STEPS}
 use Rattle.cfg_schema.specs.Profile.{same_word}
 use Rattle.cfg_schema.specs.Place.{place_of}
 use Rattle.cfg_tree.specs.Statements.{last_of}
@@ -54,10 +55,10 @@ module _ {X : Type 0} where
   keys_map [] = refl
   keys_map (e ∷ es) = ap (λ (ks : List (List Step)). e.0 ∷ ks) (keys_map es)
 
-within_or_not : (n : ℕ) → (n < 16) ⊎ (16 ≤ n)
-within_or_not n = by_test (nat_lt n 16) refl
+within_or_not : (n : ℕ) → (n < MAX_STEPS) ⊎ (MAX_STEPS ≤ n)
+within_or_not n = by_test (nat_lt n MAX_STEPS) refl
   where
-    by_test : (b : Bool) → nat_lt n 16 ≡ b → (n < 16) ⊎ (16 ≤ n)
+    by_test : (b : Bool) → nat_lt n MAX_STEPS ≡ b → (n < MAX_STEPS) ⊎ (MAX_STEPS ≤ n)
     by_test true e = inl (grind arith)
     by_test false e = inr (grind arith)
 
@@ -147,17 +148,17 @@ module _ (look : Look) (kids : List Step → List Step) (known : (p : List Step)
   complete p s k = steps_complete look kids known p s (sym (some_given (p ++ s ∷ [])) ∙ k)
 
   made_sorted : IsStrictlySortedBy path_cmp (keys_of (made look kids))
-  made_sorted = listed_sorted (given_at look kids) (steps_at look kids) (steps_sorted look kids known) 16 []
+  made_sorted = listed_sorted (given_at look kids) (steps_at look kids) (steps_sorted look kids known) MAX_STEPS []
 
-  made_at : (t : Step) (r : List Step) → length r < 16 → finite.get (expansion_made look kids) (t ∷ r) ≡ given_at look kids (t ∷ r)
+  made_at : (t : Step) (r : List Step) → length r < MAX_STEPS → finite.get (expansion_made look kids) (t ∷ r) ≡ given_at look kids (t ∷ r)
   made_at t r l =
       finite.get-from_entries paths_total (made look kids) (t ∷ r)
-      ∙ listed_at (given_at look kids) (steps_at look kids) closed complete (λ p. once_sorted _ (steps_sorted look kids known p)) 16 [] t r l
+      ∙ listed_at (given_at look kids) (steps_at look kids) closed complete (λ p. once_sorted _ (steps_sorted look kids known p)) MAX_STEPS [] t r l
 
-  made_long : (q : List Step) → 16 < length q → finite.get (expansion_made look kids) q ≡ None
+  made_long : (q : List Step) → MAX_STEPS < length q → finite.get (expansion_made look kids) q ≡ None
   made_long q l =
       finite.get-from_entries paths_total (made look kids) q
-      ∙ find_short (given_at look kids) (steps_at look kids) 16 q (made look kids) l (listed_short (given_at look kids) (steps_at look kids) 16 [] 16 (omega arith))
+      ∙ find_short (given_at look kids) (steps_at look kids) MAX_STEPS q (made look kids) l (listed_short (given_at look kids) (steps_at look kids) MAX_STEPS [] MAX_STEPS (omega arith))
 
   gift_kept : (p : List Step) → option_map gift_of (given_at look kids p) ≡ gift_at look kids p
   unfolding given_at
@@ -169,9 +170,9 @@ module _ (look : Look) (kids : List Step → List Step) (known : (p : List Step)
 
   gifts : (p : List Step) → p ≢ [] → option_map gift_of (finite.get (expansion_made look kids) p) ≡ gift_at look kids p
   gifts [] h = absurd (h refl)
-  gifts (t ∷ r) h = by_length (length r < 16) (within_or_not (length r))
+  gifts (t ∷ r) h = by_length (length r < MAX_STEPS) (within_or_not (length r))
     where
-      by_length : (P : Type 0) → (length r < 16) ⊎ (16 ≤ length r) → option_map gift_of (finite.get (expansion_made look kids) (t ∷ r)) ≡ gift_at look kids (t ∷ r)
+      by_length : (P : Type 0) → (length r < MAX_STEPS) ⊎ (MAX_STEPS ≤ length r) → option_map gift_of (finite.get (expansion_made look kids) (t ∷ r)) ≡ gift_at look kids (t ∷ r)
       by_length P (inl l) = ap (option_map gift_of) (made_at t r l) ∙ gift_kept (t ∷ r)
       by_length P (inr l) = ap (option_map gift_of) (made_long (t ∷ r) (omega (arith, l))) ∙ sym (shallow (t ∷ r) (omega (arith, l)))
 
@@ -207,14 +208,14 @@ module _ (look : Look) (kids : List Step → List Step) (known : (p : List Step)
   orders [] given e = let k = top_none in cc
     where
       top_none : finite.get (expansion_made look kids) [] ≡ None
-      top_none = finite.get-from_entries paths_total (made look kids) [] ∙ find_top (given_at look kids) (steps_at look kids) (made look kids) (listed_both (given_at look kids) (steps_at look kids) (steps_sorted look kids known) 16 []).0
+      top_none = finite.get-from_entries paths_total (made look kids) [] ∙ find_top (given_at look kids) (steps_at look kids) (made look kids) (listed_both (given_at look kids) (steps_at look kids) (steps_sorted look kids known) MAX_STEPS []).0
   orders (t ∷ r) given e = by_length (within_or_not (length r))
     where
       by_head : length r < 15 → IsSome (given_at look kids (t ∷ r)) → (h : Option (List ℕ)) → order_of look kids (t ∷ r) h ≡ order_by look (expansion_made look kids) (t ∷ r) h
       by_head l some None = refl
       by_head l some (Some head) = ap (λ (ns : List (List ℕ)). filter (λ name. is_live look ((t ∷ r) ++ step_of head name ∷ [])) (order_in (look (t ∷ r))) ++ ns) (sym (names_kept head t r l some))
 
-      by_length : (length r < 16) ⊎ (16 ≤ length r) → given.order ≡ order_by look (expansion_made look kids) (t ∷ r) (ordered_head (place_of (t ∷ r)))
+      by_length : (length r < MAX_STEPS) ⊎ (MAX_STEPS ≤ length r) → given.order ≡ order_by look (expansion_made look kids) (t ∷ r) (ordered_head (place_of (t ∷ r)))
       by_length (inl l) =
           let here : given_at look kids (t ∷ r) ≡ Some given = sym (made_at t r l) ∙ e
           in let some : IsSome (given_at look kids (t ∷ r)) = ap is_some here
@@ -233,6 +234,6 @@ module _ (look : Look) (kids : List Step → List Step) (known : (p : List Step)
   pub full_is : IsExpansionOf look kids (expansion_made look kids)
   full_is = record {
     gifts = gifts;
-    top = finite.get-from_entries paths_total (made look kids) [] ∙ find_top (given_at look kids) (steps_at look kids) (made look kids) (listed_both (given_at look kids) (steps_at look kids) (steps_sorted look kids known) 16 []).0;
+    top = finite.get-from_entries paths_total (made look kids) [] ∙ find_top (given_at look kids) (steps_at look kids) (made look kids) (listed_both (given_at look kids) (steps_at look kids) (steps_sorted look kids known) MAX_STEPS []).0;
     orders = orders;
   }

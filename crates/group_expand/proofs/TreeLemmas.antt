@@ -6,6 +6,7 @@ use Rattle.std.specs.FinMap as finite
 use Rattle.std.specs.Ordering.{eq_by_cmp}
 use Rattle.cfg_base.specs.Order.{path_cmp}
 use Rattle.cfg_base.specs.declared.path.Step.{Step}
+use Rattle.cfg_base.specs.declared.path.TheConstants.{MAX_STEPS}
 use Rattle.cfg_base.specs.declared.value.Value.{Value}
 use Rattle.cfg_schema.specs.Place.{top_place}
 use Rattle.cfg_schema.proofs.LevelLemmas.{path_most}
@@ -165,4 +166,4 @@ module _ (m : Statements) (tree : IsTree m) where
       (λ p long. gift_short (finite.get m) (steps_below m) 15 (λ q there. let k = few_steps q there in omega (arith, k)) p long)
 
   pub tree_sorted : IsStrictlySortedBy path_cmp (keys_of (made (finite.get m) (steps_below m)))
-  tree_sorted = listed_sorted (given_at (finite.get m) (steps_below m)) (steps_at (finite.get m) (steps_below m)) (steps_sorted (finite.get m) (steps_below m) kids_known) 16 []
+  tree_sorted = listed_sorted (given_at (finite.get m) (steps_below m)) (steps_at (finite.get m) (steps_below m)) (steps_sorted (finite.get m) (steps_below m) kids_known) MAX_STEPS []

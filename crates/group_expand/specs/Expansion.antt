@@ -1,6 +1,7 @@
 -- The expansion of a configuration. Junos OS CLI User Guide, on configuration groups and on displaying what is inherited.
 -- What the expansion has at a path, asked path by path, by a look-up of values and the steps of the statements right below a path.
-use Rattle.std.specs.Prelude.{◌≡◌, ◌≢◌, ℕ, Bool, true, false, not, ◌&&◌, ◌||◌, List, [], ◌∷◌, ◌++◌, map, filter, Option, Some, None, if◌then◌else◌}
+use Rattle.std.specs.Prelude.{◌≡◌, ◌≢◌, ℕ, Bool, true, false, not, ◌&&◌, ◌||◌, if◌then◌else◌}
+use Rattle.std.specs.Prelude.{List, [], ◌∷◌, ◌++◌, map, filter, Option, Some, None}
 use Rattle.std.specs.FinMap as finite
 use Rattle.std.specs.Option.{option_map}
 use Rattle.cfg_base.specs.declared.path.Step.{Step}
@@ -28,15 +29,19 @@ pub record Gift : Type 0 where
   pub words : List (List ℕ)
   pub group : List ℕ
 
+-- what the statement at a path gives: its words, as of a group
+abbrev pub gift_from : Look → List ℕ → List Step → Gift
+gift_from look group from = record { words = words_of (look from); group = group }
+
 -- the words and the group of the first source
 abbrev pub first_gift : Look → List Source → Option Gift
 first_gift look [] = None
-first_gift look (x ∷ more) = Some (record { words = words_of (look x.from); group = x.group })
+first_gift look (x ∷ more) = Some (gift_from look x.group x.from)
 
 module _ (look : Look) (kids : List Step → List Step) where
   -- what a path has: its own words, or those of its first source
   abbrev pub gift_at : List Step → Option Gift
-  gift_at path = (if is_own look path then Some (record { words = words_of (look path); group = [] }) else first_gift look (sources look kids path))
+  gift_at path = (if is_own look path then Some (gift_from look [] path) else first_gift look (sources look kids path))
 
 -- the same of what an expansion has
 abbrev pub gift_of : Given → Gift
@@ -67,7 +72,7 @@ IsExpansion m full = IsExpansionOf (finite.get m) (steps_below m) full
 
 -- what the configuration has itself at a path
 abbrev pub own_part : Look → List Step → Option Gift
-own_part look path = (if is_own look path then Some (record { words = words_of (look path); group = [] }) else None)
+own_part look path = (if is_own look path then Some (gift_from look [] path) else None)
 
 -- the live names of a level, in their order
 abbrev pub own_order : Look → List Step → Option (List ℕ) → List (List ℕ)
@@ -77,12 +82,18 @@ own_order look path (Some head) = filter (λ name. is_live look (path ++ step_of
 -- the live part of a configuration: what it has itself, and at each level its live names
 pub record IsLivePart (m : Statements) (full : Expansion) : Type 0 where
   pub gifts : (path : List Step) → path ≢ [] → option_map gift_of (finite.get full path) ≡ own_part (finite.get m) path
-  pub orders : (path : List Step) (given : Given) → finite.get full path ≡ Some given → given.order ≡ own_order (finite.get m) path (ordered_head (place_of path))
+  pub orders : (path : List Step) (given : Given) → finite.get full path ≡ Some given
+      → given.order ≡ own_order (finite.get m) path (ordered_head (place_of path))
+
+-- the path of a group, and of what stands below it
+abbrev pub in_group : List ℕ → List Step → List Step
+in_group group path = groups_step ∷ step_of [] group ∷ path
 
 -- two configurations differ only in what no live statement applies: outside `groups` they are the same, and so is each group that is
 -- applied at a level
 pub record DifferUnapplied (m n : Statements) : Type 0 where
   pub outside : (path : List Step) → is_outside path ≡ true → finite.get m path ≡ finite.get n path
   pub groups : finite.get m (groups_step ∷ []) ≡ finite.get n (groups_step ∷ [])
-  pub given : (level : List Step) (group : List ℕ) → is_outside level ≡ true → has_word (applied (finite.get m) (steps_below m) level) group ≡ true
-      → (path : List Step) → finite.get m (groups_step ∷ step_of [] group ∷ path) ≡ finite.get n (groups_step ∷ step_of [] group ∷ path)
+  pub given : (level : List Step) (group : List ℕ) → is_outside level ≡ true
+      → has_word (applied (finite.get m) (steps_below m) level) group ≡ true
+      → (path : List Step) → finite.get m (in_group group path) ≡ finite.get n (in_group group path)

@@ -3,6 +3,7 @@ use Rattle.std.specs.Prelude.{ℕ, not, ◌&&◌, List, [], ◌∷◌, ◌++◌,
 use Rattle.std.specs.FinMap as finite
 use Rattle.std.specs.Option.{option_map}
 use Rattle.cfg_base.specs.declared.path.Step.{Step}
+use Rattle.cfg_base.specs.declared.path.TheConstants.{MAX_STEPS}
 use Rattle.cfg_schema.specs.Profile.{same_word}
 use Rattle.cfg_schema.specs.Place.{place_of}
 use Rattle.cfg_tree.specs.Tree.{ordered_head, step_of}
@@ -36,7 +37,7 @@ module _ (look : Look) (kids : List Step → List Step) where
 
   -- all that is made, in order, and as a map
   abbrev pub made : List (List Step × Given)
-  made = listed given_at (steps_at look kids) 16 []
+  made = listed given_at (steps_at look kids) MAX_STEPS []
 
   abbrev pub expansion_made : Expansion
   expansion_made = finite.from_entries made

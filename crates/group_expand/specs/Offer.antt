@@ -1,4 +1,4 @@
--- What a level is made of: the live statements of the configuration right below a path, and what groups offer there. For the inner functions.
+-- What a level is made of: the configuration's live statements right below a path, and what groups offer there. For the inner functions.
 use Rattle.std.specs.Prelude.{◌≡◌, ℕ, Bool, true, not, List, [], ◌∷◌, ◌++◌, map, filter, flat_map, Option, Some, None, if◌then◌else◌}
 use Rattle.std.specs.List.Sorted.{IsSortedBy}
 use Rattle.std.specs.List.{AllByRecursion}
@@ -36,7 +36,9 @@ plain_offers group nodes = map (λ n. group_offer group (last_of n.path) n) (fil
 -- what a node with a wildcard offers for the steps that it matches, of the configuration's own
 abbrev pub matched_offers : List Node → List ℕ → Node → List Offer
 matched_offers own group node =
-    (if has_wildcard node then map (λ o. group_offer group (last_of o.path) node) (filter (λ o. fits_wildcard (last_of o.path) (last_of node.path)) own) else [])
+    (if has_wildcard node
+    then map (λ o. group_offer group (last_of o.path) node) (filter (λ o. fits_wildcard (last_of o.path) (last_of node.path)) own)
+    else [])
 
 -- all that a source offers right below it
 abbrev pub offers_of : List Node → Source → List Offer

@@ -47,7 +47,8 @@ run_at look kids row path step =
     ++ map (offer_at look row step) (raw look kids (path ++ step ∷ []))
 
 -- a level has just the offers for a step of a plain path
-pub record IsRight (look : Look) (kids : List Step → List Step) (row : List Stated) (level : List Offer) (path : List Step) (step : Step) : Type 0 where
+pub record IsRight
+    (look : Look) (kids : List Step → List Step) (row : List Stated) (level : List Offer) (path : List Step) (step : Step) : Type 0 where
   pub run : filter (is_for step) level ≡ run_at look kids row path step
   pub plain : is_plain (path ++ step ∷ []) ≡ true
 

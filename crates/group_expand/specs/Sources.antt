@@ -1,7 +1,8 @@
 -- Which groups' statements a path has, by a look-up of values and the steps of the statements right below a path. Junos OS CLI User Guide,
 -- on configuration groups, inheritance and wildcards. Which statement comes first where several fit is this project's own.
 -- Bytes by number: < is 60.
-use Rattle.std.specs.Prelude.{ℕ, ◌-◌, ◌==◌, Bool, true, false, not, ◌&&◌, ◌||◌, List, [], ◌∷◌, ◌++◌, length, take, drop, map, filter, codes, if◌then◌else◌}
+use Rattle.std.specs.Prelude.{ℕ, ◌-◌, ◌==◌, Bool, true, false, not, ◌&&◌, ◌||◌, if◌then◌else◌}
+use Rattle.std.specs.Prelude.{List, [], ◌∷◌, ◌++◌, length, take, drop, map, filter, codes}
 use Rattle.std.specs.List.{flat_map, list_any}
 use Rattle.cfg_base.specs.declared.path.Step.{Step}
 use Rattle.cfg_schema.specs.Profile.{same_word}
@@ -69,11 +70,14 @@ module _ (look : Look) (kids : List Step → List Step) where
   abbrev pub live_ones : List (List Step) → List (List Step)
   live_ones paths = filter (is_live look) paths
 
-  -- right below a group's path, the live statement with the very step, and then, where wildcards may match, those whose
-  -- wildcard matches, by its bytes
+  -- right below a group's path, the steps whose wildcards match a step, by their bytes, and none where wildcards may not match
+  abbrev pub matching_below : Bool → Step → List Step → List Step
+  matching_below wild step from = (if wild then filter (fits_wildcard step) (kids from) else [])
+
+  -- right below a group's path, the live statement with the very step, and then those whose wildcard matches
   abbrev pub fitting_below : Bool → Step → List Step → List (List Step)
   fitting_below wild step from =
-      live_ones ((from ++ step ∷ []) ∷ []) ++ live_ones (map (λ other. from ++ other ∷ []) (if wild then filter (fits_wildcard step) (kids from) else []))
+      live_ones ((from ++ step ∷ []) ∷ []) ++ live_ones (map (λ other. from ++ other ∷ []) (matching_below wild step from))
 
   -- the live statements of a group that fit a path step by step: first by the first step where they differ; wildcards
   -- match only where the path to there is live
@@ -93,13 +97,17 @@ module _ (look : Look) (kids : List Step → List Step) where
   abbrev pub excepted : List Step → List (List ℕ)
   excepted level = live_words look (level ++ except_step ∷ [])
 
-  -- from the parent outwards, at each level the groups that are applied there, but those that were excepted up to there, and of each
-  -- group what fits; `out` says which groups were excepted so far
+  -- a group is excepted at a level, or was further in
+  abbrev pub is_excepted : (List ℕ → Bool) → List Step → List ℕ → Bool
+  is_excepted further_in level group = has_word (excepted level) group || further_in group
+
+  -- from the parent outwards, at each level the groups that are applied there, but those that are excepted there or were further in,
+  -- and of each group what fits; `out` says which groups were excepted so far
   abbrev pub sources_by : (List ℕ → List (List Step)) → (List ℕ → Bool) → List (List Step) → List Source
   sources_by found out [] = []
   sources_by found out (level ∷ outer) =
-      flat_map (λ group. map (source group) (found group)) (filter (λ group. not (has_word (excepted level) group || out group)) (applied level))
-      ++ sources_by found (λ group. has_word (excepted level) group || out group) outer
+      flat_map (λ group. map (source group) (found group)) (filter (λ group. not (is_excepted out level group)) (applied level))
+      ++ sources_by found (λ group. is_excepted out level group) outer
 
   -- the sources of a path, in order
   abbrev pub sources : List Step → List Source

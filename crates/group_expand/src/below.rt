@@ -19,7 +19,7 @@ use std::alloc::Global;
 fn expand_run<'m>(
     alloc: Global,
     plan: &Plan<'_>,
-    levels: u8,
+    levels: usize,
     above: &Path,
     step: &Step,
     run: &[Offer<'_>],
@@ -48,7 +48,7 @@ fn expand_run<'m>(
 pub fn expand_level<'m>(
     alloc: Global,
     plan: &Plan<'_>,
-    levels: u8,
+    levels: usize,
     path: &Path,
     level: &[Offer<'_>],
     made: FullMaker<'m>,

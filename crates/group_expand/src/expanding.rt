@@ -3,6 +3,7 @@
 ghost use Rattle.std.specs.Prelude.{◌≡◌, ◌<◌, ◌≤◌, [], length, IfOk, OnOk, IsErrOf};
 ghost use Rattle.std.specs.FinMap as map;
 ghost use Rattle.cfg_tree.specs.Tree.{IsTree};
+ghost use Rattle.cfg_base.specs.declared.path.TheConstants.{MAX_STEPS};
 ghost use Rattle.cfg_tree.specs.Full.{Expansion};
 ghost use Rattle.cfg_tree.specs.declared.limit.TheConstants.{MAX_EXPANDED};
 ghost use Rattle.group_expand.specs.Expansion.{IsExpansion};
@@ -14,12 +15,9 @@ use crate::given::level_below;
 use crate::offer::Offer;
 use crate::plan::Plan;
 use crate::row::{Statement, row_of};
-use cfg_base::{NoMemory, Path};
+use cfg_base::{MAX_STEPS, NoMemory, Path};
 use cfg_tree::{Full, FullMaker, Tree};
 use std::alloc::Global;
-
-/// The most levels below the top.
-const LEVELS: u8 = 16;
 
 /// The level of the top.
 fn top_level<'a>(alloc: Global, plan: &Plan<'a>, top: &Path) -> Result<Vec<Offer<'a>>, NoMemory>
@@ -33,16 +31,16 @@ fn top_level<'a>(alloc: Global, plan: &Plan<'a>, top: &Path) -> Result<Vec<Offer
 /// The expansion of the statements of a row.
 fn expanded(alloc: Global, row: &[Statement<'_>]) -> Result<Full, ExpandFault>
     requires { IsRow row.now }
-    ensures ok { IfOk result (λ full. full ≡ map.from_entries (given_below row.now 16 [])) }
-    ensures within { OnOk result (length (given_below row.now 16 []) ≤ MAX_EXPANDED) }
-    ensures wide { IsErrOf result ExpandFault.TooWide → MAX_EXPANDED < length (given_below row.now 16 []) }
+    ensures ok { IfOk result (λ full. full ≡ map.from_entries (given_below row.now MAX_STEPS [])) }
+    ensures within { OnOk result (length (given_below row.now MAX_STEPS []) ≤ MAX_EXPANDED) }
+    ensures wide { IsErrOf result ExpandFault.TooWide → MAX_EXPANDED < length (given_below row.now MAX_STEPS []) }
 {
     let plan = Plan::of(alloc, row)?;
     let top = Path::top(alloc);
     let level = top_level(alloc, &plan, &top)?;
     let none = Full::empty(alloc);
     let maker = FullMaker::beside(alloc, &none);
-    match expand_level(alloc, &plan, LEVELS, &top, &level, maker) {
+    match expand_level(alloc, &plan, MAX_STEPS, &top, &level, maker) {
         Ok(made) => Ok(made.finish()?),
         Err(fault) => Err(fault),
     }
