@@ -16,6 +16,8 @@ pub mod FittingLemmas
 pub mod OfferLemmas
 pub mod FrontsLemmas
 pub mod PlacedLemmas
+pub mod CutLemmas
+pub mod SearchLemmas
 pub mod RunLemmas
 pub mod StepsLemmas
 pub mod GivenLemmas

@@ -12,7 +12,7 @@ use Rattle.cfg_tree.specs.Children.{is_child}
 use Rattle.cfg_tree.proofs.MapLemmas.{same_step}
 use Rattle.cfg_tree.proofs.BelowLemmas.{below_le, below_self}
 use Rattle.group_expand.specs.Row.{Stated, is_under, Counted, AreBehind, Ordered, path_in, below_of, beside_of}
-use Rattle.group_expand.specs.Node.{Node, is_inside, inside_of, AreInside, node_of, is_live_child, begins_live, FirstNode, live_children, IsPart}
+use Rattle.group_expand.specs.Node.{Node, is_inside, inside_of, AreInside, node_of, is_live_child, begins_live, FirstNode, first_child, live_children, IsPart}
 use Rattle.group_expand.proofs.ClosedLemmas.{both}
 use Rattle.group_expand.proofs.RowLemmas.{below_trans, beside_kept}
 
@@ -253,9 +253,10 @@ counted_under p (x ∷ xs) h = by_test (is_under p x) refl (counted_under p xs h
     by_test true e go = (h.0 ∙ ap (λ (ys : List Stated). length ys + 1) (sym (kept e xs)), go)
     by_test false e go = go
 
-ordered_under : (t : Stated → Bool) (xs : List Stated) → Ordered xs → Ordered (filter t xs)
-ordered_under t [] h = tt
-ordered_under t (x ∷ xs) h = by_test (t x) (ordered_under t xs h.1)
+-- what is left of a row is in order
+pub ordered_kept : (t : Stated → Bool) (xs : List Stated) → Ordered xs → Ordered (filter t xs)
+ordered_kept t [] h = tt
+ordered_kept t (x ∷ xs) h = by_test (t x) (ordered_kept t xs h.1)
   where
     by_test : (b : Bool) → Ordered (filter t xs) → Ordered (cond b (x ∷ filter t xs) (filter t xs))
     by_test true go = (all_kept (λ y. path_cmp x.path y.path ≡ Less) t xs h.0, go)
@@ -278,7 +279,7 @@ part_of_first [] some long c o = absurd (omega (arith, some))
 part_of_first (x ∷ xs) some long c o = record {
   long = long;
   counted = counted_under x.path xs c.1;
-  ordered = ordered_under (is_under x.path) xs o.1;
+  ordered = ordered_kept (is_under x.path) xs o.1;
   inside = inside_under x.path xs o.0;
 }
 
@@ -289,3 +290,11 @@ first_long above (x ∷ xs) some i = let k = inside_longer above x.path i.0 in o
 pub first_path : (xs : List Stated) (x : Stated) → 0 < length xs → x ≡ get_or xs 0 x → x.path ≡ path_in xs
 first_path [] x some e = absurd (omega (arith, some))
 first_path (y ∷ xs) x some e = ap (λ (z : Stated). z.path) e
+
+-- the first statement as a node, where it is live and right below a path
+pub first_is : (above : List Step) (xs : List Stated) (node : Node) → Counted xs → Ordered xs → AreInside above xs → begins_live above xs ≡ true → FirstNode xs node
+    → node ∷ [] ≡ first_child above xs
+first_is above [] node c o i live first = absurd first
+first_is above (x ∷ xs) node c o i live first =
+    ap (λ (n : Node). n ∷ []) (sym (first_more x xs o.0 (x ∷ xs) above node i.0 (way_begins above (x ∷ xs) c o i).whole first))
+    ∙ sym (ap (λ (b : Bool). cond b (node_of (x ∷ xs) x ∷ []) []) live)

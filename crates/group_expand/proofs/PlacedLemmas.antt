@@ -59,7 +59,7 @@ child_split q p h =
     more (x ∷ a) (y ∷ b) e l =
         let k = both _ _ e in let same : y ≡ x = sym ((same_step x y).0 k.0) in let m = more a b k.1 (omega (arith, l)) in (m.0, λ i. same i ∷ m.1 i)
 
-child_inside : (q p : List Step) → is_child q p ≡ true → is_inside q p ≡ true
+pub child_inside : (q p : List Step) → is_child q p ≡ true → is_inside q p ≡ true
 child_inside q p h = by_test (is_below p q) refl
   where
     by_test : (b : Bool) → is_below p q ≡ b → (is_below q p && not b) ≡ true

@@ -6,6 +6,7 @@ pub mod Listed
 pub mod Made
 pub mod Row
 pub mod Node
+pub mod Cut
 pub mod Fitting
 pub mod Offer
 pub mod Fronts

@@ -1,5 +1,5 @@
 -- A statement with what stands below it, and the live statements right below. For the inner functions.
-use Rattle.std.specs.Prelude.{◌≡◌, ◌<◌, Bool, true, false, not, ◌&&◌, List, [], ◌∷◌, length, filter, map}
+use Rattle.std.specs.Prelude.{◌≡◌, ◌<◌, Bool, true, false, not, ◌&&◌, List, [], ◌∷◌, length, filter, map, if◌then◌else◌}
 use Rattle.std.specs.List.{AllByRecursion}
 use Rattle.cfg_base.specs.Order.{is_below}
 use Rattle.cfg_base.specs.declared.path.Step.{Step}
@@ -48,6 +48,11 @@ live_children above xs = map (node_of xs) (filter (is_live_child above) xs)
 -- the live statements right below a node
 abbrev pub children_of : Node → List Node
 children_of node = live_children node.path node.below
+
+-- the first statement, where it is live and right below a path
+abbrev pub first_child : List Step → List Stated → List Node
+first_child above [] = []
+first_child above (x ∷ xs) = (if is_live_child above x then node_of (x ∷ xs) x ∷ [] else [])
 
 -- what stands below a path that isn't the top, in order and counted
 pub record IsPart (path : List Step) (below : List Stated) : Type 0 where

@@ -1,25 +1,22 @@
 //! What of a group fits a path.
 
-ghost use Rattle.std.specs.Prelude.{◌≡◌, ◌++◌, flat_map, IfOk, OnOk};
-ghost use Rattle.group_expand.specs.Fitting.{exact, wild, fits_of, down};
+ghost use Rattle.std.specs.Prelude.{◌≡◌, [], ◌++◌, flat_map, IfOk, OnOk};
+ghost use Rattle.cfg_tree.specs.Tree.{step_of};
+ghost use Rattle.group_expand.specs.Node.{children_of};
+ghost use Rattle.group_expand.specs.Fitting.{exact, wild, fits_of, fitting_of};
 
+use crate::groups::LiveGroups;
 use crate::node::Node;
-use crate::step::{fits_wildcard, same_step};
-use cfg_base::{NoMemory, Step};
+use crate::step::fits_wildcard;
+use cfg_base::{NoMemory, Step, Word};
 use std::alloc::Global;
 
-/// Puts the nodes with a step behind others.
-fn push_exact<'a>(
-    found: &mut Vec<Node<'a>>,
-    step: &Step,
-    nodes: &[Node<'a>],
-) -> Result<(), NoMemory>
-    ensures { OnOk result (found.new.items ≡ found.old.items ++ exact step.now nodes.now) }
+/// Puts the node right below another one that has a step behind others.
+fn push_child<'a>(found: &mut Vec<Node<'a>>, step: &Step, node: &Node<'a>) -> Result<(), NoMemory>
+    ensures { OnOk result (found.new.items ≡ found.old.items ++ exact step.now (children_of node.now)) }
 {
-    for node in nodes {
-        if same_step(step, node.step()) {
-            found.push(node.same())?;
-        }
+    if let Some(child) = node.child(step.head.as_bytes(), step.name.as_bytes()) {
+        found.push(child)?;
     }
     Ok(())
 }
@@ -45,9 +42,9 @@ fn push_fits<'a>(
 ) -> Result<(), NoMemory>
     ensures { OnOk result (found.new.items ≡ found.old.items ++ fits_of step.now node.now) }
 {
-    let children = node.children(alloc)?;
-    push_exact(found, step, &children)?;
-    push_wild(found, step, &children)
+    push_child(found, step, node)?;
+    let wildcards = node.wildcards(alloc, step.head.as_bytes())?;
+    push_wild(found, step, &wildcards)
 }
 
 /// What fits a step right below these nodes.
@@ -61,17 +58,31 @@ fn one_down<'a>(alloc: Global, nodes: &[Node<'a>], step: &Step) -> Result<Vec<No
     Ok(found)
 }
 
-/// What of a group fits a path, where these are the groups.
-pub fn fitting<'a>(
+/// The group of a name, where it is there.
+fn group_named<'a>(
     alloc: Global,
-    groups: &[Node<'a>],
-    group: &Step,
-    path: &[Step],
+    groups: &LiveGroups<'a>,
+    name: &Word,
 ) -> Result<Vec<Node<'a>>, NoMemory>
-    ensures { IfOk result (λ found. found.items ≡ down (exact group.now groups.now) path.now) }
+    ensures { IfOk result (λ found. found.items ≡ exact (step_of [] name.now) groups.now) }
 {
     let mut found = Vec::new(alloc);
-    push_exact(&mut found, group, groups)?;
+    if let Some(node) = groups.named(name) {
+        found.push(node)?;
+    }
+    Ok(found)
+}
+
+/// What of a group fits a path.
+pub fn fitting<'a>(
+    alloc: Global,
+    groups: &LiveGroups<'a>,
+    group: &Word,
+    path: &[Step],
+) -> Result<Vec<Node<'a>>, NoMemory>
+    ensures { IfOk result (λ found. found.items ≡ fitting_of groups.now group.now path.now) }
+{
+    let mut found = group_named(alloc, groups, group)?;
     for step in path {
         found = one_down(alloc, &found, step)?;
     }

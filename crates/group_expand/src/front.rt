@@ -1,20 +1,21 @@
 //! What the children of a path are given from.
 
-ghost use Rattle.std.specs.Prelude.{◌≡◌, [], ◌++◌, ◌||◌, List, ℕ, map, flat_map, find, unwrap_or, if◌then◌else◌, IfOk, OnOk};
+ghost use Rattle.std.specs.Prelude.{◌≡◌, [], ◌++◌, map, flat_map, find, unwrap_or, if◌then◌else◌, IfOk, OnOk};
 ghost use Rattle.std.specs.BTreeSet as set;
 ghost use Rattle.std.specs.Option.{option_copied};
 ghost use Rattle.cfg_base.specs.Order.{word_cmp};
-ghost use Rattle.cfg_base.specs.Words.{same_word, Knows};
+ghost use Rattle.cfg_base.specs.Words.{Knows};
 ghost use Rattle.cfg_tree.specs.Statements.{last_of};
 ghost use Rattle.cfg_tree.specs.Tree.{step_of};
 ghost use Rattle.group_expand.specs.Sources.{same_step};
 ghost use Rattle.group_expand.specs.Fronts.{words_if_any, source_of, brought_by, front_of, brought_unless, kept_unless};
 
 use crate::fitting::fitting;
+use crate::groups::LiveGroups;
 use crate::node::Node;
 use crate::offer::{Offer, Source};
 use crate::step::{apply_groups, apply_groups_except, is_head};
-use cfg_base::{NoMemory, Path, Step, Word, WordList, learn};
+use cfg_base::{NoMemory, Path, Word, WordList, learn};
 use std::alloc::Global;
 use std::collections::BTreeSet;
 
@@ -75,17 +76,13 @@ fn push_sources<'a>(
 fn push_group<'a>(
     alloc: Global,
     front: &mut Vec<Source<'a>>,
-    groups: &[Node<'a>],
+    groups: &LiveGroups<'a>,
     path: &Path,
     group: &'a Word,
 ) -> Result<(), NoMemory>
     ensures { OnOk result (front.new.items ≡ front.old.items ++ brought_by groups.now path.now group.now) }
 {
-    let step = Step {
-        head: Word::empty(alloc),
-        name: group.clone()?,
-    };
-    let found = fitting(alloc, groups, &step, path.steps())?;
+    let found = fitting(alloc, groups, group, path.steps())?;
     push_sources(front, group, &found)
 }
 
@@ -93,7 +90,7 @@ fn push_group<'a>(
 fn push_unless<'a>(
     alloc: Global,
     front: &mut Vec<Source<'a>>,
-    groups: &[Node<'a>],
+    groups: &LiveGroups<'a>,
     path: &Path,
     gone: &BTreeSet<Word>,
     group: &'a Word,
@@ -110,7 +107,7 @@ fn push_unless<'a>(
 fn push_applied<'a>(
     alloc: Global,
     front: &mut Vec<Source<'a>>,
-    groups: &[Node<'a>],
+    groups: &LiveGroups<'a>,
     path: &Path,
     gone: &BTreeSet<Word>,
     words: &'a WordList,
@@ -128,7 +125,7 @@ fn push_applied<'a>(
 fn push_listed<'a>(
     alloc: Global,
     front: &mut Vec<Source<'a>>,
-    groups: &[Node<'a>],
+    groups: &LiveGroups<'a>,
     path: &Path,
     gone: &BTreeSet<Word>,
     words: Option<&'a WordList>,
@@ -175,7 +172,7 @@ fn push_all_kept<'a>(
 /// offered for itself.
 pub fn front<'a>(
     alloc: Global,
-    groups: &[Node<'a>],
+    groups: &LiveGroups<'a>,
     path: &Path,
     own: &[Node<'a>],
     offers: &[Offer<'a>],

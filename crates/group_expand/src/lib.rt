@@ -6,11 +6,13 @@
 #![tactic(auto)]
 
 mod below;
+mod cut;
 mod expanding;
 mod fault;
 mod fitting;
 mod front;
 mod given;
+mod groups;
 mod laws;
 mod node;
 mod offer;

@@ -1,11 +1,16 @@
 //! Statements with what stands below them.
 
 ghost use Rattle.std.specs.Prelude.{◌≡◌, ◌<◌, length, IfOk};
+ghost use Rattle.std.specs.Option.{option_to_list};
 ghost use Rattle.cfg_tree.specs.Statements.{last_of};
+ghost use Rattle.cfg_tree.specs.Tree.{step_of};
 ghost use Rattle.group_expand.specs.Row.{Counted, Ordered, path_in};
-ghost use Rattle.group_expand.specs.Node.{AreInside, FirstNode, begins_live, live_children, children_of};
+ghost use Rattle.group_expand.specs.Node.{AreInside, FirstNode, begins_live, first_child, live_children, children_of};
+ghost use Rattle.group_expand.specs.Fitting.{exact, wildcards_of};
 
+use crate::cut::cut_at;
 use crate::row::{Statement, beside, inside};
+use crate::step::is_step;
 use cfg_base::{NoMemory, Path, Step, Value};
 use std::alloc::Global;
 use std::marker::Model;
@@ -60,6 +65,28 @@ impl<'a> Node<'a> {
         }
     }
 
+    /// The live statement right below it whose step has these words.
+    pub fn child(&self, head: &[u8], name: &[u8]) -> Option<Node<'a>>
+        ensures { option_to_list result ≡ exact (step_of head.now name.now) (children_of self.now) }
+    {
+        let from = cut_at(self.path, self.below, head, name).1;
+        match first_child(self.path, from) {
+            None => None,
+            Some(child) if is_step(head, name, child.step()) => Some(child),
+            Some(_) => None,
+        }
+    }
+
+    /// The live statements right below it that have a head and a wildcard name.
+    pub fn wildcards(&self, alloc: Global, head: &[u8]) -> Result<Vec<Node<'a>>, NoMemory>
+        ensures { IfOk result (λ nodes. nodes.items ≡ wildcards_of head.now self.now) }
+    {
+        // The names that begin with `<` are those from `<` up to `=`.
+        let from = cut_at(self.path, self.below, head, b"<").1;
+        let part = cut_at(self.path, from, head, b"=").0;
+        live_children(alloc, self.path, part)
+    }
+
     /// The live statements right below it.
     pub fn children(&self, alloc: Global) -> Result<Vec<Node<'a>>, NoMemory>
         ensures { IfOk result (λ nodes. nodes.items ≡ children_of self.now) }
@@ -91,6 +118,19 @@ fn first_node<'a>(part: &'a [Statement<'a>]) -> Node<'a>
         value: part[0].value(),
         below: inside(part),
     }
+}
+
+/// The first statement, where it is live and right below a path.
+fn first_child<'a>(above: &Path, part: &'a [Statement<'a>]) -> Option<Node<'a>>
+    requires counted { Counted part.now }
+    requires ordered { Ordered part.now }
+    requires inside { AreInside above.now part.now }
+    ensures { option_to_list result ≡ first_child above.now part.now }
+{
+    if part.is_empty() || !begins_live(above, part) {
+        return None;
+    }
+    Some(first_node(part))
 }
 
 /// The live statements right below a path, of those that stand below it.

@@ -1,6 +1,6 @@
 //! What a level is made of: live statements of the configuration, and what groups offer.
 
-ghost use Rattle.std.specs.Prelude.{◌≡◌, ◌++◌, List, map, flat_map, IfOk, OnOk};
+ghost use Rattle.std.specs.Prelude.{◌≡◌, ◌++◌, map, flat_map, IfOk, OnOk};
 ghost use Rattle.std.specs.Option.{option_copied};
 ghost use Rattle.group_expand.specs.Offer.{own_offer, group_offer, plain_offers, matched_offers, offers_of, offered, IsLevel};
 

@@ -1,15 +1,12 @@
 //! The row of a configuration's statements, and its groups.
 
-ghost use Rattle.std.specs.Prelude.{◌≡◌, [], ◌∷◌, find, IfOk};
+ghost use Rattle.std.specs.Prelude.{◌≡◌, [], ◌∷◌, IfOk};
 ghost use Rattle.group_expand.specs.Placed.{IsRow, kids_at, look_of, kids_of};
-ghost use Rattle.cfg_tree.specs.Statements.{last_of};
-ghost use Rattle.group_expand.specs.Runs.{own_nodes};
-ghost use Rattle.group_expand.specs.Sources.{groups_step, same_step};
+ghost use Rattle.group_expand.specs.Sources.{groups_step};
 
-use crate::front::node_with;
+use crate::groups::LiveGroups;
 use crate::node::{Node, live_children};
 use crate::row::Statement;
-use crate::step::groups;
 use cfg_base::{NoMemory, Path};
 use std::alloc::Global;
 use std::marker::Model;
@@ -18,7 +15,7 @@ use std::marker::Model;
 #[derive(Debug, Drop)]
 pub struct Plan<'a> {
     row: &'a [Statement<'a>],
-    groups: Vec<Node<'a>>,
+    groups: LiveGroups<'a>,
 }
 
 impl<'a> Model for Plan<'a> {
@@ -30,7 +27,7 @@ impl<'a> Model for Plan<'a> {
 
     ghost view = { λ p. p.row.now };
 
-    ghost invariant = { λ p. IsPlan p.row.now p.groups.items };
+    ghost invariant = { λ p. IsPlan p.row.now p.groups };
 }
 
 /// The live statements at the top of a row.
@@ -41,23 +38,13 @@ fn top_nodes<'a>(alloc: Global, row: &'a [Statement<'a>]) -> Result<Vec<Node<'a>
     live_children(alloc, &Path::top(alloc), row)
 }
 
-/// The groups among the statements at the top.
-fn groups_in<'a>(alloc: Global, top: &[Node<'a>]) -> Result<Vec<Node<'a>>, NoMemory>
-    ensures { IfOk result (λ nodes. nodes.items ≡ own_nodes (find (λ n. same_step groups_step (last_of n.path)) top.now)) }
-{
-    match node_with(top, groups()) {
-        None => Ok(Vec::new(alloc)),
-        Some(node) => node.children(alloc),
-    }
-}
-
 /// The live groups of a row.
-fn groups_of<'a>(alloc: Global, row: &'a [Statement<'a>]) -> Result<Vec<Node<'a>>, NoMemory>
+fn groups_of<'a>(alloc: Global, row: &'a [Statement<'a>]) -> Result<LiveGroups<'a>, NoMemory>
     requires { IsRow row.now }
-    ensures { IfOk result (λ nodes. nodes.items ≡ kids_at (look_of row.now) (kids_of row.now) row.now (groups_step ∷ [])) }
+    ensures { IfOk result (λ groups. groups ≡ kids_at (look_of row.now) (kids_of row.now) row.now (groups_step ∷ [])) }
 {
     let top = top_nodes(alloc, row)?;
-    groups_in(alloc, &top)
+    Ok(LiveGroups::among(&top))
 }
 
 impl<'a> Plan<'a> {
@@ -71,7 +58,7 @@ impl<'a> Plan<'a> {
     }
 
     /// The live groups.
-    pub fn groups(&self) -> &[Node<'a>]
+    pub fn groups(&self) -> &LiveGroups<'a>
         ensures are { result.now ≡ kids_at (look_of self.now) (kids_of self.now) self.now (groups_step ∷ []) }
         ensures row { IsRow self.now }
     {

@@ -35,11 +35,11 @@ pub fn fits_wildcard(step: &Step, other: &Step) -> bool
         && matches(inner(&other.name), step.name.as_bytes())
 }
 
-/// Whether two steps have the same words.
-pub fn same_step(step: &Step, other: &Step) -> bool
-    ensures { result ≡ same_step step.now other.now }
+/// Whether a step has these words.
+pub fn is_step(head: &[u8], name: &[u8], step: &Step) -> bool
+    ensures { result ≡ same_step (step_of head.now name.now) step.now }
 {
-    step.head.as_bytes() == other.head.as_bytes() && step.name.as_bytes() == other.name.as_bytes()
+    head == step.head.as_bytes() && name == step.name.as_bytes()
 }
 
 /// The word below which groups stand.
@@ -67,8 +67,7 @@ pub fn apply_groups_except() -> &'static [u8]
 pub fn is_head(head: &[u8], step: &Step) -> bool
     ensures { result ≡ same_step (step_of head.now []) step.now }
 {
-    let no_name: &[u8] = b"";
-    head == step.head.as_bytes() && no_name == step.name.as_bytes()
+    is_step(head, b"", step)
 }
 
 /// Whether a step applies or excepts groups.

@@ -1,4 +1,4 @@
-use Rattle.std.proofs.Common.{◌≡◌, List, [], ap, subst, ◌∙◌, IfOk, rules}
+use Rattle.std.proofs.Common.{◌≡◌, List, [], ap, ◌∙◌, rules}
 use Rattle.std.specs.Prelude.{find}
 use Rattle.cfg_tree.specs.Statements.{last_of}
 use Rattle.group_expand.specs.Sources.{groups_step, same_step}
@@ -11,6 +11,4 @@ use Rattle.group_expand.proofs.plan.groups_of.Goals as goal
 pub returns : goal.returns
 returns c =
     let top : c.deref.result.now ≡ kids_at (look_of c.args.row.now) (kids_of c.args.row.now) c.args.row.now [] = search rules
-    in subst (λ (ns : List Node). IfOk c.groups_in.result (λ nodes. nodes.items ≡ ns))
-    (ap (λ (ts : List Node). own_nodes (find (λ n. same_step groups_step (last_of n.path)) ts)) top ∙ groups_at c.args.row.now c.requires)
-    c.groups_in.ensures
+    in c.among.ensures ∙ ap (λ (ts : List Node). own_nodes (find (λ n. same_step groups_step (last_of n.path)) ts)) top ∙ groups_at c.args.row.now c.requires
