@@ -6,3 +6,5 @@ pub mod HoldsLemmas
 pub mod InheritedLemmas
 pub mod EntriesLemmas
 pub mod OwnLemmas
+pub mod FollowedLemmas
+pub mod WalkLemmas

@@ -1,10 +1,10 @@
 //! How long the whole printed text is, told without memory.
 
-ghost use Rattle.std.specs.Prelude.{◌≡◌, ◌≤◌, ◌+◌, [], ◌∷◌, length, min};
+ghost use Rattle.std.specs.Prelude.{◌≡◌, ◌≤◌, ◌+◌, [], ◌∷◌, length, min, false, MatchOption};
+ghost use Rattle.cfg_base.specs.Order.{is_below};
 ghost use Rattle.cfg_tree.specs.OwnWords.{own_words, word_if_any};
 ghost use Rattle.cfg_tree.specs.Statements.{last_of};
-ghost use Rattle.cfg_tree.specs.Tree.{IsTree};
-ghost use Rattle.curly_print.specs.Length.{capped, holds, indent_of, own_len};
+ghost use Rattle.curly_print.specs.Length.{capped, indent_of, own_len};
 ghost use Rattle.curly_print.specs.Printed.{marks_of, printed, value_text, words_line};
 ghost use Rattle.curly_print.specs.Printing.{blank_words};
 
@@ -111,12 +111,11 @@ fn own_len(steps: &[Step], value: &Value, holds: bool) -> u64
     value_len(&value.words).saturating_add(all as u64)
 }
 
-/// Whether a statement holds others: the next one in the order of paths stands below it.
-fn holds(tree: &Tree, path: &Path) -> bool
-    requires { IsTree tree.now }
-    ensures { result ≡ holds tree.now path.now }
+/// Whether the next statement, where there is one, stands below a path.
+fn is_followed_below(path: &Path, next: Option<(&Path, &Value)>) -> bool
+    ensures { MatchOption next.entry (result ≡ false) (λ found. result ≡ is_below path.now found.0.now) }
 {
-    match tree.next(path) {
+    match next {
         Some((next, _)) => next.is_below(path),
         None => false,
     }
@@ -130,9 +129,13 @@ pub fn text_len(tree: &Tree) -> u64
         return 0;
     }
     let mut left = tree.walk();
+    let mut last = left.next();
     let mut total: u64 = 0;
-    while let Some((path, value)) = left.next() {
-        total = total.saturating_add(own_len(path.steps(), value, holds(tree, path)));
+    while let Some((path, value)) = last {
+        let next = left.next();
+        let holds = is_followed_below(path, next);
+        total = total.saturating_add(own_len(path.steps(), value, holds));
+        last = next;
     }
     total
 }
