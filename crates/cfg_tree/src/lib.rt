@@ -17,6 +17,7 @@ mod front;
 mod full;
 mod gather;
 mod laws;
+mod ledger_check;
 mod limit;
 mod naming;
 mod pending;
@@ -37,6 +38,7 @@ pub use laws::{
     limits_are_stated, one_path_is_past_the_limit, own_words_name_their_statement,
     puts_have_one_answer, statements_make_a_tree, walks_gather_their_tree, words_have_one_answer,
 };
+pub use ledger_check::LedgerCheck;
 pub use limit::{MAX_EXPANDED, MAX_STATEMENTS};
 pub use reading::resolve;
 pub use steps::Steps;
