@@ -10,6 +10,7 @@ mod checking;
 mod fault;
 mod groups;
 mod interfaces;
+mod judge;
 mod kinds;
 mod laws;
 mod least;
@@ -27,6 +28,7 @@ mod users;
 
 pub use checking::check;
 pub use fault::CheckFault;
+pub use judge::Judge;
 pub use laws::{
     accepted_configurations_fit, checks_have_one_answer, limit_is_stated, nothing_is_accepted,
 };
