@@ -25,6 +25,12 @@ pub mod OnceLemmas
 pub mod PutAnswerLemmas
 pub mod OtherLemmas
 pub mod OwnLemmas
+pub mod InPlaceLemmas
+pub mod BesideLemmas
+pub mod PartLemmas
+pub mod MovedLemmas
+pub mod MovesLemmas
+pub mod RenamedLemmas
 mod CanonicalLemmas
 mod LevelLemmas
 mod GatherLemmas

@@ -39,7 +39,7 @@ some_same : {A : Type 0} (x y : A) → Some x ≡ Some y → x ≡ y
 some_same x y e = cc
 
 -- the steps behind a level follow rows from where the level leads
-follows_behind : (level rest : List Step) (start here : Place) → FollowsFrom (level ++ rest) start → place_from level start ≡ Some here → FollowsFrom rest here
+pub follows_behind : (level rest : List Step) (start here : Place) → FollowsFrom (level ++ rest) start → place_from level start ≡ Some here → FollowsFrom rest here
 follows_behind [] rest start here f e = subst (λ (p : Place). FollowsFrom rest p) (some_same start here e) f
 follows_behind (s ∷ level) rest start here f e =
     follows_behind level rest f.0 here f.3 (ap (and_then (place_from level)) (sym f.1) ∙ e)

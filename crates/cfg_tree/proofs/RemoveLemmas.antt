@@ -28,7 +28,7 @@ pub record Removes (m n : Statements) (path : List Step) : Type 0 where
       → map.get n (parent_of path) ≡ option_map (renamed (without (last_of path).name)) (map.get m (parent_of path))
   pub size : size_of n ≤ MAX_STATEMENTS
 
-lists-without : (name : List ℕ) (names : List (List ℕ)) (other : List ℕ) → lists (without name names) other ≡ (lists names other && not (same_word name other))
+pub lists-without : (name : List ℕ) (names : List (List ℕ)) (other : List ℕ) → lists (without name names) other ≡ (lists names other && not (same_word name other))
 lists-without name [] other = refl
 lists-without name (x ∷ names) other = by_tests _ _ refl refl (lists-without name names other)
   where
@@ -60,7 +60,7 @@ all-without y name (x ∷ names) h = by_test (not (same_word name x)) (all-witho
     by_test true go = (h.0, go)
     by_test false go = go
 
-distinct-without : (name : List ℕ) (names : List (List ℕ)) → IsDistinct same_word names → IsDistinct same_word (without name names)
+pub distinct-without : (name : List ℕ) (names : List (List ℕ)) → IsDistinct same_word names → IsDistinct same_word (without name names)
 distinct-without name [] h = h
 distinct-without name (x ∷ names) h =
     by_test (not (same_word name x)) (distinct-without name names (IsDistinct-tail same_word x names h))

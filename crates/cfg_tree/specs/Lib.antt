@@ -4,6 +4,7 @@ pub mod Typed
 pub mod Tree
 pub mod Change
 pub mod Limit
+pub mod Moving
 pub mod Gather
 pub mod Children
 pub mod After

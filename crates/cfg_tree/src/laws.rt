@@ -1,7 +1,7 @@
-//! Words and puts have one answer each, a statement's own words name it, a walk gathers its tree, and
-//! statements in turn make one.
+//! Words and puts have one answer each, a statement's own words name it, a walk gathers its tree, statements in
+//! turn make one, and what a copy and a change of a name leave.
 
-ghost use Rattle.std.specs.Prelude.{◌≡◌, ◌≢◌, ◌<◌, ◌≤◌, ◌++◌, ℕ, List, [], Ok, Err, Result, Some};
+ghost use Rattle.std.specs.Prelude.{◌≡◌, ◌≢◌, ◌<◌, ◌≤◌, ◌++◌, ℕ, Bool, true, false, List, [], Ok, Err, Result, Some};
 ghost use Rattle.std.specs.FinMap as map;
 ghost use Rattle.cfg_base.specs.declared.path.Step.{Step};
 ghost use Rattle.cfg_tree.specs.declared.target.Target.{Target};
@@ -16,6 +16,7 @@ ghost use Rattle.cfg_tree.specs.declared.fault.TreeFault.{TreeFault};
 ghost use Rattle.cfg_tree.specs.declared.fault.TreeFault.TheVariants as put;
 ghost use Rattle.cfg_tree.specs.Statements.{Statements, size_of};
 ghost use Rattle.cfg_tree.specs.Change.{IsPut, IsPutFault};
+ghost use Rattle.cfg_tree.specs.Moving.{IsNewName, Moves, copied, renamed, names_copied, names_renamed};
 ghost use Rattle.cfg_tree.specs.Gather.{gathered_from_none};
 ghost use Rattle.cfg_tree.specs.Limit.{paths_of, different, IsPathPast};
 ghost use Rattle.cfg_tree.specs.Stated.{stated_from_none, AreSaid};
@@ -68,4 +69,14 @@ pub fn one_path_is_past_the_limit()
     ensures one_place { (paths : List (List Step)) (one other : ℕ) → IsPathPast paths one → IsPathPast paths other → one ≡ other }
     ensures some_place { (paths : List (List Step)) → MAX_STATEMENTS < different paths → (at : ℕ) × IsPathPast paths at }
     ensures too_many { (paths : List (List Step)) (at : ℕ) → IsPathPast paths at → MAX_STATEMENTS < different paths }
+{}
+
+/// What a copy and a change of a name leave, told by look-ups; and look-ups tell one map.
+pub fn moves_are_told_by_look_ups()
+    ensures copied { (m : Statements) (from to : List Step) → IsTree m → IsNewName m from to
+        → Moves m (copied m from to) from to true (names_copied to) }
+    ensures renamed { (m : Statements) (from to : List Step) → IsTree m → IsNewName m from to
+        → Moves m (renamed m from to) from to false (names_renamed from to) }
+    ensures one_map { (m one other : Statements) (from to : List Step) (stays : Bool) (change : List (List ℕ) → List (List ℕ))
+        → Moves m one from to stays change → Moves m other from to stays change → one ≡ other }
 {}

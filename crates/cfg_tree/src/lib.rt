@@ -19,6 +19,7 @@ mod gather;
 mod laws;
 mod ledger_check;
 mod limit;
+mod moving;
 mod naming;
 mod pending;
 mod reading;
@@ -35,12 +36,15 @@ pub use fault::TreeFault;
 pub use full::{Full, FullMaker, FullWalk, Given};
 pub use gather::GatherFault;
 pub use laws::{
-    limits_are_stated, one_path_is_past_the_limit, own_words_name_their_statement,
-    puts_have_one_answer, statements_make_a_tree, walks_gather_their_tree, words_have_one_answer,
+    limits_are_stated, moves_are_told_by_look_ups, one_path_is_past_the_limit,
+    own_words_name_their_statement, puts_have_one_answer, statements_make_a_tree,
+    walks_gather_their_tree, words_have_one_answer,
 };
 pub use ledger_check::LedgerCheck;
 pub use limit::{MAX_EXPANDED, MAX_STATEMENTS};
+pub use moving::CopyFault;
 pub use reading::resolve;
+pub use reorder::is_ordered;
 pub use steps::Steps;
 pub use target::{Target, WordsFault};
 pub use tree::Tree;

@@ -56,7 +56,7 @@ pub fn is_ordered(path: &Path) -> bool
     has_ordered_head(above, &steps[steps.len() - 1])
 }
 
-fn pushed(path: &Path, step: &Step) -> Result<Path, NoMemory>
+pub fn pushed(path: &Path, step: &Step) -> Result<Path, NoMemory>
     requires { length path.now < MAX_STEPS }
     ensures { IfOk result (λ longer. longer ≡ path.now ++ step.now ∷ []) }
 {

@@ -12,6 +12,7 @@ ghost use Rattle.cfg_tree.specs.Stated.{stated_from_none, AreSaid};
 ghost use Rattle.cfg_tree.specs.declared.limit.TheConstants.{MAX_STATEMENTS};
 ghost use Rattle.cfg_tree.specs.After.{IsNext, IsLast};
 ghost use Rattle.cfg_tree.specs.Children.{step_if, children_of};
+ghost use Rattle.cfg_tree.specs.Moving.{IsNewName, IsCopyFault, renamed, copied};
 ghost use Rattle.cfg_tree.specs.Change.{put_at, removed, IsReady, IsPut, IsPutFault, IsOther};
 
 use crate::after::next_in;
@@ -20,6 +21,7 @@ use crate::children::children_in;
 use crate::excess::statement_past_limit;
 use crate::fault::TreeFault;
 use crate::gather::{GatherFault, gathered_in};
+use crate::moving::{CopyFault, copy_in, rename_in};
 use crate::naming::with_child_names;
 use crate::steps::Steps;
 use crate::store::Entries;
@@ -157,6 +159,26 @@ impl Tree {
         ensures unchanged { OnErr result (self.new ≡ self.old) }
     {
         remove_in(self.alloc, &mut self.statements, path)
+    }
+
+    /// Gives a statement, with all below it, another name of its row. It keeps its place in its parent's order.
+    pub fn rename_statement(&mut self, from: &Path, to: &Path) -> Result<(), NoMemory>
+        requires { IsNewName self.old from.now to.now }
+        ensures ok { OnOk result (self.new ≡ renamed self.old from.now to.now) }
+        ensures unchanged { OnErr result (self.new ≡ self.old) }
+    {
+        rename_in(self.alloc, &mut self.statements, from, to)
+    }
+
+    /// Copies a statement, with all below it and all marks, to another name of its row, which goes last in its parent's
+    /// order.
+    pub fn copy_statement(&mut self, from: &Path, to: &Path) -> Result<(), CopyFault>
+        requires { IsNewName self.old from.now to.now }
+        ensures ok { OnOk result (self.new ≡ copied self.old from.now to.now) }
+        ensures err { IfErr result (IsCopyFault self.old from.now to.now) }
+        ensures unchanged { OnErr result (self.new ≡ self.old) }
+    {
+        copy_in(self.alloc, &mut self.statements, from, to)
     }
 
     /// The steps of the children of a path, in printing order.
