@@ -15,7 +15,7 @@ use Rattle.cfg_entries.specs.EntryMap.{Pair}
 use Rattle.cfg_tree.specs.Gather.{joined_at, gathered, grown, with_one, told, told_by, Climbs}
 use Rattle.cfg_entries.proofs.OrderLemmas.{path_same}
 
-tied : (o : Ordering) → is_eq o ≡ true → o ≡ Equal
+pub tied : (o : Ordering) → is_eq o ≡ true → o ≡ Equal
 tied Less h = cc
 tied Equal h = refl
 tied Greater h = cc
@@ -115,11 +115,11 @@ climbs (e ∷ es) h = (
   climbs es (λ i j d l m. h (suc i) (suc j) d (omega (arith, l)) (omega (arith, m))),
 )
 
-front : (a b : Bool) → T (a && b) → T a
+pub front : (a b : Bool) → T (a && b) → T a
 front true b h = tt
 front false b h = h
 
-back : (a b : Bool) → T (a && b) → T b
+pub back : (a b : Bool) → T (a && b) → T b
 back true b h = h
 back false b h = absurd h
 
@@ -129,7 +129,7 @@ not_tied Equal h = absurd h
 not_tied Greater h = refl
 
 -- nothing behind a path is joined to what is there
-told_behind : (k : List Step) (v : Value) (es : List (Pair Value)) → T (below_all path_cmp k es) → told k (Some v) es ≡ Some v
+pub told_behind : (k : List Step) (v : Value) (es : List (Pair Value)) → T (below_all path_cmp k es) → told k (Some v) es ≡ Some v
 told_behind k v [] h = refl
 told_behind k v (e ∷ es) h =
     ap (λ (b : Bool). told k (if b then Some (joined_at e.0 (Some v) e.1) else Some v) es) (not_tied (path_cmp k e.0) (front _ _ h))

@@ -36,6 +36,7 @@ mod LevelLemmas
 mod GatherLemmas
 mod GatheredLemmas
 mod JoinLemmas
+pub mod UnionLemmas
 mod ExcessLemmas
 pub mod NamingLemmas
 pub mod LimitLemmas

@@ -6,6 +6,7 @@ pub mod Change
 pub mod Limit
 pub mod Moving
 pub mod Gather
+pub mod Union
 pub mod Children
 pub mod After
 pub mod Resolve

@@ -11,6 +11,7 @@ mod after;
 mod below;
 mod change;
 mod children;
+mod draft;
 mod excess;
 mod fault;
 mod front;
@@ -31,6 +32,7 @@ mod tree;
 mod typed;
 mod walk;
 
+pub use draft::{Draft, two_maps_have_one_union};
 pub use excess::statement_past_limit;
 pub use fault::TreeFault;
 pub use full::{Full, FullMaker, FullWalk, Given};

@@ -4,6 +4,7 @@ ghost use Rattle.cfg_base.specs.Order.{path_cmp, step_cmp};
 ghost use Rattle.cfg_base.specs.declared.path.Step.{Step};
 ghost use Rattle.std.specs.Option.{option_copied};
 ghost use Rattle.std.specs.FinMap as map;
+ghost use Rattle.cfg_tree.specs.Shown.{shown};
 ghost use Rattle.cfg_tree.specs.Statements.{Statements, size_of};
 ghost use Rattle.cfg_tree.specs.Tree.{IsTree, IsStatementMap, IsTyped};
 ghost use Rattle.cfg_tree.specs.Gather.{gathered_from_none, IsGatherFault};
@@ -52,6 +53,30 @@ impl Model for Tree {
 }
 
 impl Tree {
+    /// The tree of these entries.
+    pub(crate) fn of_entries(alloc: Global, statements: Entries) -> Tree
+        requires { IsTree (shown statements) }
+        ensures { result ≡ shown statements }
+    {
+        Tree { alloc, statements }
+    }
+
+    /// What it is made of.
+    pub(crate) fn entries(&self) -> &Entries
+        ensures shown { shown result.now ≡ self.now }
+        ensures tree { IsTree self.now }
+    {
+        &self.statements
+    }
+
+    /// The same, of a tree that is done with.
+    pub(crate) fn into_entries(self) -> Entries
+        ensures shown { shown result ≡ self }
+        ensures tree { IsTree self }
+    {
+        self.statements
+    }
+
     /// No statements.
     pub fn empty(alloc: Global) -> Tree
         ensures { result ≡ map.empty }
