@@ -19,6 +19,7 @@ fn show_active_as(form: Form) -> &'static str {
     match form {
         Form::Curly => "show active curly",
         Form::SetLines => "show active set",
+        Form::Inherited => "show active inherited",
     }
 }
 
@@ -26,6 +27,7 @@ fn show_as(form: Form) -> &'static str {
     match form {
         Form::Curly => "show curly",
         Form::SetLines => "show set",
+        Form::Inherited => "show inherited",
     }
 }
 
@@ -46,6 +48,7 @@ pub(crate) fn say_command(out: &mut String, command: &Command) -> Result<(), Fau
         Command::ExitAll => say(out, "exit all"),
         Command::Show { words, form } => say_words(out, show_as(*form), words.as_slice()),
         Command::Change(op) => say_change(out, op),
+        Command::CheckOnly => say(out, "commit check"),
         Command::Commit => say(out, "commit"),
     }
 }
