@@ -28,11 +28,6 @@ sessions() {
     done
 }
 
-# the least of the times noted of a session, in nanoseconds
-time_of() {
-    sort -n "$work/$1.times" | head -n 1
-}
-
 kinds='ordered words own'
 counts='2000 8000'
 for kind in $kinds; do
@@ -52,9 +47,9 @@ done
 declare -A set
 for kind in $kinds; do
     for count in $counts; do
-        begun=$(time_of "$kind-$count-set")
+        begun=$(least_run "$kind-$count-set")
         set[$kind-$count]=$((begun / count))
-        echo "$count $kind: ${set[$kind-$count]} ns a set line, $((($(time_of "$kind-$count-both") - begun) / count)) ns a delete line"
+        echo "$count $kind: ${set[$kind-$count]} ns a set line, $((($(least_run "$kind-$count-both") - begun) / count)) ns a delete line"
     done
 done
 for kind in ordered words; do

@@ -1,4 +1,4 @@
-# What the scripts of this folder share; each of them has a function `session N` that writes an input with N of what it counts.
+# What the scripts of this folder share. Those that `compare` have a function `session N`, which writes an input with N of what it counts.
 # Builds nothing: the program is the one that ./demo leaves.
 cd "$(dirname "$0")/.."
 program=$PWD/crates/confd/out/confd
@@ -19,9 +19,14 @@ serve() {
     fi
 }
 
-# nanoseconds a line, the least of the times noted
+# the least of the times noted of an input, in nanoseconds
+least_run() {
+    sort -n "$work/$1.times" | head -n 1
+}
+
+# nanoseconds a line
 least() {
-    echo $(($(sort -n "$work/$1.times" | head -n 1) / $(wc -l < "$work/$1")))
+    echo $(($(least_run "$1") / $(wc -l < "$work/$1")))
 }
 
 # the time a line for few and for many of what NAME counts, and how many times longer a line takes with the more; few and many

@@ -1,0 +1,45 @@
+# What the scripts share that time a line over a router's interfaces: each has an address, and one wildcard group gives each an MTU.
+. "$(dirname "$0")/measure.sh"
+
+# one session over so many interfaces, which asks so often what the line asks
+session() {
+    awk -v count="$1" -v times="$2" -v line="$3" 'BEGIN {
+        print "configure"
+        print "set groups JUMBO interfaces <ge-*> mtu 9000"
+        print "set apply-groups JUMBO"
+        print "set system host-name gen"
+        for (n = 0; n < count; n++) {
+            print "set interfaces ge-0/0/" n " description \"port " n "\""
+            print "set interfaces ge-0/0/" n " unit 0 family inet address 10." int(n / 256) "." (n % 256) ".1/24"
+        }
+        for (n = 0; n < times; n++) {
+            print line
+        }
+        print "exit"
+        print "exit"
+    }'
+}
+
+# nanoseconds an interface of a line: what a session with ten of it takes longer than one without
+cost() {
+    local count=$1 line=$2 round
+    rm -f "$work"/*.times
+    session "$count" 0 "$line" > "$work/without"
+    session "$count" 10 "$line" > "$work/with"
+    for round in 1 2 3 4 5; do
+        serve without
+        serve with
+    done
+    echo $((($(least_run with) - $(least_run without)) / (10 * count)))
+}
+
+# what a line takes at 300 and at 3,000 interfaces
+time_line() {
+    local few many
+    few=$(cost 300 "$1")
+    many=$(cost 3000 "$1")
+    awk -v line="$1" -v few="$few" -v many="$many" 'BEGIN {
+        printf "%s: %.1f microseconds an interface of 300, %.1f of 3,000\n", line, few / 1000, many / 1000
+        printf "3,000 interfaces take %.1f times as long as 300\n", 10 * many / few
+    }'
+}
