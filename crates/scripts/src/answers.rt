@@ -74,6 +74,12 @@ pub(crate) fn say_text(out: &mut String, text: &[u8]) -> Result<(), Fault> {
     Ok(())
 }
 
+/// A printed text, and its end.
+pub(crate) fn say_whole_text(out: &mut String, text: &[u8]) -> Result<(), Fault> {
+    say_text(out, text)?;
+    say(out, "end")
+}
+
 pub(crate) fn say(out: &mut String, text: &str) -> Result<(), Fault> {
     out.push_str("= ")?;
     out.push_str(text)?;

@@ -2,13 +2,13 @@
 
 ghost use Rattle.cfg_tree.specs.Resolve.{IsLevelPath};
 
-use crate::answers::{put_bytes, put_path, say, say_number, say_path, say_text};
+use crate::answers::{put_bytes, put_path, say, say_number, say_path, say_whole_text};
 use crate::fault::Fault;
 use crate::level::resolved;
 use crate::words::{Arg, words_of};
 use cfg_base::{Path, Value, WordList, Words};
 use cfg_tree::Tree;
-use commands::{Form, Op};
+use commands::Op;
 use curly_print::print;
 use edit_ops::{EditFault, apply};
 use set_text::print_lines;
@@ -57,7 +57,7 @@ pub(crate) fn change(
     }
 }
 
-fn put_word_list(out: &mut String, words: &WordList) -> Result<(), Fault> {
+pub(crate) fn put_word_list(out: &mut String, words: &WordList) -> Result<(), Fault> {
     let mut left = words.iter();
     while let Some(word) = left.next() {
         put_bytes(out, word.as_bytes())?;
@@ -65,7 +65,15 @@ fn put_word_list(out: &mut String, words: &WordList) -> Result<(), Fault> {
     Ok(())
 }
 
-/// A statement: its marks, its path, and its words behind `--`.
+/// The words of a statement, behind `--`.
+pub(crate) fn put_own_words(out: &mut String, words: &WordList) -> Result<(), Fault> {
+    if !words.is_empty() {
+        out.push_str(" --")?;
+    }
+    put_word_list(out, words)
+}
+
+/// A statement: its marks, its path, and its words.
 fn say_statement(out: &mut String, path: &Path, value: &Value) -> Result<(), Fault> {
     out.push_str("=")?;
     if value.inactive {
@@ -75,10 +83,7 @@ fn say_statement(out: &mut String, path: &Path, value: &Value) -> Result<(), Fau
         out.push_str(" protect:")?;
     }
     put_path(out, path)?;
-    if !value.words.is_empty() {
-        out.push_str(" --")?;
-    }
-    put_word_list(out, &value.words)?;
+    put_own_words(out, &value.words)?;
     out.push('\n')?;
     Ok(())
 }
@@ -100,7 +105,7 @@ fn ask_tree(alloc: Global, tree: &Tree, out: &mut String) -> Result<(), Fault> {
 }
 
 /// The path that words name from the top, whatever stands there.
-fn path_named(alloc: Global, args: &[Arg]) -> Result<Path, Fault> {
+pub(crate) fn path_named(alloc: Global, args: &[Arg]) -> Result<Path, Fault> {
     if args.is_empty() {
         return Ok(Path::top(alloc));
     }
@@ -141,21 +146,21 @@ fn ask_next(alloc: Global, tree: &Tree, args: &[Arg], out: &mut String) -> Resul
     }
 }
 
-/// print WORDS.., print_lines WORDS..: the text below what the words name
-fn ask_print(
+/// print WORDS..: the curly text below what the words name
+fn ask_print(alloc: Global, tree: &Tree, args: &[Arg], out: &mut String) -> Result<(), Fault> {
+    let text = print(alloc, tree, &path_named(alloc, args)?)?;
+    say_whole_text(out, text.as_slice())
+}
+
+/// print_lines WORDS..: the set lines below what the words name
+fn ask_print_lines(
     alloc: Global,
     tree: &Tree,
-    form: Form,
     args: &[Arg],
     out: &mut String,
 ) -> Result<(), Fault> {
-    let path = path_named(alloc, args)?;
-    let text = match form {
-        Form::Curly => print(alloc, tree, &path)?,
-        Form::SetLines => print_lines(alloc, tree, &path)?,
-    };
-    say_text(out, text.as_slice())?;
-    say(out, "end")
+    let text = print_lines(alloc, tree, &path_named(alloc, args)?)?;
+    say_whole_text(out, text.as_slice())
 }
 
 /// Answers a look at the tree, and tells whether the call is one.
@@ -172,8 +177,8 @@ pub(crate) fn look(
         "value" => ask_value(alloc, tree, args, out)?,
         "children" => ask_children(alloc, tree, args, out)?,
         "next" => ask_next(alloc, tree, args, out)?,
-        "print" => ask_print(alloc, tree, Form::Curly, args, out)?,
-        "print_lines" => ask_print(alloc, tree, Form::SetLines, args, out)?,
+        "print" => ask_print(alloc, tree, args, out)?,
+        "print_lines" => ask_print_lines(alloc, tree, args, out)?,
         _ => return Ok(false),
     }
     Ok(true)

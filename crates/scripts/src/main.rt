@@ -19,6 +19,7 @@ mod checking;
 mod commands;
 mod expanding;
 mod fault;
+mod group_calls;
 mod input_calls;
 mod kept;
 mod kinds;
