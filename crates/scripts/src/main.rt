@@ -15,6 +15,7 @@ use std::{env, fs, io};
 mod answers;
 mod base_calls;
 mod changes;
+mod check_calls;
 mod checking;
 mod commands;
 mod expanding;

@@ -10,8 +10,8 @@ use crate::stage::Stage;
 use crate::steps::{Machine, ask_step};
 use crate::words::{Arg, args_of, bytes_of, first_and_rest, number, words_of};
 use crate::{
-    base_calls, group_calls, input_calls, kept, profile_calls, puts, record_calls, text_calls,
-    value_calls,
+    base_calls, check_calls, group_calls, input_calls, kept, profile_calls, puts, record_calls,
+    text_calls, value_calls,
 };
 use cfg_tree::Tree;
 use std::alloc::{AllocError, Global};
@@ -112,6 +112,7 @@ impl Script {
             puts::ask(self.alloc, &mut self.tree, name, args, out)?
                 || look(self.alloc, &self.tree, name, args, out)?
                 || group_calls::ask(self.alloc, &self.tree, name, args, out)?
+                || check_calls::ask(self.alloc, &self.tree, name, out)?
                 || self.machine.look(name, args, out)?,
         )
     }

@@ -4,6 +4,7 @@ ghost use Rattle.std.specs.Prelude.{◌≡◌, ◌<◌, ◌≤◌, length, IfOk}
 
 use crate::answers::{say, say_bytes, say_number, say_path, say_text};
 use crate::base_calls::user_of;
+use crate::check_calls::say_broken;
 use crate::fault::Fault;
 use crate::line_calls::is_configuration;
 use crate::words::{Arg, bytes_of, first_and_rest, number, small_number};
@@ -103,6 +104,8 @@ fn say_refusal(out: &mut String, refusal: &Refusal) -> Result<(), Fault> {
         Refusal::NotALevel(path) => say_path(out, "not a level", path),
         Refusal::Protected(path) => say_path(out, "protected", path),
         Refusal::TooMany => say(out, "too many"),
+        Refusal::TooWide => say(out, "too wide"),
+        Refusal::Check { number, path } => say_broken(out, *number, path),
         Refusal::Exhausted => say(out, "exhausted"),
     }
 }
@@ -117,6 +120,7 @@ fn say_reply(out: &mut String, reply: &Reply) -> Result<(), Fault> {
         }
         Reply::Entered(Mode::Shared) => say(out, "entered"),
         Reply::Left => say(out, "left"),
+        Reply::Checked => say(out, "checked"),
         Reply::Committed => say(out, "committed"),
         Reply::Refused(refusal) => say_refusal(out, refusal),
     }
