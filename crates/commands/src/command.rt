@@ -19,6 +19,19 @@ pub enum Form {
     Inherited,
 }
 
+/// What a load makes of the statements that are there and of a text.
+#[derive(Clone, Copy, Debug, PartialEq, Eq)]
+pub enum LoadWay {
+    /// The curly text's statements are joined to those that are there.
+    Merge,
+    /// The curly text's statements take the place of all that are there.
+    Override,
+    /// What the curly text tags `replace:` goes, with all below it; then its statements are joined to what is left.
+    Replace,
+    /// The text's lines are changes, made from the top one after another.
+    SetLines,
+}
+
 /// A change of the candidate. The words name a statement from the level on, and then the words of its value.
 #[derive(Clone, Debug, Drop, PartialEq, Eq)]
 pub enum Op {

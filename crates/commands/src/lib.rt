@@ -7,5 +7,5 @@
 mod command;
 mod verb;
 
-pub use command::{Command, Form, Mode, Op};
+pub use command::{Command, Form, LoadWay, Mode, Op};
 pub use verb::Verb;
