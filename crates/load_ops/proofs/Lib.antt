@@ -1,0 +1,6 @@
+pub mod OrderLemmas
+pub mod DifferLemmas
+pub mod BlockedLemmas
+pub mod TextLemmas
+pub mod LineLemmas
+pub mod OnceLemmas

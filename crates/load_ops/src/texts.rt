@@ -1,0 +1,76 @@
+//! Curly texts, merged, in place of all, or in place of what they tag.
+
+ghost use Rattle.std.specs.Prelude.{◌≡◌, ◌≤◌, OnOk, IfOk, IfErr};
+ghost use Rattle.commands.specs.declared.command.LoadWay.TheVariants.{Merge, Override, Replace};
+ghost use Rattle.cfg_tree.specs.Statements.{size_of};
+ghost use Rattle.cfg_tree.specs.declared.limit.TheConstants.{MAX_STATEMENTS};
+ghost use Rattle.curly_grammar.specs.Grammar.{Reads};
+ghost use Rattle.load_ops.specs.Texts.{without_paths, IsTextLoad, IsTextLoadFault};
+ghost use Rattle.load_ops.specs.Parts.{IsReadFault};
+
+use crate::blocked::allowed;
+use crate::fault::LoadFault;
+use cfg_base::{NoMemory, Path};
+use cfg_tree::{Draft, Tree};
+use curly_grammar::{Marked, TextFault, parse};
+use std::alloc::Global;
+
+/// What a text says.
+fn read(alloc: Global, text: &[u8]) -> Result<Marked, LoadFault>
+    ensures reads { IfOk result (λ marked. Reads text.now marked.tree marked.replaced) }
+    ensures few { IfOk result (λ marked. size_of marked.tree ≤ MAX_STATEMENTS) }
+    ensures err { IfErr result (IsReadFault text.now) }
+{
+    match parse(alloc, text) {
+        Ok(marked) => Ok(marked),
+        Err(TextFault::NoMemory) => Err(LoadFault::NoMemory),
+        Err(fault) => Err(LoadFault::Text(fault)),
+    }
+}
+
+/// The statements without these paths and all below them.
+fn without(tree: &Tree, paths: &[Path]) -> Result<Tree, NoMemory>
+    ensures { IfOk result (λ left. left ≡ without_paths tree.now paths.now) }
+{
+    let mut left = tree.copy()?;
+    for path in paths {
+        left.remove(path)?;
+    }
+    Ok(left)
+}
+
+/// The statements that are there with those of a text joined to them.
+pub fn merged(alloc: Global, tree: &Tree, text: &[u8]) -> Result<Tree, LoadFault>
+    ensures ok { IfOk result (IsTextLoad Merge tree.now text.now) }
+    ensures err { IfErr result (IsTextLoadFault Merge tree.now text.now) }
+{
+    match read(alloc, text) {
+        Ok(marked) => allowed(tree, Draft::union(alloc, tree, &marked.tree)?),
+        Err(fault) => Err(fault),
+    }
+}
+
+/// The statements of a text in place of all that are there.
+pub fn overridden(alloc: Global, tree: &Tree, text: &[u8]) -> Result<Tree, LoadFault>
+    ensures ok { IfOk result (IsTextLoad Override tree.now text.now) }
+    ensures err { IfErr result (IsTextLoadFault Override tree.now text.now) }
+{
+    match read(alloc, text) {
+        Ok(marked) => allowed(tree, Draft::of(alloc, marked.tree)),
+        Err(fault) => Err(fault),
+    }
+}
+
+/// The statements that are there without what a text tags, and then with those of the text joined to them.
+pub fn replaced(alloc: Global, tree: &Tree, text: &[u8]) -> Result<Tree, LoadFault>
+    ensures ok { IfOk result (IsTextLoad Replace tree.now text.now) }
+    ensures err { IfErr result (IsTextLoadFault Replace tree.now text.now) }
+{
+    match read(alloc, text) {
+        Ok(marked) => {
+            let left = without(tree, marked.replaced.as_slice())?;
+            allowed(tree, Draft::union(alloc, &left, &marked.tree)?)
+        }
+        Err(fault) => Err(fault),
+    }
+}
