@@ -1,11 +1,12 @@
 -- What a curly text makes of the statements that are there. Junos OS CLI User Guide, on load merge, load override and load replace, and on
 -- protected statements; that merging goes path by path is this project's own.
-use Rattle.std.specs.Prelude.{◌≡◌, ◌≤◌, ◌<◌, ℕ, List, [], ◌∷◌}
+use Rattle.std.specs.Prelude.{◌≡◌, ◌≤◌, ◌<◌, ℕ, Bool, List, [], ◌∷◌}
+use Rattle.std.specs.List.{list_any}
 use Rattle.cfg_base.specs.declared.path.Step.{Step}
 use Rattle.commands.specs.declared.command.LoadWay.{LoadWay}
 use Rattle.commands.specs.declared.command.LoadWay.TheVariants.{Merge, Override, Replace, SetLines}
 use Rattle.cfg_tree.specs.declared.limit.TheConstants.{MAX_STATEMENTS}
-use Rattle.cfg_tree.specs.Statements.{Statements, size_of}
+use Rattle.cfg_tree.specs.Statements.{Statements, size_of, is_below}
 use Rattle.cfg_tree.specs.Change.{removed}
 use Rattle.cfg_tree.specs.Union.{IsUnion}
 use Rattle.curly_grammar.specs.Grammar.{Reads}
@@ -18,6 +19,10 @@ use Rattle.load_ops.specs.declared.fault.LoadFault.TheVariants.{Text, Line, Edit
 abbrev pub without_paths : Statements → List (List Step) → Statements
 without_paths m [] = m
 without_paths m (path ∷ paths) = without_paths (removed m path) paths
+
+-- a path is one of these, or below one of them
+abbrev pub is_replaced : List (List Step) → List Step → Bool
+is_replaced paths path = list_any (λ above. is_below above path) paths
 
 -- what the statements of a text, and the paths that it tags `replace:`, make of those that are there
 abbrev pub IsMadeOf : LoadWay → Statements → Statements → List (List Step) → Statements → Type 0

@@ -16,5 +16,5 @@ mod same;
 mod texts;
 
 pub use fault::LoadFault;
-pub use laws::loads_have_one_answer;
+pub use laws::{loads_have_one_answer, replaced_statements_go};
 pub use loading::load;
