@@ -9,3 +9,4 @@ pub mod LengthLemmas
 pub mod RepeatLemmas
 pub mod UnitLemmas
 pub mod NothingLemmas
+pub mod RowLemmas

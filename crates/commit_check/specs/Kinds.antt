@@ -1,4 +1,4 @@
--- The statements of which the rules speak, told by the first words of their steps; rows by their numbers in cfg_schema's table.
+-- The statements of which the rules speak, told by the first words of their steps; rows by their numbers (Rows.antt).
 -- Which statements there are is this project's own selection of those of the Junos OS CLI User Guide.
 use Rattle.std.specs.Prelude.{ℕ, Bool, List, [], ◌∷◌, ◌++◌, map as each, is_some}
 use Rattle.std.specs.FinMap as map

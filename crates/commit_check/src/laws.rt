@@ -1,14 +1,17 @@
 //! What holds of every check.
 
-ghost use Rattle.std.specs.Prelude.{◌≡◌, ◌≤◌, ◌⊎◌, ℕ, List, [], length};
+ghost use Rattle.std.specs.Prelude.{◌≡◌, ◌≤◌, ◌⊎◌, ℕ, List, [], true, length};
+ghost use Rattle.std.specs.List.{list_all};
 ghost use Rattle.std.specs.FinMap as map;
 ghost use Rattle.cfg_base.specs.declared.path.Step.{Step};
+ghost use Rattle.cfg_schema.specs.Profile.{same_word, head_of};
 ghost use Rattle.cfg_tree.specs.Statements.{Statements};
 ghost use Rattle.cfg_tree.specs.Tree.{IsTree};
 ghost use Rattle.cfg_tree.specs.Full.{Expansion};
 ghost use Rattle.cfg_tree.specs.declared.limit.TheConstants.{MAX_EXPANDED};
 ghost use Rattle.curly_print.specs.Printed.{printed};
 ghost use Rattle.commit_check.specs.declared.rule.TheConstants.{MAX_TEXT};
+ghost use Rattle.commit_check.specs.Rows.{rows};
 ghost use Rattle.commit_check.specs.Accepts.{IsAccepted, Accepts, IsFirst};
 
 /// A configuration is accepted, or it has exactly one first fault.
@@ -28,6 +31,11 @@ pub fn nothing_is_accepted()
 pub fn accepted_configurations_fit()
     ensures text { (m : Statements) → Accepts m → IsTree m × (length (printed m []) ≤ MAX_TEXT) }
     ensures expansion { (m : Statements) (full : Expansion) → IsAccepted m full → map.len full ≤ MAX_EXPANDED }
+{}
+
+/// The rows of which the rules speak begin with the words that are meant.
+pub fn rows_have_their_words()
+    ensures { list_all (λ row. same_word (head_of row.0) row.1) rows ≡ true }
 {}
 
 /// The limit that the clauses of this crate cite, by its number.

@@ -31,6 +31,7 @@ pub use fault::CheckFault;
 pub use judge::Judge;
 pub use laws::{
     accepted_configurations_fit, checks_have_one_answer, limit_is_stated, nothing_is_accepted,
+    rows_have_their_words,
 };
 pub use network::stray_bits_are_told;
 pub use repeat::numbers_are_told_by_their_text;
