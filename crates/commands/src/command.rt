@@ -32,7 +32,8 @@ pub enum LoadWay {
     SetLines,
 }
 
-/// A change of the candidate. The words name a statement from the level on, and then the words of its value.
+/// A change of the candidate. The words name a statement from the level on, and then the words of its value; those of a
+/// second statement are read from the parent of the first.
 #[derive(Clone, Debug, Drop, PartialEq, Eq)]
 pub enum Op {
     /// Puts the statement and the levels above it, with these words.
@@ -47,6 +48,23 @@ pub enum Op {
     Protect(Words),
     /// Clears the protected mark.
     Unprotect(Words),
+    /// Gives the statement, with all below it, another name of its row; it keeps its place in the user's order.
+    Rename {
+        from: Words,
+        to: Words,
+    },
+    /// Copies the statement, with all below it and all marks, to another name of its row, which goes last in the
+    /// user's order.
+    Copy {
+        from: Words,
+        to: Words,
+    },
+    /// Moves the statement before or behind another one of its row in the user's order.
+    Insert {
+        moved: Words,
+        before: bool,
+        anchor: Words,
+    },
 }
 
 /// One command of a session.
