@@ -1,1 +1,2 @@
 pub mod Verb
+pub mod Mover
