@@ -12,7 +12,7 @@ use Rattle.cfg_lex.specs.Lexeme.{Lexeme, Space, BareWord, spelled, kind_of, word
 use Rattle.cfg_lex.specs.Tokens.{token_at, tokens_at, word_in, word_at, words_of}
 use Rattle.cfg_lex.specs.Printed.{escaped, is_plain, printed_kind, printed_word, IsPrintable}
 use Rattle.cfg_lex.proofs.WordLemmas.{printed_as, words_are}
-use Rattle.set_text.specs.declared.form.Form.{Form}
+use Rattle.set_text.specs.declared.form.Form.TheVariants.{OneList}
 use Rattle.commands.specs.declared.verb.Verb.{Verb}
 use Rattle.commands.specs.declared.verb.Verb.TheVariants.{Set, Delete, Activate, Deactivate, Protect, Unprotect}
 use Rattle.set_text.specs.Printed.{Line, spaced, printed_lines}
@@ -62,21 +62,16 @@ record IsKeyword (verb : Verb) : Type 0 where
   run : is_run (keyword verb) ≡ true
   short : length (keyword verb) ≤ 255
   printing : list_all is_printing (keyword verb) ≡ true
-  form : Form
-  begun : form_of (keyword verb) ≡ Some form
-  same : form.verb ≡ verb
-
-form : Verb → Bool → Form
-form verb brackets = record { verb = verb; brackets = brackets }
+  brackets : Bool
+  begun : form_of (keyword verb) ≡ Some (OneList verb brackets)
 
 keyword_is : (verb : Verb) → IsKeyword verb
-unfolding form
-keyword_is Set = record { some = omega arith; run = refl; short = omega arith; printing = refl; form = form Set true; begun = refl; same = refl }
-keyword_is Delete = record { some = omega arith; run = refl; short = omega arith; printing = refl; form = form Delete true; begun = refl; same = refl }
-keyword_is Activate = record { some = omega arith; run = refl; short = omega arith; printing = refl; form = form Activate false; begun = refl; same = refl }
-keyword_is Deactivate = record { some = omega arith; run = refl; short = omega arith; printing = refl; form = form Deactivate false; begun = refl; same = refl }
-keyword_is Protect = record { some = omega arith; run = refl; short = omega arith; printing = refl; form = form Protect false; begun = refl; same = refl }
-keyword_is Unprotect = record { some = omega arith; run = refl; short = omega arith; printing = refl; form = form Unprotect false; begun = refl; same = refl }
+keyword_is Set = record { some = omega arith; run = refl; short = omega arith; printing = refl; brackets = true; begun = refl }
+keyword_is Delete = record { some = omega arith; run = refl; short = omega arith; printing = refl; brackets = true; begun = refl }
+keyword_is Activate = record { some = omega arith; run = refl; short = omega arith; printing = refl; brackets = false; begun = refl }
+keyword_is Deactivate = record { some = omega arith; run = refl; short = omega arith; printing = refl; brackets = false; begun = refl }
+keyword_is Protect = record { some = omega arith; run = refl; short = omega arith; printing = refl; brackets = false; begun = refl }
+keyword_is Unprotect = record { some = omega arith; run = refl; short = omega arith; printing = refl; brackets = false; begun = refl }
 
 -- printing bytes have no line end among them
 printing_in_line : (b : ℕ) → is_printing b ≡ true → is_in_line b ≡ true
@@ -229,10 +224,12 @@ line_asks it readable =
             rest = each word_part it.words;
             joined = refl;
             word = refl;
-            form = key.form;
+            form = OneList it.verb key.brackets;
             begun = key.begun;
-            tail = tail_is key.form.brackets (kinds_of (each word_part it.words)) (record { words = are_words it.words; some = parts_some it.words readable.some });
-            asked = ap (λ (v : Verb). op_of v it.words) (sym key.same) ∙ ap (op_of key.form.verb) (sym (all_among it.words));
+            asked = (
+              tail_is key.brackets (kinds_of (each word_part it.words)) (record { words = are_words it.words; some = parts_some it.words readable.some }),
+              ap (op_of it.verb) (sym (all_among it.words)),
+            );
           });
     }
 

@@ -13,10 +13,11 @@ use Rattle.set_text.specs.declared.op_lines.OpLine.{OpLine}
 use Rattle.set_text.specs.declared.fault.LineFault.{LineFault}
 use Rattle.set_text.specs.declared.fault.LineFault.TheVariants.{Line, NoMemory}
 use Rattle.cfg_lex.specs.Lexed.{Lexed, lexed_in}
-use Rattle.set_text.specs.Form.{parts_in, form_of, words_among, Spells, Begins}
-use Rattle.commands.specs.Verb.{op_of}
+use Rattle.set_text.specs.declared.form.Form.TheVariants.{OneList, TwoLists}
+use Rattle.set_text.specs.Form.{parts_in, form_of, AsksBehind, Spells, Begins}
 use Rattle.set_text.specs.Lines.{op_line, IsPlaceOf, IsSkipped, Asks, EndsAt, StopsAt, IsRefused, AreRead, AsksFor, IsLineFault}
 use Rattle.set_text.proofs.FormLemmas.{nothing_is_no_line}
+use Rattle.set_text.proofs.TwoListsLemmas.{two_lists_once}
 use Rattle.set_text.proofs.ReadLemmas.{whole_begun}
 
 same_first : {X : Type 0} (a b : X) (xs ys : List X) → a ∷ xs ≡ b ∷ ys → (a ≡ b) × (xs ≡ ys)
@@ -25,12 +26,18 @@ same_first a b xs ys e = (cc, cc)
 same_some : {X : Type 0} (a b : X) → Some a ≡ Some b → a ≡ b
 same_some a b e = cc
 
+-- the parts behind a keyword ask one thing
+behind_once : (form : Form) (parts : List Lexed) (one other : Op) → AsksBehind form parts one → AsksBehind form parts other → one ≡ other
+behind_once (OneList verb brackets) parts one other a b = a.1 ∙ sym b.1
+behind_once (TwoLists first last) parts one other a b = two_lists_once first last parts one other a b
+
 -- parts are a line of one form, which asks one thing
 pub spelled_once : (parts : List Lexed) (one other : Op) → Spells parts one → Spells parts other → one ≡ other
 spelled_once parts one other a b =
     let split = same_first a.first b.first a.rest b.rest (sym a.joined ∙ b.joined) in
     let form : a.form ≡ b.form = same_some a.form b.form (sym a.begun ∙ ap (λ (p : Lexed). form_of p.word) split.0 ∙ b.begun) in
-    a.asked ∙ ap (λ (f : Form). op_of f.verb (words_among a.rest)) form ∙ ap (λ ps. op_of b.form.verb (words_among ps)) split.1 ∙ sym b.asked
+    behind_once b.form b.rest one other
+    (subst (λ (f : Form). AsksBehind f b.rest one) form (subst (λ (ps : List Lexed). AsksBehind a.form ps one) split.1 a.asked)) b.asked
 
 -- what begins a line with more behind it begins a line
 front_begun : (front back : List Lexed) → Begins (front ++ back) → Begins front

@@ -259,3 +259,29 @@ completes brackets Words = record { more = []; last = Words; leads = refl; ends 
 completes brackets Opened = record { more = kind.Bare ∷ kind.CloseBracket ∷ []; last = Closed; leads = (Inside, refl, (Closed, refl, refl)); ends = refl }
 completes brackets Inside = record { more = kind.CloseBracket ∷ []; last = Closed; leads = (Closed, refl, refl); ends = refl }
 completes brackets Closed = record { more = []; last = Closed; leads = refl; ends = refl }
+
+-- tokens that lead somewhere begin what may stand behind a keyword
+pub record TailMore (brackets : Bool) (xs : List TokenKind) : Type 0 where
+  pub more : List TokenKind
+  pub tail : IsTail brackets (xs ++ more)
+
+pub tail_more : (brackets : Bool) (xs : List TokenKind) (phase : Phase) → Leads brackets Bare xs phase → TailMore brackets xs
+tail_more brackets xs phase leads =
+    let on = completes brackets phase in
+    record { more = on.more; tail = tail_of brackets (xs ++ on.more) on.last (leads_both brackets Bare phase on.last xs on.more leads on.leads) on.ends }
+
+-- a token that may not stand behind those before it
+pub not_tail : (brackets : Bool) (xs ys : List TokenKind) (x : TokenKind) (phase : Phase) → Leads brackets Bare xs phase → next brackets phase x ≡ None → IsTail brackets (xs ++ x ∷ ys) → ⊥
+not_tail brackets xs ys x phase leads none tail =
+    let it = tail_ends brackets (xs ++ x ∷ ys) tail in
+    let parted = leads_parted brackets Bare it.phase xs (x ∷ ys) it.leads in
+    let same = leads_once brackets Bare parted.middle phase xs parted.front leads in
+    none_or_some parted.back.0 (next brackets phase x)
+    (subst (λ p. next brackets p x ≡ Some parted.back.0) same parted.back.1) none
+
+-- the tokens lead to where no line may end
+pub not_tail_yet : (brackets : Bool) (xs : List TokenKind) (phase : Phase) → Leads brackets Bare xs phase → ends_at phase ≡ false → IsTail brackets xs → ⊥
+not_tail_yet brackets xs phase leads ends tail =
+    let it = tail_ends brackets xs tail in
+    let same = leads_once brackets Bare it.phase phase xs it.leads leads in
+    let e = sym it.ends ∙ ap ends_at same ∙ ends in cc

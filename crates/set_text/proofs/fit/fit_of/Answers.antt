@@ -1,4 +1,5 @@
 use Rattle.std.proofs.Common.{◌∙◌, sym}
+use Rattle.std.proofs.lemmas.Result.{IfOk-weaker}
 use Rattle.set_text.proofs.FormLemmas.{fits_nothing, fits_no_form, fits_behind}
 use Rattle.set_text.proofs.fit.fit_of.Goals as goal
 
@@ -11,5 +12,6 @@ returns-in-None c =
 
 pub returns-in-Some : goal.returns-in-Some
 returns-in-Some c =
-    fits_behind c.args.line.now c.args.tokens.now _ c.in-Some.form c.fit_behind.result c.in-len1-up.len_at_least
-    (sym c.in_ok-form_at.ensures ∙ c.in-Some.is) c.fit_behind.ensures
+    IfOk-weaker c.fit_behind.result _ _
+    (λ fit is. fits_behind c.args.line.now c.args.tokens.now _ c.in-Some.form fit c.in-len1-up.len_at_least (sym c.in_ok-form_at.ensures ∙ c.in-Some.is) is)
+    c.fit_behind.ensures
