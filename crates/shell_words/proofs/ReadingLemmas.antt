@@ -122,7 +122,7 @@ pub in_none : (configuring : Bool) (items : List Item) → form_for (forms_of co
 in_none configuring items e form words line =
     none_found (forms_of configuring) items form e line.served (complete (parts_of form) items words (tested configuring form line.served).ended line.fits).0
 
-pub asks : (configuring : Bool) (items : List Item) (form : CommandForm) → form_for (forms_of configuring) items ≡ Some form → Asks configuring items (asked (command_of form.makes (given (parts_of form) items)))
+pub asks : (configuring : Bool) (items : List Item) (form : CommandForm) → form_for (forms_of configuring) items ≡ Some form → Asks configuring items (asked (command_of form.makes items (given (parts_of form) items)))
 asks configuring items form e =
     let here = found (forms_of configuring) items form e in
     record { form = form; words = given (parts_of form) items; line = record { served = here.0; fits = sound (parts_of form) items here.1 }; is = refl }
@@ -163,9 +163,9 @@ one_asked configuring items one other a b =
     let mine = complete (parts_of a.form) items a.words (tested configuring a.form a.line.served).ended a.line.fits in
     let theirs = complete (parts_of b.form) items b.words (tested configuring b.form b.line.served).ended b.line.fits in
     a.is
-    ∙ ap (λ words. asked (command_of a.form.makes words)) mine.1
-    ∙ ap (λ (f : CommandForm). asked (command_of f.makes (given (parts_of f) items))) form
-    ∙ ap (λ words. asked (command_of b.form.makes words)) (sym theirs.1)
+    ∙ ap (λ words. asked (command_of a.form.makes items words)) mine.1
+    ∙ ap (λ (f : CommandForm). asked (command_of f.makes items (given (parts_of f) items))) form
+    ∙ ap (λ words. asked (command_of b.form.makes items words)) (sym theirs.1)
     ∙ sym b.is
 
 one_whole : (configuring : Bool) (items : List Item) (end : ℕ) (one other : Result (Option Command) ℕ) → AnswersWhole configuring items end one → AnswersWhole configuring items end other → one ≡ other
@@ -188,12 +188,12 @@ one_reading one_cut configuring line one other a b =
     (subst (λ tokens. Answers configuring (map (item_in line) tokens) a.fault (length line) one) same.0 a.answers))
     b.answers
 
-whole_line : (configuring : Bool) (items : List Item) (end : ℕ) (form : CommandForm) (words : List (List ℕ)) → IsIn configuring items form words → AnswersWhole configuring items end (asked (command_of form.makes words))
+whole_line : (configuring : Bool) (items : List Item) (end : ℕ) (form : CommandForm) (words : List (List ℕ)) → IsIn configuring items form words → AnswersWhole configuring items end (asked (command_of form.makes items words))
 whole_line configuring [] end form words line =
     absurd (some_needs (parts_of form) [] words (tested configuring form line.served).some refl line.fits)
 whole_line configuring (item ∷ items) end form words line = inl record { form = form; words = words; line = line; is = refl }
 
-pub own_line : (configuring : Bool) (line : List ℕ) (tokens : List Token) (form : CommandForm) (words : List (List ℕ)) → IsCut line tokens None → IsIn configuring (map (item_in line) tokens) form words → IsReading configuring line (asked (command_of form.makes words))
+pub own_line : (configuring : Bool) (line : List ℕ) (tokens : List Token) (form : CommandForm) (words : List (List ℕ)) → IsCut line tokens None → IsIn configuring (map (item_in line) tokens) form words → IsReading configuring line (asked (command_of form.makes (map (item_in line) tokens) words))
 own_line configuring line tokens form words cut in_form =
     record { tokens = tokens; fault = None; cut = cut; answers = whole_line configuring (map (item_in line) tokens) (length line) form words in_form }
 
@@ -209,6 +209,6 @@ whole_misfit configuring [] end some e = absurd (omega arith)
 whole_misfit configuring (item ∷ items) end some e = inr (in_none configuring (item ∷ items) e, misfit configuring (item ∷ items) end)
 
 -- tokens that one is found for
-pub whole_asks : (configuring : Bool) (items : List Item) (end : ℕ) (form : CommandForm) → 0 < length items → form_for (forms_of configuring) items ≡ Some form → AnswersWhole configuring items end (asked (command_of form.makes (given (parts_of form) items)))
+pub whole_asks : (configuring : Bool) (items : List Item) (end : ℕ) (form : CommandForm) → 0 < length items → form_for (forms_of configuring) items ≡ Some form → AnswersWhole configuring items end (asked (command_of form.makes items (given (parts_of form) items)))
 whole_asks configuring [] end form some e = absurd (omega arith)
 whole_asks configuring (item ∷ items) end form some e = inl (asks configuring (item ∷ items) form e)

@@ -2,5 +2,6 @@ pub mod Keyword
 pub mod Number
 pub mod Item
 pub mod Form
+pub mod Pair
 pub mod Reading
 pub mod Walk

@@ -18,27 +18,29 @@ use Rattle.shell_words.specs.declared.reader.ReadFault.TheVariants.{Syntax, NoMe
 use Rattle.shell_words.specs.Item.{Item, item_in}
 use Rattle.shell_words.specs.Form.{IsIn, Begins}
 use Rattle.shell_words.specs.Number.{number_of}
+use Rattle.shell_words.specs.Pair.{change_in}
 
 -- how many levels `up` goes: one, or as many as its word says
 abbrev pub levels_of : List (List ℕ) → ℕ
 levels_of [] = 1
 levels_of (word ∷ words) = unwrap_or (number_of word) 1
 
--- the command that a form makes of its words; none where it isn't served
-abbrev pub command_of : Makes → List (List ℕ) → Option Command
-command_of makes.Configure words = Some (command.Configure Shared)
-command_of (makes.ShowActive form) words = Some (command.ShowActive words form)
-command_of makes.Logout words = Some command.Logout
-command_of (makes.Change verb) words = Some (command.Change (op_of verb words))
-command_of makes.Edit words = Some (command.Edit words)
-command_of makes.Up words = Some (command.Up (levels_of words))
-command_of makes.Top words = Some command.Top
-command_of makes.Exit words = Some command.Exit
-command_of makes.ExitAll words = Some command.ExitAll
-command_of (makes.Show form) words = Some (command.Show words form)
-command_of makes.CheckOnly words = Some command.CheckOnly
-command_of makes.Commit words = Some command.Commit
-command_of makes.Unserved words = None
+-- the command that a form makes of a line's tokens, which give these words; none where it isn't served
+abbrev pub command_of : Makes → List Item → List (List ℕ) → Option Command
+command_of makes.Configure items words = Some (command.Configure Shared)
+command_of (makes.ShowActive form) items words = Some (command.ShowActive words form)
+command_of makes.Logout items words = Some command.Logout
+command_of (makes.Change verb) items words = Some (command.Change (op_of verb words))
+command_of (makes.Pair change) items words = Some (command.Change (change_in change items))
+command_of makes.Edit items words = Some (command.Edit words)
+command_of makes.Up items words = Some (command.Up (levels_of words))
+command_of makes.Top items words = Some command.Top
+command_of makes.Exit items words = Some command.Exit
+command_of makes.ExitAll items words = Some command.ExitAll
+command_of (makes.Show form) items words = Some (command.Show words form)
+command_of makes.CheckOnly items words = Some command.CheckOnly
+command_of makes.Commit items words = Some command.Commit
+command_of makes.Unserved items words = None
 
 -- a line of a command that isn't served is refused whole, at its first byte
 abbrev pub asked : Option Command → Result (Option Command) ℕ
@@ -59,7 +61,7 @@ pub record Asks (configuring : Bool) (items : List Item) (answer : Result (Optio
   pub form : CommandForm
   pub words : List (List ℕ)
   pub line : IsIn configuring items form words
-  pub is : answer ≡ asked (command_of form.makes words)
+  pub is : answer ≡ asked (command_of form.makes items words)
 
 -- a line begins with so many of these tokens and with no more; the place told is that of the next token, or the end
 pub record IsMisfit (configuring : Bool) (items : List Item) (end : ℕ) (answer : Result (Option Command) ℕ) : Type 0 where

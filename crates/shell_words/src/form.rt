@@ -4,6 +4,7 @@ ghost use Rattle.std.specs.Prelude.{◌≡◌};
 ghost use Rattle.shell_words.specs.Form.{forms_of, parts_of};
 
 use crate::keyword::Keyword;
+use crate::pair::PairChange;
 use commands::{Form, Verb};
 
 /// Which tokens may stand at a place of a line.
@@ -40,6 +41,8 @@ pub(crate) enum Makes {
     ShowActive(Form),
     Logout,
     Change(Verb),
+    /// A change that names two statements.
+    Pair(PairChange),
     Edit,
     Up,
     Top,
@@ -160,11 +163,11 @@ static CONFIGURING: [CommandForm; 43] = [
     form!(Makes::Unserved; [Commit] [Comment] [one Word]),
     form!(Makes::Unserved; [Commit] [Comment] [one Word] [AndQuit]),
     form!(Makes::Unserved; [Commit] [AndQuit]),
-    form!(Makes::Unserved; [Rename] [one until To] [many until To] [one mark To] [one Word] [many Word]),
-    form!(Makes::Unserved; [Copy] [one until To] [many until To] [one mark To] [one Word] [many Word]),
-    form!(Makes::Unserved; [Insert] [one until Before or After] [many until Before or After]
+    form!(Makes::Pair(PairChange::Rename); [Rename] [one until To] [many until To] [one mark To] [one Word] [many Word]),
+    form!(Makes::Pair(PairChange::Copy); [Copy] [one until To] [many until To] [one mark To] [one Word] [many Word]),
+    form!(Makes::Pair(PairChange::InsertBefore); [Insert] [one until Before or After] [many until Before or After]
         [one mark Before] [one Word] [many Word]),
-    form!(Makes::Unserved; [Insert] [one until Before or After] [many until Before or After]
+    form!(Makes::Pair(PairChange::InsertAfter); [Insert] [one until Before or After] [many until Before or After]
         [one mark After] [one Word] [many Word]),
     form!(Makes::Unserved; [Load] [Merge] [Terminal]),
     form!(Makes::Unserved; [Load] [Override] [Terminal]),

@@ -8,14 +8,13 @@ ghost use Rattle.shell_words.specs.Form.{Fits, IsIn, forms_of, parts_of};
 ghost use Rattle.shell_words.specs.Item.{Item, item_in};
 ghost use Rattle.shell_words.specs.Reading.{IsReading, asked, command_of};
 
-/// A line has one reading; a line that is in a form is read as what that form makes of its words, and each form has
-/// such tokens.
+/// A line has one reading; a line that is in a form is read as what that form makes of it, and each form has such tokens.
 pub fn lines_are_read_in_one_way()
     ensures one_reading { (configuring : Bool) (line : List ℕ) (one other : Result (Option Command) ℕ)
         → IsReading configuring line one → IsReading configuring line other → one ≡ other }
     ensures own_line { (configuring : Bool) (line : List ℕ) (tokens : List Token) (form : CommandForm) (words : List (List ℕ))
         → IsCut line tokens None → IsIn configuring (map (item_in line) tokens) form words
-        → IsReading configuring line (asked (command_of form.makes words)) }
+        → IsReading configuring line (asked (command_of form.makes (map (item_in line) tokens) words)) }
     ensures each_form { (configuring : Bool) (form : CommandForm) → Contains (forms_of configuring) form
         → (items : List Item) × (words : List (List ℕ)) × Fits (parts_of form) items words }
 {

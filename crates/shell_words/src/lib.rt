@@ -1,6 +1,6 @@
 //! From a line to a command: what a session's line asks, or the place where it isn't a command.
 //!
-//! Guarantees: a line is the one command that its form makes of its words in that mode, or a syntax error at its
+//! Guarantees: a line is the one command that its form makes of it in that mode, or a syntax error at its
 //! first token with which no form goes on (specs/Form.antt, specs/Reading.antt); a line without tokens asks nothing.
 //! Leaves to others: how input is cut into lines (`io_edge`), the tokens of a line (`cfg_lex`), and what a command
 //! does (`config_core`).
@@ -11,6 +11,7 @@ mod item;
 mod keyword;
 mod laws;
 mod number;
+mod pair;
 mod reader;
 mod walk;
 

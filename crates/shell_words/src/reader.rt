@@ -44,27 +44,6 @@ fn levels_of(words: &Words) -> u32
     }
 }
 
-/// The command that a form makes of its words; none where it isn't served.
-fn command_of(makes: Makes, words: Words) -> Option<Command>
-    ensures { result ≡ command_of makes words }
-{
-    match makes {
-        Makes::Configure => Some(Command::Configure(Mode::Shared)),
-        Makes::ShowActive(form) => Some(Command::ShowActive { words, form }),
-        Makes::Logout => Some(Command::Logout),
-        Makes::Change(verb) => Some(Command::Change(verb.op_of(words))),
-        Makes::Edit => Some(Command::Edit(words)),
-        Makes::Up => Some(Command::Up(levels_of(&words))),
-        Makes::Top => Some(Command::Top),
-        Makes::Exit => Some(Command::Exit),
-        Makes::ExitAll => Some(Command::ExitAll),
-        Makes::Show(form) => Some(Command::Show { words, form }),
-        Makes::CheckOnly => Some(Command::CheckOnly),
-        Makes::Commit => Some(Command::Commit),
-        Makes::Unserved => None,
-    }
-}
-
 /// The words that the tokens give a form.
 fn words_of(alloc: Global, form: &CommandForm, items: &[Item<'_>]) -> Result<Words, NoMemory>
     ensures { IfOk result (λ words. words ≡ given (parts_of form.now) items.now) }
@@ -72,6 +51,41 @@ fn words_of(alloc: Global, form: &CommandForm, items: &[Item<'_>]) -> Result<Wor
     let mut words = Words::new(alloc);
     give(alloc, &mut words, &form.parts(), items)?;
     Ok(words)
+}
+
+/// The command that a form makes of the tokens of a line of it; none where it isn't served.
+fn command_of(
+    alloc: Global,
+    form: &CommandForm,
+    items: &[Item<'_>],
+) -> Result<Option<Command>, NoMemory>
+    ensures { IfOk result (λ command. command ≡ command_of form.now.makes items.now (given (parts_of form.now) items.now)) }
+{
+    match form.makes {
+        Makes::Configure => Ok(Some(Command::Configure(Mode::Shared))),
+        Makes::ShowActive(shown) => {
+            let words = words_of(alloc, form, items)?;
+            Ok(Some(Command::ShowActive { words, form: shown }))
+        }
+        Makes::Logout => Ok(Some(Command::Logout)),
+        Makes::Change(verb) => {
+            let words = words_of(alloc, form, items)?;
+            Ok(Some(Command::Change(verb.op_of(words))))
+        }
+        Makes::Pair(change) => Ok(Some(Command::Change(change.change_in(alloc, items)?))),
+        Makes::Edit => Ok(Some(Command::Edit(words_of(alloc, form, items)?))),
+        Makes::Up => Ok(Some(Command::Up(levels_of(&words_of(alloc, form, items)?)))),
+        Makes::Top => Ok(Some(Command::Top)),
+        Makes::Exit => Ok(Some(Command::Exit)),
+        Makes::ExitAll => Ok(Some(Command::ExitAll)),
+        Makes::Show(shown) => {
+            let words = words_of(alloc, form, items)?;
+            Ok(Some(Command::Show { words, form: shown }))
+        }
+        Makes::CheckOnly => Ok(Some(Command::CheckOnly)),
+        Makes::Commit => Ok(Some(Command::Commit)),
+        Makes::Unserved => Ok(None),
+    }
 }
 
 /// The place of the first token, or else the end.
@@ -136,8 +150,8 @@ fn read_whole(
     }
     match form_for(forms_of(configuring), items) {
         None => Err(misfit(configuring, items, end)),
-        Some(form) => match words_of(alloc, &form, items) {
-            Ok(words) => asked(command_of(form.makes, words)),
+        Some(form) => match command_of(alloc, &form, items) {
+            Ok(command) => asked(command),
             Err(_) => Err(ReadFault::NoMemory),
         },
     }

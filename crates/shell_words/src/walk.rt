@@ -83,7 +83,7 @@ pub(crate) fn fits(parts: &[Part], items: &[Item<'_>]) -> bool
 }
 
 /// Puts the words that the tokens of a symbol give at the end of the words.
-fn give_run(
+pub(crate) fn give_run(
     alloc: Global,
     words: &mut Words,
     symbol: Symbol,

@@ -27,7 +27,6 @@ returns-in-Ok c =
     let is : form_for (forms_of c.args.configuring) c.args.items.now ≡ Some c.in-Some.form =
     ap (λ forms. form_for forms c.args.items.now) (sym c.forms_of.ensures) ∙ sym c.form_for.ensures ∙ c.in-Some.is in
     let found = whole_asks c.args.configuring c.args.items.now c.args.end c.in-Some.form some is in
-    let made : c.command_of.result ≡ command_of c.in-Some.form.makes (given (parts_of c.in-Some.form) c.args.items.now) =
-    c.command_of.ensures ∙ ap (command_of c.in-Some.form.makes) c.in-Ok.ensures in
-    gives_also (λ answer. answer ≡ asked c.command_of.result) (AnswersWhole c.args.configuring c.args.items.now c.args.end)
+    let made : c.in-Ok.command ≡ command_of c.in-Some.form.makes c.args.items.now (given (parts_of c.in-Some.form) c.args.items.now) = c.in-Ok.ensures in
+    gives_also (λ answer. answer ≡ asked c.in-Ok.command) (AnswersWhole c.args.configuring c.args.items.now c.args.end)
     (λ answer is_asked. subst (AnswersWhole c.args.configuring c.args.items.now c.args.end) (sym (is_asked ∙ ap asked made)) found) c.asked.result c.asked.ensures
