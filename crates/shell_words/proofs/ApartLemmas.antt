@@ -138,7 +138,7 @@ split_contains first rest x contained = by_place contained.0 contained.1 contain
     by_place zero within is = inl is
     by_place (suc place) within is = inr (place, omega arith, is)
 
-all_at : {X : Type 0} (test : X → Bool) (xs : List X) (x : X) → list_all test xs ≡ true → Contains xs x → test x ≡ true
+pub all_at : {X : Type 0} (test : X → Bool) (xs : List X) (x : X) → list_all test xs ≡ true → Contains xs x → test x ≡ true
 all_at test [] x all contained = absurd (omega (arith, contained.1))
 all_at test (first ∷ rest) x all contained =
     let both = and_parts (test first) (list_all test rest) all in

@@ -10,9 +10,13 @@ use Rattle.shell_words.specs.declared.form.Symbol.{Symbol}
 use Rattle.shell_words.specs.declared.form.Symbol.TheVariants.{Keyword, Mark, Word, Neither, Number, OpenBracket, CloseBracket}
 use Rattle.shell_words.specs.declared.form.Part.{Part}
 use Rattle.shell_words.specs.declared.form.Part.TheVariants.{Nothing, One, Many}
+use Rattle.shell_words.specs.declared.form.Makes.{Makes}
+use Rattle.shell_words.specs.declared.form.Makes.TheVariants.{Pair}
 use Rattle.shell_words.specs.declared.form.CommandForm.{CommandForm}
+use Rattle.shell_words.specs.declared.keyword.Keyword as keywords
 use Rattle.shell_words.specs.Item.{Item}
-use Rattle.shell_words.specs.Form.{is_of, parts_of}
+use Rattle.shell_words.specs.Form.{is_of, names, parts_of}
+use Rattle.shell_words.specs.Pair.{mark_of}
 use Rattle.shell_words.specs.Keyword.{spelled}
 use Rattle.shell_words.specs.Number.{number_of, is_between}
 
@@ -121,3 +125,47 @@ is_sound form = (are_ended (parts_of form) && have_examples (parts_of form)) && 
 abbrev pub all_apart : List CommandForm → Bool
 all_apart [] = true
 all_apart (form ∷ forms) = list_all (λ (other : CommandForm). apart (parts_of form) (parts_of other)) forms && all_apart forms
+
+-- a test of the first part, which is one token, and of the parts behind it
+abbrev pub leads : (Symbol → Bool) → (List Part → Bool) → List Part → Bool
+leads test rest [] = false
+leads test rest (Nothing ∷ parts) = false
+leads test rest (One symbol ∷ parts) = test symbol && rest parts
+leads test rest (Many symbol ∷ parts) = false
+
+-- where it is a run
+abbrev pub runs : (Symbol → Bool) → (List Part → Bool) → List Part → Bool
+runs test rest [] = false
+runs test rest (Nothing ∷ parts) = false
+runs test rest (One symbol ∷ parts) = false
+runs test rest (Many symbol ∷ parts) = test symbol && rest parts
+
+abbrev pub is_end : List Part → Bool
+is_end [] = true
+is_end (part ∷ parts) = false
+
+-- no token of the symbol is the mark, and it is as this says whether it names something
+abbrev pub passes : keywords.Keyword → (Bool → Bool) → Symbol → Bool
+passes mark named symbol = disjoint symbol (Mark mark) && named (names symbol)
+
+abbrev pub is_the_mark : keywords.Keyword → Symbol → Bool
+is_the_mark mark (Mark other) = same_word (spelled mark) (spelled other)
+is_the_mark mark other = false
+
+-- a test of what stands behind the mark, from the mark on, and from the first word on
+abbrev pub behind_mark : List Part → Bool
+behind_mark parts = leads names (runs names is_end) parts
+
+abbrev pub from_mark : keywords.Keyword → List Part → Bool
+from_mark mark parts = leads (is_the_mark mark) behind_mark parts
+
+abbrev pub from_words : keywords.Keyword → List Part → Bool
+from_words mark parts = runs (passes mark (λ named. named)) (from_mark mark) parts
+
+-- a test that the parts are a keyword, words but the mark, the mark, and words
+abbrev pub have_sides : keywords.Keyword → List Part → Bool
+have_sides mark parts = leads (passes mark not) (leads (passes mark (λ named. named)) (from_words mark)) parts
+
+abbrev pub are_sides : Makes → List Part → Bool
+are_sides (Pair change) parts = have_sides (mark_of change) parts
+are_sides other parts = true

@@ -4,4 +4,5 @@ pub mod FormFacts
 pub mod SymbolLemmas
 pub mod FitLemmas
 pub mod ApartLemmas
+pub mod PairLemmas
 pub mod ReadingLemmas

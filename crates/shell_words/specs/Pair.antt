@@ -1,5 +1,5 @@
 -- Changes that name two statements, on either side of a mark. Junos OS CLI User Guide, on rename, copy and insert.
-use Rattle.std.specs.Prelude.{ℕ, List, [], ◌∷◌, map, take, drop, not, true, false}
+use Rattle.std.specs.Prelude.{◌≡◌, ◌<◌, ℕ, List, [], ◌∷◌, ◌++◌, length, map, take, drop, not, true, false}
 use Rattle.std.specs.List.{prefix_len}
 use Rattle.commands.specs.declared.command.Op.{Op}
 use Rattle.commands.specs.declared.command.Op.TheVariants as op
@@ -33,8 +33,20 @@ abbrev pub words_behind_first : List Item → List (List ℕ)
 words_behind_first [] = []
 words_behind_first (first ∷ items) = map (λ (item : Item). item.token.word) items
 
--- the change that a line asks: of the words between its keyword and the first mark, and of those behind that mark
+-- the words between a line's keyword and the first such mark
+abbrev pub front_words : Keyword → List Item → List (List ℕ)
+front_words mark items = words_behind_first (take (tokens_before mark items) items)
+
+-- the words behind that mark
+abbrev pub back_words : Keyword → List Item → List (List ℕ)
+back_words mark items = words_behind_first (drop (tokens_before mark items) items)
+
+-- the change that a line asks
 abbrev pub change_in : PairChange → List Item → Op
-change_in change items =
-    let count = tokens_before (mark_of change) items in
-    op_of change (words_behind_first (take count items)) (words_behind_first (drop count items))
+change_in change items = op_of change (front_words (mark_of change) items) (back_words (mark_of change) items)
+
+-- there are words on both sides, and together they are these
+pub record AreSides (front back words : List (List ℕ)) : Type 0 where
+  pub some_front : 0 < length front
+  pub some_back : 0 < length back
+  pub joined : words ≡ front ++ back

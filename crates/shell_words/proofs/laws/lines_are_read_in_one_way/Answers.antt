@@ -1,4 +1,5 @@
 use Rattle.shell_words.proofs.ReadingLemmas.{one_reading, own_line, each_form}
+use Rattle.shell_words.proofs.PairLemmas.{two_sides}
 use Rattle.shell_words.proofs.laws.lines_are_read_in_one_way.Goals as goal
 
 pub returns-clause-one_reading : goal.returns-clause-one_reading
@@ -9,3 +10,6 @@ returns-clause-own_line c = own_line
 
 pub returns-clause-each_form : goal.returns-clause-each_form
 returns-clause-each_form c = each_form
+
+pub returns-clause-two_sides : goal.returns-clause-two_sides
+returns-clause-two_sides c = two_sides
