@@ -14,8 +14,14 @@ pub enum Refusal {
     Incomplete(Path),
     /// Words follow the end of a statement.
     Extra(Path),
+    /// The statement has no other name like the one that is asked.
+    NotNamed(Path),
+    /// The statement isn't one of a list that keeps the user's order.
+    NotOrdered(Path),
     /// The statement, or a word of it, isn't there.
     NotThere(Path),
+    /// A statement is at the new name already.
+    AlreadyThere(Path),
     /// The statement is no level.
     NotALevel(Path),
     /// This statement is protected, and the change would change it or what stands below it.

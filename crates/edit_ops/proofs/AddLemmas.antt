@@ -25,9 +25,9 @@ no_longer old given h = by_test (list_all (lists old) given) refl
 
 pub adds_none : (m : Statements) (path : List Step) (old value : Value) (given : List (List ℕ)) → 0 < length path → IsTree m → map.get m path ≡ Some old
     → value ≡ value_set path old given → (is_many_at path && (length value.words == length old.words)) ≡ true
-    → IsMade m path (Some (set_of m path given)) (λ _. ⊥) (Ok None)
+    → IsMade m (Ok (set_of m path given)) (λ _. ⊥) (Ok None)
 adds_none m path old value given long tree found e h =
-    (ap Some (set_there m path old given long tree found ∙ ap (put_at m path) same ∙ put_same m path old found), tree.few)
+    (ap (λ (x : Statements). Ok x) (set_there m path old given long tree found ∙ ap (put_at m path) same ∙ put_same m path old found), tree.few)
   where
     parts : (is_many_at path ≡ true) × ((length value.words == length old.words) ≡ true)
     parts = both (is_many_at path) (length value.words == length old.words) h

@@ -45,13 +45,15 @@ first_least m n path found other first on is_protected =
 found_on_way : (m : Statements) (n : ℕ) (path found : List Step) → IsFirstProtected m n path found → is_below found path ≡ true
 found_on_way m n path found first = ap (λ (p : List Step). is_below p path) first.found_is ∙ take_below first.count path
 
-module _ (m n : Statements) (path : List Step) (spared : List Step → Type 0) (near : IsNear m n path) where
-  on_way : (q : List Step) → Blocks m n spared q → is_below q path ≡ true
-  on_way q b =
-      on_way_or_not b.differs.place path (is_below q path ≡ true)
-      (λ e. below_trans q b.differs.place path b.differs.below e)
-      (λ e. absurd (b.differs.differs (sym (near b.differs.place e))))
+-- what keeps a change on the way to a path is on that way
+pub near_on_way : (m n : Statements) (path : List Step) (spared : List Step → Type 0) → IsNear m n path → (q : List Step) → Blocks m n spared q
+    → is_below q path ≡ true
+near_on_way m n path spared near q b =
+    on_way_or_not b.differs.place path (is_below q path ≡ true)
+    (λ e. below_trans q b.differs.place path b.differs.below e)
+    (λ e. absurd (b.differs.differs (sym (near b.differs.place e))))
 
+module _ (m n : Statements) (path : List Step) (spared : List Step → Type 0) (on_way : (q : List Step) → Blocks m n spared q → is_below q path ≡ true) where
   -- a change on the way to a path is kept by nothing, where nothing on the way is protected but what is spared
   pub near_free : (count : ℕ) → IsOpen m count path → ((q : List Step) → is_below q path ≡ true → ¬ (spared q) → length q ≤ count) → IsFree m n spared
   near_free count free few q b =
@@ -76,20 +78,23 @@ not_greater a b h g = h (paths_total.antisymm b a ∙ ap ordering_reverse g)
 abbrev pub nothing_spared : List Step → Type 0
 nothing_spared q = ⊥
 
--- what a removal leaves: nothing of the path and below, and all that is off the way
+-- where all that is off the way stays but what is below a path, what keeps the change is on the way or below
+pub on_way_or_below : (m n : Statements) (path : List Step)
+    → ((q : List Step) → is_below path q ≡ false → is_below q path ≡ false → map.get n q ≡ map.get m q)
+    → (q : List Step) → Blocks m n nothing_spared q → (is_below q path ≡ true) ⊎ (is_below path q ≡ true)
+on_way_or_below m n path stays q b =
+    on_way_or_not b.differs.place path ((is_below q path ≡ true) ⊎ (is_below path q ≡ true))
+    (λ e. inl (below_trans q b.differs.place path b.differs.below e))
+    (λ e. on_way_or_not path b.differs.place ((is_below q path ≡ true) ⊎ (is_below path q ≡ true))
+    (λ f. comparable q path b.differs.place b.differs.below f)
+    (λ f. absurd (b.differs.differs (sym (stays b.differs.place f e)))))
+
+-- what is taken away, with all below it: only what is protected on the way or below keeps it
 module _ (m n : Statements) (path : List Step) (old : Value) (there : map.get m path ≡ Some old)
     (gone : (q : List Step) → is_below path q ≡ true → map.get n q ≡ None)
-    (stays : (q : List Step) → is_below path q ≡ false → is_below q path ≡ false → map.get n q ≡ map.get m q) where
+    (near_or_below : (q : List Step) → Blocks m n nothing_spared q → (is_below q path ≡ true) ⊎ (is_below path q ≡ true)) where
   some_differs : (q : List Step) (value : Value) → map.get m q ≡ Some value → is_below path q ≡ true → map.get m q ≢ map.get n q
   some_differs q value e below same = let k = sym e ∙ same ∙ gone q below in cc
-
-  near_or_below : (q : List Step) → Blocks m n nothing_spared q → (is_below q path ≡ true) ⊎ (is_below path q ≡ true)
-  near_or_below q b =
-      on_way_or_not b.differs.place path ((is_below q path ≡ true) ⊎ (is_below path q ≡ true))
-      (λ e. inl (below_trans q b.differs.place path b.differs.below e))
-      (λ e. on_way_or_not path b.differs.place ((is_below q path ≡ true) ⊎ (is_below path q ≡ true))
-      (λ f. comparable q path b.differs.place b.differs.below f)
-      (λ f. absurd (b.differs.differs (sym (stays b.differs.place f e)))))
 
   pub taken_free : IsOpen m (length path) path → IsOpenBelow m path → IsFree m n nothing_spared
   taken_free free free_below q b =

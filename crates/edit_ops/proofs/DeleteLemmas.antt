@@ -1,5 +1,5 @@
 -- What is taken away.
-use Rattle.std.proofs.Common.{◌≡◌, ◌≢◌, ℕ, ◌-◌, ◌==◌, ◌<◌, Bool, true, false, List, [], ◌∷◌, length, refl, sym, ap, subst, ◌∙◌, Option, Some, None, Ok, Err, if◌then◌else◌}
+use Rattle.std.proofs.Common.{◌≡◌, ◌≢◌, ◌⊎◌, ℕ, ◌-◌, ◌==◌, ◌<◌, Bool, true, false, List, [], ◌∷◌, length, refl, sym, ap, subst, ◌∙◌, Option, Some, None, Ok, Err, if◌then◌else◌}
 use Rattle.std.specs.Prelude.{IsSome}
 use Rattle.std.specs.List.{list_all}
 use Rattle.std.specs.FinMap as map
@@ -13,12 +13,13 @@ use Rattle.cfg_tree.proofs.TypedLemmas.{not_both}
 use Rattle.cfg_tree.proofs.PathLemmas.{order_other}
 use Rattle.cfg_tree.proofs.StepLemmas.{cleared_below, cleared_other, parent_out, below_out}
 use Rattle.edit_ops.specs.declared.fault.EditFault.{EditFault}
-use Rattle.edit_ops.specs.declared.fault.EditFault.TheVariants.{Unknown, BadValue, Incomplete, Extra, NotThere, Protected, TooMany, NoMemory}
+use Rattle.edit_ops.specs.declared.fault.EditFault.TheVariants.{Unknown, BadValue, Incomplete, Extra, NotNamed, NotOrdered, NotThere, AlreadyThere, Protected, TooMany, NoMemory}
+use Rattle.edit_ops.specs.Block.{Blocks}
 use Rattle.edit_ops.specs.Value.{words_without}
 use Rattle.edit_ops.specs.Change.{left_at, deleted_of, marked}
 use Rattle.edit_ops.specs.Made.{IsOpen, IsGuardFault, IsOpenBelow, IsBelowFault, IsMade}
 use Rattle.edit_ops.proofs.WayLemmas.{take_below}
-use Rattle.edit_ops.proofs.BlockLemmas.{taken_free, taken_blocked, taken_blocked_below}
+use Rattle.edit_ops.proofs.BlockLemmas.{nothing_spared, on_way_or_below, taken_free, taken_blocked, taken_blocked_below}
 
 removed_by_gone : (m : Statements) (path q : List Step) (b : Bool) → 0 < length path → is_below path q ≡ true
     → map.get (if b then with_order (cleared m path) (parent_of path) (without (last_of path).name) else cleared m path) q ≡ None
@@ -47,36 +48,45 @@ module _ (m : Statements) (path : List Step) (long : 0 < length path) (there : I
   stays : (q : List Step) → is_below path q ≡ false → is_below q path ≡ false → map.get (removed m path) q ≡ map.get m q
   stays q h k = removed_by_other m path q (is_ordered path) h k
 
+  near : (q : List Step) → Blocks m (removed m path) nothing_spared q → (is_below q path ≡ true) ⊎ (is_below path q ≡ true)
+  near = on_way_or_below m (removed m path) path stays
+
   differs : removed m path ≢ m
   differs e =
       let (value, found) = old
       in let k = sym found ∙ ap (λ (x : Statements). map.get x path) (sym e) ∙ gone path (below_self path) in cc
 
   pub taken : (n : Statements) → n ≡ removed m path → IsOpen m (length path) path → IsOpenBelow m path
-      → IsMade m path (Some (removed m path)) (λ _. ⊥) (Ok (Some n))
+      → IsMade m (Ok (removed m path)) (λ _. ⊥) (Ok (Some n))
   taken n e free below =
-      subst (λ (x : Statements). IsMade m path (Some (removed m path)) (λ _. ⊥) (Ok (Some x))) (sym e)
-      (refl, differs, taken_free m (removed m path) path old.0 old.1 gone stays free below)
+      subst (λ (x : Statements). IsMade m (Ok (removed m path)) (λ _. ⊥) (Ok (Some x))) (sym e)
+      (refl, differs, taken_free m (removed m path) path old.0 old.1 gone near free below)
 
-  pub take_refused : (fault : EditFault) → IsGuardFault m (length path) path fault → IsMade m path (Some (removed m path)) (λ _. ⊥) (Err fault)
+  pub take_refused : (fault : EditFault) → IsGuardFault m (length path) path fault → IsMade m (Ok (removed m path)) (λ _. ⊥) (Err fault)
   take_refused (Unknown p) e = absurd e
   take_refused (BadValue p) e = absurd e
   take_refused (Incomplete p) e = absurd e
   take_refused (Extra p) e = absurd e
   take_refused (NotThere p) e = absurd e
-  take_refused (Protected p) first = (removed m path, refl, taken_blocked m (removed m path) path old.0 old.1 gone stays (length path) p first)
+  take_refused (NotNamed p) e = absurd e
+  take_refused (NotOrdered p) e = absurd e
+  take_refused (AlreadyThere p) e = absurd e
+  take_refused (Protected p) first = (removed m path, refl, taken_blocked m (removed m path) path old.0 old.1 gone near (length path) p first)
   take_refused TooMany e = absurd e
   take_refused NoMemory e = tt
 
   pub take_refused_below : (fault : EditFault) → IsOpen m (length path) path → IsBelowFault m path fault
-      → IsMade m path (Some (removed m path)) (λ _. ⊥) (Err fault)
+      → IsMade m (Ok (removed m path)) (λ _. ⊥) (Err fault)
   take_refused_below (Unknown p) free e = absurd e
   take_refused_below (BadValue p) free e = absurd e
   take_refused_below (Incomplete p) free e = absurd e
   take_refused_below (Extra p) free e = absurd e
   take_refused_below (NotThere p) free e = absurd e
+  take_refused_below (NotNamed p) free e = absurd e
+  take_refused_below (NotOrdered p) free e = absurd e
+  take_refused_below (AlreadyThere p) free e = absurd e
   take_refused_below (Protected p) free first =
-      (removed m path, refl, taken_blocked_below m (removed m path) path old.0 old.1 gone stays p free first)
+      (removed m path, refl, taken_blocked_below m (removed m path) path old.0 old.1 gone near p free first)
   take_refused_below TooMany free e = absurd e
   take_refused_below NoMemory free e = tt
 

@@ -6,5 +6,9 @@ pub mod SetLemmas
 pub mod FitLemmas
 pub mod DeleteLemmas
 pub mod AnswerLemmas
+pub mod AskedLemmas
 pub mod UniqueLemmas
 pub mod AddLemmas
+pub mod NextToLemmas
+pub mod MoveLemmas
+pub mod InsertLemmas

@@ -21,13 +21,14 @@ use Rattle.cfg_tree.proofs.SameLemmas.{same_value}
 use Rattle.cfg_tree.proofs.FollowLemmas.{typed_front, typed_place, parent_is_level, level_counted}
 use Rattle.cfg_tree.proofs.ReadyLemmas.{level_ready, new_ready, kept_ready}
 use Rattle.edit_ops.specs.declared.fault.EditFault.{EditFault}
-use Rattle.edit_ops.specs.declared.fault.EditFault.TheVariants.{Unknown, BadValue, Incomplete, Extra, NotThere, Protected, TooMany, NoMemory}
+use Rattle.edit_ops.specs.declared.fault.EditFault.TheVariants.{Unknown, BadValue, Incomplete, Extra, NotNamed, NotOrdered, NotThere, AlreadyThere, Protected, TooMany, NoMemory}
+use Rattle.edit_ops.specs.Block.{Blocks}
 use Rattle.edit_ops.specs.Value.{no_value}
 use Rattle.edit_ops.specs.Change.{with_level, with_levels}
 use Rattle.edit_ops.specs.Made.{guarded, IsOpen, IsFirstProtected, IsGuardFault, IsMade, IsLevelReady, IsRoomFault, IsLevelsFault, IsOther, IsNewStatement, IsItself, LevelsPut, fault_of_put}
 use Rattle.edit_ops.proofs.WayLemmas.{below_take, below_short, way_whole}
 use Rattle.edit_ops.proofs.NearLemmas.{IsNear, put_near, put_here, put_by_other, put_same, size_new, put_grows, levels-more, levels_near, levels_grow, take_take, front_parent}
-use Rattle.edit_ops.proofs.BlockLemmas.{near_free, near_blocked}
+use Rattle.edit_ops.proofs.BlockLemmas.{near_on_way, near_free, near_blocked}
 
 -- a put is refused only for want of room, where the value fits
 pub put_fault : (m : Statements) (path : List Step) (value : Value) (fault : TreeFault) → Fits path value → IsPutFault m path value fault
@@ -112,6 +113,9 @@ levels_fault m n k path (BadValue p) h put e = absurd e
 levels_fault m n k path (Incomplete p) h put e = absurd e
 levels_fault m n k path (Extra p) h put e = absurd e
 levels_fault m n k path (NotThere p) h put e = absurd e
+levels_fault m n k path (NotNamed p) h put e = absurd e
+levels_fault m n k path (NotOrdered p) h put e = absurd e
+levels_fault m n k path (AlreadyThere p) h put e = absurd e
 levels_fault m n k path (Protected p) h put e = absurd e
 levels_fault m n k path TooMany h put (none, full) =
     subst (λ (i : ℕ). MAX_STATEMENTS < size_of (with_levels m i path)) whole (above _ _ grown more)
@@ -138,25 +142,29 @@ levels_fault m n k path TooMany h put (none, full) =
 levels_fault m n k path NoMemory h put e = tt
 
 -- a change on the way to a path, which the guard lets pass or refuses
-module _ (m n : Statements) (path : List Step) (count : ℕ) (spared : List Step → Type 0) (near : IsNear m n path) (differs : map.get m path ≢ map.get n path)
+module _ (m n : Statements) (path : List Step) (count : ℕ) (spared : List Step → Type 0) (on_way : (q : List Step) → Blocks m n spared q → is_below q path ≡ true)
+    (differs : map.get m path ≢ map.get n path)
     (few : (q : List Step) → is_below q path ≡ true → ¬ (spared q) → length q ≤ count)
     (unspared : (found : List Step) → IsFirstProtected m count path found → ¬ (spared found)) where
   other_map : n ≢ m
   other_map e = differs (ap (λ (x : Statements). map.get x path) (sym e))
 
-  pub let_pass : IsOpen m count path → IsMade m path (Some n) spared (Ok (Some n))
-  let_pass free = (refl, other_map, near_free m n path spared near count free few)
+  pub let_pass : IsOpen m count path → IsMade m (Ok n) spared (Ok (Some n))
+  let_pass free = (refl, other_map, near_free m n path spared on_way count free few)
 
-  pub crowded : IsOpen m count path → MAX_STATEMENTS < size_of n → IsMade m path (Some n) spared (Err TooMany)
-  crowded free many = (n, refl, near_free m n path spared near count free few, many)
+  pub crowded : IsOpen m count path → MAX_STATEMENTS < size_of n → IsMade m (Ok n) spared (Err TooMany)
+  crowded free many = (n, refl, near_free m n path spared on_way count free few, many)
 
-  pub refused : (fault : EditFault) → IsGuardFault m count path fault → IsMade m path (Some n) spared (Err fault)
+  pub refused : (fault : EditFault) → IsGuardFault m count path fault → IsMade m (Ok n) spared (Err fault)
   refused (Unknown p) e = absurd e
   refused (BadValue p) e = absurd e
   refused (Incomplete p) e = absurd e
   refused (Extra p) e = absurd e
   refused (NotThere p) e = absurd e
-  refused (Protected p) first = (n, refl, near_blocked m n path spared near count p differs first (unspared p first))
+  refused (NotNamed p) e = absurd e
+  refused (NotOrdered p) e = absurd e
+  refused (AlreadyThere p) e = absurd e
+  refused (Protected p) first = (n, refl, near_blocked m n path spared on_way count p differs first (unspared p first))
   refused TooMany e = absurd e
   refused NoMemory e = tt
 
@@ -192,8 +200,8 @@ unspared_found m true path found long first e = too_long (ap (λ (p : List Step)
 
 -- another value for a statement that is there
 module _ (m : Statements) (path : List Step) (value : Value) (spared : Bool) (tree : IsTree m) (other : IsOther m path value) where
-  pub unchanged : map.get m path ≡ Some value → IsMade m path (Some (put_at m path value)) (IsItself spared path) (Ok None)
-  unchanged same = (ap Some (put_same m path value same), tree.few)
+  pub unchanged : map.get m path ≡ Some value → IsMade m (Ok (put_at m path value)) (IsItself spared path) (Ok None)
+  unchanged same = (ap (λ (x : Statements). Ok x) (put_same m path value same), tree.few)
 
   differs : ¬ (map.get m path ≡ Some value) → map.get m path ≢ map.get (put_at m path value) path
   differs h e = h (e ∙ put_here m path value other.steps)
@@ -202,23 +210,28 @@ module _ (m : Statements) (path : List Step) (value : Value) (spared : Bool) (tr
   is_ready = kept_ready m path other.old value tree other.found other.order (λ here e. (other.fits.words here e).0)
 
   pub replaced : ¬ (map.get m path ≡ Some value) → IsOpen m (guarded spared (length path)) path
-      → IsMade m path (Some (put_at m path value)) (IsItself spared path) (Ok (Some (put_at m path value)))
+      → IsMade m (Ok (put_at m path value)) (IsItself spared path) (Ok (Some (put_at m path value)))
   replaced h free =
-      let_pass m (put_at m path value) path (guarded spared (length path)) (IsItself spared path) (put_near m path value) (differs h)
+      let_pass m (put_at m path value) path (guarded spared (length path)) (IsItself spared path)
+      (near_on_way m (put_at m path value) path (IsItself spared path) (put_near m path value)) (differs h)
       (few_guarded spared path) (λ found. unspared_found m spared path found other.steps) free
 
   pub replace_refused : ¬ (map.get m path ≡ Some value) → (fault : EditFault) → IsGuardFault m (guarded spared (length path)) path fault
-      → IsMade m path (Some (put_at m path value)) (IsItself spared path) (Err fault)
+      → IsMade m (Ok (put_at m path value)) (IsItself spared path) (Err fault)
   replace_refused h =
-      refused m (put_at m path value) path (guarded spared (length path)) (IsItself spared path) (put_near m path value) (differs h)
+      refused m (put_at m path value) path (guarded spared (length path)) (IsItself spared path)
+      (near_on_way m (put_at m path value) path (IsItself spared path) (put_near m path value)) (differs h)
       (few_guarded spared path) (λ found. unspared_found m spared path found other.steps)
 
-  pub replace_room : (fault : EditFault) → IsRoomFault m path fault → IsMade m path (Some (put_at m path value)) (IsItself spared path) (Err fault)
+  pub replace_room : (fault : EditFault) → IsRoomFault m path fault → IsMade m (Ok (put_at m path value)) (IsItself spared path) (Err fault)
   replace_room (Unknown p) e = absurd e
   replace_room (BadValue p) e = absurd e
   replace_room (Incomplete p) e = absurd e
   replace_room (Extra p) e = absurd e
   replace_room (NotThere p) e = absurd e
+  replace_room (NotNamed p) e = absurd e
+  replace_room (NotOrdered p) e = absurd e
+  replace_room (AlreadyThere p) e = absurd e
   replace_room (Protected p) e = absurd e
   replace_room TooMany e = let k = sym other.found ∙ e.0 in cc
   replace_room NoMemory e = tt
@@ -264,27 +277,33 @@ module _ (m : Statements) (path : List Step) (value : Value) (new : IsNewStateme
   goal_near : IsNear m goal path
   goal_near q h = put_near (with_levels m (length path - 1) path) path value q h ∙ levels_near m (length path - 1) path q h
 
+  goal_way : (q : List Step) → Blocks m goal nothing q → is_below q path ≡ true
+  goal_way = near_on_way m goal path nothing goal_near
+
   goal_differs : map.get m path ≢ map.get goal path
   goal_differs e = let k = sym new.none ∙ e ∙ put_here (with_levels m (length path - 1) path) path value new.steps in cc
 
   all_guarded : (q : List Step) → is_below q path ≡ true → ¬ ⊥ → length q ≤ length path
   all_guarded q on h = below_short q path on
 
-  pub added : IsOpen m (length path) path → IsMade m path (Some goal) (λ _. ⊥) (Ok (Some goal))
-  added free = let_pass m goal path (length path) nothing goal_near goal_differs all_guarded (λ found first e. e) free
+  pub added : IsOpen m (length path) path → IsMade m (Ok goal) (λ _. ⊥) (Ok (Some goal))
+  added free = let_pass m goal path (length path) nothing goal_way goal_differs all_guarded (λ found first e. e) free
 
-  pub add_refused : (fault : EditFault) → IsGuardFault m (length path) path fault → IsMade m path (Some goal) (λ _. ⊥) (Err fault)
-  add_refused = refused m goal path (length path) nothing goal_near goal_differs all_guarded (λ found first e. e)
+  pub add_refused : (fault : EditFault) → IsGuardFault m (length path) path fault → IsMade m (Ok goal) (λ _. ⊥) (Err fault)
+  add_refused = refused m goal path (length path) nothing goal_way goal_differs all_guarded (λ found first e. e)
 
-  pub add_crowded : IsOpen m (length path) path → (fault : EditFault) → IsLevelsFault m (length path - 1) path fault → IsMade m path (Some goal) (λ _. ⊥) (Err fault)
+  pub add_crowded : IsOpen m (length path) path → (fault : EditFault) → IsLevelsFault m (length path - 1) path fault → IsMade m (Ok goal) (λ _. ⊥) (Err fault)
   add_crowded free (Unknown p) e = absurd e
   add_crowded free (BadValue p) e = absurd e
   add_crowded free (Incomplete p) e = absurd e
   add_crowded free (Extra p) e = absurd e
   add_crowded free (NotThere p) e = absurd e
+  add_crowded free (NotNamed p) e = absurd e
+  add_crowded free (NotOrdered p) e = absurd e
+  add_crowded free (AlreadyThere p) e = absurd e
   add_crowded free (Protected p) e = absurd e
   add_crowded free TooMany e =
-      crowded m goal path (length path) nothing goal_near goal_differs all_guarded (λ found first f. f) free
+      crowded m goal path (length path) nothing goal_way goal_differs all_guarded (λ found first f. f) free
       (through (put_grows (with_levels m (length path - 1) path) path value))
     where
       through : size_of (with_levels m (length path - 1) path) ≤ size_of goal → MAX_STATEMENTS < size_of goal
@@ -292,15 +311,18 @@ module _ (m : Statements) (path : List Step) (value : Value) (new : IsNewStateme
   add_crowded free NoMemory e = tt
 
   pub add_room : IsOpen m (length path) path → (fault : EditFault) → IsRoomFault (with_levels m (length path - 1) path) path fault
-      → IsMade m path (Some goal) (λ _. ⊥) (Err fault)
+      → IsMade m (Ok goal) (λ _. ⊥) (Err fault)
   add_room free (Unknown p) e = absurd e
   add_room free (BadValue p) e = absurd e
   add_room free (Incomplete p) e = absurd e
   add_room free (Extra p) e = absurd e
   add_room free (NotThere p) e = absurd e
+  add_room free (NotNamed p) e = absurd e
+  add_room free (NotOrdered p) e = absurd e
+  add_room free (AlreadyThere p) e = absurd e
   add_room free (Protected p) e = absurd e
   add_room free TooMany e =
-      crowded m goal path (length path) nothing goal_near goal_differs all_guarded (λ found first f. f) free
+      crowded m goal path (length path) nothing goal_way goal_differs all_guarded (λ found first f. f) free
       (above (size_new (with_levels m (length path - 1) path) path value e.0 ∙ ap (λ (i : ℕ). i + 1) e.1))
     where
       above : size_of goal ≡ MAX_STATEMENTS + 1 → MAX_STATEMENTS < size_of goal

@@ -4,7 +4,7 @@ use Rattle.std.specs.declared.cmp.Ordering.TheVariants.{Greater}
 use Rattle.std.specs.FinMap as map
 use Rattle.cfg_base.specs.Order.{path_cmp}
 use Rattle.commands.specs.declared.command.Op.{Op}
-use Rattle.commands.specs.declared.command.Op.TheVariants.{Set, Delete, Activate, Deactivate, Protect, Unprotect}
+use Rattle.commands.specs.declared.command.Op.TheVariants.{Set, Delete, Activate, Deactivate, Protect, Unprotect, Rename, Copy, Insert}
 use Rattle.cfg_base.specs.declared.path.Step.{Step}
 use Rattle.cfg_base.specs.declared.value.Value.{Value}
 use Rattle.cfg_tree.specs.Statements.{Statements, is_below}
@@ -29,6 +29,9 @@ IsSpared (Activate words) own path = ⊥
 IsSpared (Deactivate words) own path = ⊥
 IsSpared (Protect words) own path = ⊥
 IsSpared (Unprotect words) own path = path ≡ own
+IsSpared (Rename from to) own path = ⊥
+IsSpared (Copy from to) own path = ⊥
+IsSpared (Insert moved before anchor) own path = ⊥
 
 -- a protected statement, at which or below which a change would change something
 pub record Blocks (m n : Statements) (spared : List Step → Type 0) (path : List Step) : Type 0 where

@@ -1,5 +1,5 @@
 -- What the parts of a change ask and promise.
-use Rattle.std.specs.Prelude.{◌≡◌, ◌≢◌, ◌≤◌, ◌<◌, ◌-◌, ℕ, Bool, true, false, List, [], length, take, Option, Some, None, IsSome, Result, Ok, Err}
+use Rattle.std.specs.Prelude.{◌≡◌, ◌≢◌, ◌≤◌, ◌<◌, ◌-◌, ℕ, Bool, true, false, List, [], ◌++◌, length, take, Option, Some, None, IsSome, Result, Ok, Err}
 use Rattle.std.specs.declared.cmp.Ordering.TheVariants.{Less}
 use Rattle.std.specs.FinMap as map
 use Rattle.cfg_base.specs.Order.{path_cmp}
@@ -11,15 +11,19 @@ use Rattle.cfg_schema.specs.Place.{place_of}
 use Rattle.cfg_tree.specs.declared.limit.TheConstants.{MAX_STATEMENTS}
 use Rattle.cfg_tree.specs.declared.fault.TreeFault.{TreeFault}
 use Rattle.cfg_tree.specs.declared.fault.TreeFault.TheVariants as put
+use Rattle.cfg_tree.specs.declared.moving.CopyFault.{CopyFault}
+use Rattle.cfg_tree.specs.declared.moving.CopyFault.TheVariants as copy
 use Rattle.cfg_tree.specs.declared.target.Target.{Target}
-use Rattle.cfg_tree.specs.Statements.{Statements, size_of, is_below, HasParent}
+use Rattle.cfg_tree.specs.Statements.{Statements, size_of, parent_of, is_below, HasParent}
 use Rattle.cfg_tree.specs.Typed.{IsTypedPath, AreCanonical}
+use Rattle.cfg_tree.specs.Tree.{IsOrderOf}
 use Rattle.cfg_tree.specs.Resolve.{AreGiven, IsLevelPath}
 pub use Rattle.cfg_tree.specs.Change.{Fits, IsOther}
 use Rattle.edit_ops.specs.declared.fault.EditFault.{EditFault}
-use Rattle.edit_ops.specs.declared.fault.EditFault.TheVariants.{Unknown, BadValue, NotThere, Protected, TooMany, NoMemory}
+use Rattle.edit_ops.specs.declared.fault.EditFault.TheVariants.{Unknown, BadValue, Protected, TooMany, NoMemory}
 pub use Rattle.edit_ops.specs.Answer.{IsEnough}
-use Rattle.edit_ops.specs.Change.{with_levels}
+use Rattle.edit_ops.specs.declared.subject.Subject.{Subject}
+use Rattle.edit_ops.specs.Change.{Cause, unless, other_of, with_levels}
 use Rattle.edit_ops.specs.Block.{IsProtected, IsFree, IsBlockedBy}
 
 -- a statement of the profile, with words of its kind
@@ -28,6 +32,30 @@ pub record IsTarget (target : Target) : Type 0 where
   pub typed : IsTypedPath target.path
   pub given : (here : Place) → place_of target.path ≡ Some here → AreGiven (row_of here.row).shape target.words
   pub canonical : (here : Place) → place_of target.path ≡ Some here → AreCanonical (row_of here.row).value_kind target.words
+
+-- a path below the same parent that a typed map may have
+pub record IsBesidePath (path other : List Step) : Type 0 where
+  pub steps : 0 < length path
+  pub rest : List Step
+  pub some : 0 < length rest
+  pub below : other ≡ parent_of path ++ rest
+  pub typed : IsTypedPath other
+
+-- what a change names is of the profile
+pub record IsSubject (subject : Subject) : Type 0 where
+  pub target : IsTarget subject.target
+  pub other : IsBesidePath subject.target.path (other_of subject)
+
+-- why a statement isn't renamed, copied or inserted before the map after it is asked: the first cause that holds
+abbrev pub IsCause : List Cause → EditFault → Type 0
+IsCause causes (Protected path) = ⊥
+IsCause causes TooMany = ⊥
+IsCause causes NoMemory = Unit {0}
+IsCause causes fault = (n : Statements) → unless causes n ≡ Err fault
+
+-- none of the causes holds
+abbrev pub IsUnrefused : List Cause → Type 0
+IsUnrefused causes = (n : Statements) → unless causes n ≡ Ok n
 
 -- how many levels on the way to a path are guarded: all, or all but the statement itself
 abbrev pub guarded : Bool → ℕ → ℕ
@@ -67,15 +95,14 @@ IsBelowFault m path (Protected found) = IsFirstBelow m path found
 IsBelowFault m path NoMemory = Unit {0}
 IsBelowFault m path _ = ⊥
 
--- what a part of a change makes of the statements: nothing else than was there, or others; or why it is refused
-abbrev pub IsMade : Statements → List Step → Option Statements → (List Step → Type 0) → Result (Option Statements) EditFault → Type 0
-IsMade m own goal spared (Ok None) = (goal ≡ Some m) × (size_of m ≤ MAX_STATEMENTS)
-IsMade m own goal spared (Ok (Some n)) = (goal ≡ Some n) × (n ≢ m) × IsFree m n spared
-IsMade m own goal spared (Err (NotThere path)) = (path ≡ own) × (goal ≡ None)
-IsMade m own goal spared (Err (Protected path)) = (n : Statements) × (goal ≡ Some n) × IsBlockedBy m n spared path
-IsMade m own goal spared (Err TooMany) = (n : Statements) × (goal ≡ Some n) × IsFree m n spared × (MAX_STATEMENTS < size_of n)
-IsMade m own goal spared (Err NoMemory) = Unit {0}
-IsMade m own goal spared (Err _) = ⊥
+-- what a part of a change makes of the statements, beside what it should make: nothing else than was there, or others; or why it is refused
+abbrev pub IsMade : Statements → Result Statements EditFault → (List Step → Type 0) → Result (Option Statements) EditFault → Type 0
+IsMade m goal spared (Ok None) = (goal ≡ Ok m) × (size_of m ≤ MAX_STATEMENTS)
+IsMade m goal spared (Ok (Some n)) = (goal ≡ Ok n) × (n ≢ m) × IsFree m n spared
+IsMade m goal spared (Err (Protected path)) = (n : Statements) × (goal ≡ Ok n) × IsBlockedBy m n spared path
+IsMade m goal spared (Err TooMany) = (n : Statements) × (goal ≡ Ok n) × IsFree m n spared × (MAX_STATEMENTS < size_of n)
+IsMade m goal spared (Err NoMemory) = Unit {0}
+IsMade m goal spared (Err fault) = goal ≡ Err fault
 
 -- a level, whose parent is there
 pub record IsLevelReady (m : Statements) (path : List Step) : Type 0 where
@@ -117,6 +144,16 @@ fault_of_put (put.Unknown path) = Unknown path
 fault_of_put (put.BadValue path) = BadValue path
 fault_of_put put.TooMany = TooMany
 fault_of_put put.NoMemory = NoMemory
+
+abbrev pub fault_of_copy : CopyFault → EditFault
+fault_of_copy copy.TooMany = TooMany
+fault_of_copy copy.NoMemory = NoMemory
+
+-- another order for a statement that is there, of its children
+pub record IsReordered (m : Statements) (path : List Step) (old value : Value) : Type 0 where
+  pub found : map.get m path ≡ Some old
+  pub order : IsOrderOf m path value.order
+  pub words : value.words ≡ old.words
 
 -- the levels above a path were put, up to the first k of them
 pub record LevelsPut (m n : Statements) (k : ℕ) (path : List Step) : Type 0 where

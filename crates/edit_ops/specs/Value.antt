@@ -29,6 +29,16 @@ has_words Leaf = true
 has_words Flag = false
 has_words Many = true
 
+-- the statements of a Keyed or a Bare row have names, and no other
+abbrev pub has_name : Shape → Bool
+has_name Container = false
+has_name Fixed = false
+has_name Keyed = true
+has_name Bare = true
+has_name Leaf = false
+has_name Flag = false
+has_name Many = false
+
 -- what is asked of the row that a path follows; it isn't so of a path that follows none
 abbrev pub at_row : (Shape → Bool) → Option Place → Bool
 at_row asked None = false

@@ -1,10 +1,10 @@
 ghost use Rattle.std.specs.Prelude.{◌≡◌};
 ghost use Rattle.edit_ops.specs.Answer.{edit_fault};
-ghost use Rattle.edit_ops.specs.Made.{fault_of_put};
+ghost use Rattle.edit_ops.specs.Made.{fault_of_put, fault_of_copy};
 ghost use Rattle.edit_ops.specs.declared.fault.EditFault.TheVariants.{NoMemory};
 
 use cfg_base::{NoMemory, Path};
-use cfg_tree::{TreeFault, WordsFault};
+use cfg_tree::{CopyFault, TreeFault, WordsFault};
 use std::alloc::{AllocError, AllocFailed};
 use thiserror::Error;
 
@@ -19,8 +19,14 @@ pub enum EditFault {
     Incomplete(Path),
     #[error("words follow the end of a statement")]
     Extra(Path),
+    #[error("the statement has no other name like this")]
+    NotNamed(Path),
+    #[error("the statement isn't one of an ordered list")]
+    NotOrdered(Path),
     #[error("the statement, or a word of it, isn't there")]
     NotThere(Path),
+    #[error("the statement is there already")]
+    AlreadyThere(Path),
     #[error("the statement is protected")]
     Protected(Path),
     #[error("more than 16384 statements")]
@@ -76,6 +82,17 @@ impl From<TreeFault> for EditFault {
             TreeFault::BadValue(path) => EditFault::BadValue(path),
             TreeFault::TooMany => EditFault::TooMany,
             TreeFault::NoMemory => EditFault::NoMemory,
+        }
+    }
+}
+
+impl From<CopyFault> for EditFault {
+    ghost from_gives = { λ why fault. fault ≡ fault_of_copy why };
+
+    fn from(why: CopyFault) -> EditFault {
+        match why {
+            CopyFault::TooMany => EditFault::TooMany,
+            CopyFault::NoMemory => EditFault::NoMemory,
         }
     }
 }

@@ -1,4 +1,4 @@
-//! Changes of a configuration: set, delete, and the marks.
+//! Changes of a configuration: set, delete, the marks, rename, copy and insert.
 //!
 //! Guarantees: a change is exactly the one that its words ask for, or the statements stay as they are and the
 //! first cause is told; a statement that is protected, and all below it, stays as it is.
@@ -10,11 +10,15 @@ mod asked;
 mod delete;
 mod fault;
 mod guard;
+mod insert;
 mod laws;
 mod mark;
+mod moves;
 mod set;
+mod subject;
 mod words;
 
 pub use applying::apply;
 pub use fault::EditFault;
 pub use laws::changes_have_one_answer;
+pub use subject::Subject;

@@ -1,13 +1,13 @@
 //! Putting statements.
 
-ghost use Rattle.std.specs.Prelude.{◌≡◌, ◌==◌, ◌&&◌, ◌-◌, ◌<◌, length, Some, None, false, OnOk, IfOk, IfErr, Decides};
+ghost use Rattle.std.specs.Prelude.{◌≡◌, ◌==◌, ◌&&◌, ◌-◌, ◌<◌, length, Ok, Some, None, false, OnOk, IfOk, IfErr, Decides};
 ghost use Rattle.std.specs.FinMap as map;
 ghost use Rattle.cfg_tree.specs.Typed.{IsTypedPath};
 ghost use Rattle.cfg_tree.specs.Tree.{IsTree};
 ghost use Rattle.cfg_tree.specs.Change.{put_at, IsReady, Fits};
 ghost use Rattle.edit_ops.specs.Value.{is_many_at, no_value, value_set};
 ghost use Rattle.edit_ops.specs.Change.{with_level, with_levels, set_of};
-ghost use Rattle.edit_ops.specs.Made.{IsTarget, IsMade, IsLevelReady, IsRoomFault, IsLevelsFault, IsOther, IsNewStatement, IsItself, IsEnough, LevelsPut};
+ghost use Rattle.edit_ops.specs.Made.{IsTarget, IsMade, IsReordered, IsLevelReady, IsRoomFault, IsLevelsFault, IsOther, IsNewStatement, IsItself, IsEnough, LevelsPut};
 
 use crate::fault::EditFault;
 use crate::guard::guard;
@@ -84,7 +84,7 @@ pub fn replace(
 ) -> Result<Option<Tree>, EditFault>
     requires tree { IsTree tree.now }
     requires other { IsOther tree.now path.now value }
-    ensures { IsMade tree.now path.now (Some (put_at tree.now path.now value)) (IsItself spared path.now) result }
+    ensures { IsMade tree.now (Ok (put_at tree.now path.now value)) (IsItself spared path.now) result }
 {
     if has(tree, path, &value) {
         return Ok(None);
@@ -97,11 +97,35 @@ pub fn replace(
     Ok(Some(next))
 }
 
+/// The statements with another order at a path that is there.
+pub fn reorder(
+    tree: &Tree,
+    path: &Path,
+    old: &Value,
+    value: Value,
+) -> Result<Option<Tree>, EditFault>
+    requires tree { IsTree tree.now }
+    requires reordered { IsReordered tree.now path.now old.now value }
+    ensures { IsMade tree.now (Ok (put_at tree.now path.now value)) (λ _. ⊥) result }
+{
+    if *old == value {
+        return Ok(None);
+    }
+    if let Err(fault) = guard(tree, path, false) {
+        return Err(fault);
+    }
+    let mut next = tree.copy()?;
+    match put(&mut next, path, value) {
+        Ok(()) => Ok(Some(next)),
+        Err(fault) => Err(fault),
+    }
+}
+
 /// The statements with a new one, and the levels above it.
 fn add(alloc: Global, tree: &Tree, path: &Path, value: Value) -> Result<Option<Tree>, EditFault>
     requires tree { IsTree tree.now }
     requires new { IsNewStatement tree.now path.now value }
-    ensures { IsMade tree.now path.now (Some (put_at (with_levels tree.now (length path.now - 1) path.now) path.now value)) (λ _. ⊥) result }
+    ensures { IsMade tree.now (Ok (put_at (with_levels tree.now (length path.now - 1) path.now) path.now value)) (λ _. ⊥) result }
 {
     if let Err(fault) = guard(tree, path, false) {
         return Err(fault);
@@ -138,7 +162,7 @@ fn adds_none(path: &Path, old: &Value, value: &Value) -> bool
 pub fn set(alloc: Global, tree: &Tree, target: &Target) -> Result<Option<Tree>, EditFault>
     requires target { IsTarget target.now }
     requires enough { IsEnough target.now }
-    ensures { IsMade tree.now target.now.path (Some (set_of tree.now target.now.path target.now.words)) (λ _. ⊥) result }
+    ensures { IsMade tree.now (Ok (set_of tree.now target.now.path target.now.words)) (λ _. ⊥) result }
 {
     match tree.at(&target.path) {
         Some(old) => {

@@ -4,7 +4,7 @@ use Rattle.std.specs.List.{join_by}
 use Rattle.cfg_base.specs.declared.path.Step.{Step}
 use Rattle.commands.specs.declared.command.Mode.TheVariants.{Shared}
 use Rattle.config_core.specs.declared.reply.Refusal.{Refusal}
-use Rattle.config_core.specs.declared.reply.Refusal.TheVariants.{WrongMode, Unknown, BadValue, Incomplete, Extra, NotThere, NotALevel, Protected, TooMany, TooWide, Check, Exhausted}
+use Rattle.config_core.specs.declared.reply.Refusal.TheVariants.{WrongMode, Unknown, BadValue, Incomplete, Extra, NotNamed, NotOrdered, NotThere, AlreadyThere, NotALevel, Protected, TooMany, TooWide, Check, Exhausted}
 use Rattle.config_core.specs.declared.reply.Reply.{Reply}
 use Rattle.config_core.specs.declared.reply.Reply.TheVariants.{Done, LoggedOut, Text, Entered, Left, Checked, Committed, Refused}
 use Rattle.cfg_lex.specs.Printed.{printed_word}
@@ -38,7 +38,10 @@ text_of_refusal (Unknown path) = error_line (codes "unknown statement: " ++ prin
 text_of_refusal (BadValue path) = error_line (codes "bad value: " ++ printed_path path)
 text_of_refusal (Incomplete path) = error_line (codes "incomplete statement: " ++ printed_path path)
 text_of_refusal (Extra path) = error_line (codes "unexpected words after: " ++ printed_path path)
+text_of_refusal (NotNamed path) = error_line (codes "statement has no such name: " ++ printed_path path)
+text_of_refusal (NotOrdered path) = error_line (codes "statements are not ordered: " ++ printed_path path)
 text_of_refusal (NotThere path) = error_line (codes "statement not found: " ++ printed_path path)
+text_of_refusal (AlreadyThere path) = error_line (codes "statement already exists: " ++ printed_path path)
 text_of_refusal (NotALevel path) = error_line (codes "not a level: " ++ printed_path path)
 text_of_refusal (Protected path) = error_line (codes "statement is protected: " ++ printed_path path)
 text_of_refusal TooMany = error_line (codes "more than 16384 statements")

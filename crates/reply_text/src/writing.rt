@@ -229,7 +229,22 @@ fn put_refusal<K: Sink>(sink: &mut K, refusal: &Refusal) -> Result<(), PutFailed
         Refusal::BadValue(path) => put_path_line(sink, b"error: bad value: ", path),
         Refusal::Incomplete(path) => put_path_line(sink, b"error: incomplete statement: ", path),
         Refusal::Extra(path) => put_path_line(sink, b"error: unexpected words after: ", path),
+        Refusal::NotNamed(path) => put_path_line(
+            sink,
+            b"error: statement has no such name: ",
+            path,
+        ),
+        Refusal::NotOrdered(path) => put_path_line(
+            sink,
+            b"error: statements are not ordered: ",
+            path,
+        ),
         Refusal::NotThere(path) => put_path_line(sink, b"error: statement not found: ", path),
+        Refusal::AlreadyThere(path) => put_path_line(
+            sink,
+            b"error: statement already exists: ",
+            path,
+        ),
         Refusal::NotALevel(path) => put_path_line(sink, b"error: not a level: ", path),
         Refusal::Protected(path) => put_path_line(sink, b"error: statement is protected: ", path),
         Refusal::TooMany => put_all(sink, b"error: more than 16384 statements\n"),

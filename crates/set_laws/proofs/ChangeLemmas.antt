@@ -1,5 +1,5 @@
 -- Each printed line is a change that succeeds.
-use Rattle.std.proofs.Common.{◌≡◌, ℕ, ◌+◌, ◌<◌, ◌≤◌, Bool, true, false, List, [], ◌∷◌, ◌++◌, length, refl, sym, ap, subst, ◌∙◌, Some, is_some, arith, append-nil, Ok}
+use Rattle.std.proofs.Common.{◌≡◌, ℕ, ◌+◌, ◌<◌, ◌≤◌, Bool, true, false, List, [], ◌∷◌, ◌++◌, length, refl, sym, ap, subst, ◌∙◌, Some, None, is_some, arith, append-nil, Ok}
 use Rattle.std.specs.FinMap as map
 use Rattle.std.proofs.lemmas.List.Elements.{All-nil}
 use Rattle.cfg_base.specs.declared.kind.Shape.{Shape}
@@ -77,9 +77,9 @@ module _ (m : Statements) (tree : IsTree m) where
   set_changes passes x y it sets few =
       subst (λ (l : Line). IsChange x y [] (op_of l.verb l.words) true) (sym sets.is_line)
       record {
-        target = target sets.path sets.words;
-        asks = record { names = named sets.path sets.value sets.words sets.found sets.given; is_whole = sets.enough };
-        makes = record { made = ap (λ (n : Statements). Some n) (sym sets.made); free = free_of x y (λ path. ⊥) sets.open_before; few = few };
+        subject = record { target = target sets.path sets.words; other = None };
+        asks = record { names = named sets.path sets.value sets.words sets.found sets.given; is_whole = sets.enough; other = refl };
+        makes = record { made = ap (λ (n : Statements). Ok n) (sym sets.made); free = free_of x y (λ path. ⊥) sets.open_before; few = few };
         tells = (λ e same. sets.differs (ap (λ (n : Statements). map.get n sets.path) (sym same)), λ e. refl);
       }
 

@@ -25,7 +25,7 @@ use Rattle.cfg_tree.specs.Stated.{stated}
 use Rattle.cfg_tree.proofs.FollowLemmas.{typed_place}
 use Rattle.cfg_tree.proofs.MapLemmas.{same_statements}
 use Rattle.cfg_tree.proofs.PathLemmas.{same_or_not, get_other}
-use Rattle.edit_ops.specs.Change.{marked}
+use Rattle.edit_ops.specs.Change.{marked, if_there}
 use Rattle.edit_ops.specs.Answer.{IsChange}
 use Rattle.edit_ops.specs.Block.{IsFree, IsSpared}
 use Rattle.edit_ops.proofs.NearLemmas.{put_there}
@@ -203,13 +203,13 @@ module _ (m : Statements) (tree : IsTree m) (kept : IsProtectedApart m) where
   made_back =
       let sets : List Line = set_lines m (paths_below MAX_STEPS m []) in
       let first = marks_made m tree (λ v. v.inactive) (λ v. record v { inactive = true }) with_inactive op.Deactivate (deactivates_of m)
-      (λ b v e. ap (λ (c : Bool). record v { inactive = c; protected = false }) (sym e)) inactive_kept inactive_apart (λ ws. refl) (λ ws path. refl)
-      (λ x ws path v e. ap (λ (o : Option Value). marked x path o (λ value. record value { inactive = true })) e)
+      (λ b v e. ap (λ (c : Bool). record v { inactive = c; protected = false }) (sym e)) inactive_kept inactive_apart (λ ws. refl) (λ ws. refl) (λ ws path. refl)
+      (λ x ws path v e. ap (λ (o : Option Value). if_there path (marked x path o (λ value. record value { inactive = true }))) e)
       (λ path e. ap (deactivates_in path) e) inactive_line no_inactive_line free_inactive
       (stated map.empty (bare (items_below MAX_STEPS m []))) (1 + length sets) (paths_below MAX_STEPS m []) no_path (bare_is m tree) bare_few in
       let second = marks_made m tree (λ v. v.protected) (λ v. record v { protected = true }) with_protected op.Protect (protects_of m)
-      (λ b v e. ap (λ (c : Bool). record v { protected = c }) (sym e)) protected_kept protected_apart (λ ws. refl) (λ ws path. refl)
-      (λ x ws path v e. ap (λ (o : Option Value). marked x path o (λ value. record value { protected = true })) e)
+      (λ b v e. ap (λ (c : Bool). record v { protected = c }) (sym e)) protected_kept protected_apart (λ ws. refl) (λ ws. refl) (λ ws path. refl)
+      (λ x ws path v e. ap (λ (o : Option Value). if_there path (marked x path o (λ value. record value { protected = true }))) e)
       (λ path e. ap (protects_in path) e) protected_line no_protected_line free_protected
       first.last (1 + length sets + length (flat_map (deactivates_of m) (paths_below MAX_STEPS m []))) (paths_below MAX_STEPS m []) no_path (between first.last first.all_are)
       (subst (λ (n : ℕ). n ≤ MAX_STATEMENTS) (sym first.all_size) bare_few) in

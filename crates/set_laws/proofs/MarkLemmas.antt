@@ -15,8 +15,8 @@ use Rattle.cfg_tree.specs.OwnWords.{own_words}
 use Rattle.cfg_tree.specs.Resolve.{ResolvesTo, target}
 use Rattle.cfg_tree.proofs.MapLemmas.{same_path}
 use Rattle.cfg_tree.proofs.PathLemmas.{same_or_not, get_here, get_other}
-use Rattle.edit_ops.specs.Change.{words_of, changed}
-use Rattle.edit_ops.specs.Answer.{IsChange, IsWhole}
+use Rattle.edit_ops.specs.Change.{words_of, second_words, changed}
+use Rattle.edit_ops.specs.Answer.{IsChange, IsWhole, NamesOther}
 use Rattle.edit_ops.specs.Block.{IsFree, IsSpared}
 use Rattle.edit_ops.proofs.NearLemmas.{put_there, put_same, size-put}
 use Rattle.set_text.specs.Printed.{Line}
@@ -58,8 +58,9 @@ module _ (m : Statements) (tree : IsTree m) (has : Value → Bool) (given : Valu
     (shown_is : (b : Bool) (v : Value) → has v ≡ false → shown b v ≡ shown true v)
     (shown_apart : (v : Value) → has v ≡ true → shown false v ≢ shown true v)
     (words_are : (ws : List (List ℕ)) → words_of (make ws) ≡ ws)
+    (alone : (ws : List (List ℕ)) → second_words (make ws) ≡ None)
     (whole : (ws : List (List ℕ)) (path : List Step) → IsWhole (make ws) (target path []))
-    (changes : (x : Statements) (ws : List (List ℕ)) (path : List Step) (v : Value) → map.get x path ≡ Some v → changed x (make ws) (target path []) ≡ Some (put_at x path (given v)))
+    (changes : (x : Statements) (ws : List (List ℕ)) (path : List Step) (v : Value) → map.get x path ≡ Some v → changed x (make ws) (record { target = target path []; other = None }) ≡ Ok (put_at x path (given v)))
     (no_lines : (path : List Step) → map.get m path ≡ None → lines_at path ≡ [])
     (lines_are : (path : List Step) (v : Value) (number : ℕ) (x y : Statements) → map.get m path ≡ Some v → has v ≡ true
     → (told : Bool) → IsChange x y [] (make (own_words path)) told → AreMade x (changes_of number (lines_at path)) y)
@@ -123,10 +124,11 @@ module _ (m : Statements) (tree : IsTree m) (has : Value → Bool) (given : Valu
         → (told ≡ true → put_at x path (given (shown (seen path) v)) ≢ x) × (put_at x path (given (shown (seen path) v)) ≢ x → told ≡ true)
         → IsChange x (put_at x path (given (shown (seen path) v))) [] (make (own_words path)) told
     change told free tells = record {
-      target = target path [];
+      subject = record { target = target path []; other = None };
       asks = record {
         names = subst (λ (ws : List (List ℕ)). ResolvesTo [] ws (Ok (target path []))) (sym (words_are (own_words path))) (named_alone m tree path v found);
         is_whole = whole (own_words path) path;
+        other = subst (λ (o : Option (List (List ℕ))). NamesOther o path None) (sym (alone (own_words path))) refl;
       };
       makes = record { made = changes x (own_words path) path (shown (seen path) v) there; free = free; few = subst (λ (n : ℕ). n ≤ MAX_STATEMENTS) (sym next_size) few };
       tells = tells;

@@ -3,4 +3,4 @@ use Rattle.edit_ops.proofs.applying.apply.Goals as goal
 
 pub returns-clause-err : goal.returns-clause-err
 returns-clause-err c =
-    refused c.args.tree.now c.args.level.now c.args.op.now c.in_ok-target.target c.in_ok-target.ensures.ok c.in-Err.fault c.in-Err.ensures
+    refused c.args.tree.now c.args.level.now c.args.op.now c.in_ok-subject.subject c.in_ok-subject.ensures.ok c.in-Err.fault c.in-Err.ensures

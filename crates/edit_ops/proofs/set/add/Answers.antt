@@ -24,7 +24,7 @@ put-requires-clause-ready c =
 
 pub returns-in-Ok : goal.returns-in-Ok
 returns-in-Ok c =
-    subst (λ (x : Statements). IsMade c.args.tree.now c.args.path.now (Some (put_at (with_levels c.args.tree.now (length c.args.path.now - 1) c.args.path.now) c.args.path.now c.args.value)) (λ _. ⊥) (Ok (Some x)))
+    subst (λ (x : Statements). IsMade c.args.tree.now (Ok (put_at (with_levels c.args.tree.now (length c.args.path.now - 1) c.args.path.now) c.args.path.now c.args.value)) (λ _. ⊥) (Ok (Some x)))
     (sym (c.in-Ok.ensures.ok ∙ ap (λ (x : Statements). put_at x c.args.path.now c.args.value)
     (c.in_default-put_levels.ensures.ok.is ∙ ap (λ (x : Statements). with_levels x (length c.args.path.now - 1) c.args.path.now) c.in_ok-next.ensures)))
     (added c.args.tree.now c.args.path.now c.args.value c.requires.new c.in_default.ensures.ok)

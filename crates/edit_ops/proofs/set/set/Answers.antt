@@ -1,4 +1,4 @@
-use Rattle.std.proofs.Common.{sym, ap, subst, ◌∙◌, Some}
+use Rattle.std.proofs.Common.{sym, ap, subst, ◌∙◌, Ok}
 use Rattle.cfg_base.specs.declared.value.Value.{Value}
 use Rattle.cfg_tree.specs.Statements.{Statements}
 use Rattle.cfg_tree.specs.Change.{put_at}
@@ -27,7 +27,7 @@ returns-then-adds_none c =
 
 pub returns-else-adds_none : goal.returns-else-adds_none
 returns-else-adds_none c =
-    subst (λ (x : Statements). IsMade c.args.tree.now c.args.target.now.path (Some x) (λ _. ⊥) c.replace.result)
+    subst (λ (x : Statements). IsMade c.args.tree.now (Ok x) (λ _. ⊥) c.replace.result)
     (sym (set_there c.args.tree.now c.args.target.now.path c.in-Some.old.now c.args.target.now.words c.requires.target.steps c.in-Some.ensures.tree (sym c.in-Some.ensures.value)
     ∙ ap (put_at c.args.tree.now c.args.target.now.path) (sym c.in_ok-value-in-Some.ensures)))
     c.replace.ensures
