@@ -5,7 +5,7 @@ ghost use Rattle.cfg_tree.specs.Resolve.{IsLevelPath};
 use crate::answers::{put_bytes, put_path, say, say_number, say_path, say_whole_text};
 use crate::fault::Fault;
 use crate::level::resolved;
-use crate::words::{Arg, words_of};
+use crate::words::{Arg, halves, words_of};
 use cfg_base::{Path, Value, WordList, Words};
 use cfg_tree::Tree;
 use commands::Op;
@@ -14,8 +14,8 @@ use edit_ops::{EditFault, apply};
 use set_text::print_lines;
 use std::alloc::Global;
 
-/// The change of that name.
-pub(crate) fn op_of(call: &str, words: Words) -> Option<Op> {
+/// The change of that name with these words.
+fn op_of_one(call: &str, words: Words) -> Option<Op> {
     match call {
         "set" => Some(Op::Set(words)),
         "delete" => Some(Op::Delete(words)),
@@ -27,20 +27,48 @@ pub(crate) fn op_of(call: &str, words: Words) -> Option<Op> {
     }
 }
 
+/// The change of that name with the words of two statements.
+fn op_of_two(call: &str, from: Words, to: Words) -> Option<Op> {
+    match call {
+        "rename" => Some(Op::Rename { from, to }),
+        "copy" => Some(Op::Copy { from, to }),
+        "insert_before" | "insert_after" => Some(Op::Insert {
+            moved: from,
+            before: call == "insert_before",
+            anchor: to,
+        }),
+        _ => None,
+    }
+}
+
+/// The change of that name; the words of a second statement stand behind `--`.
+pub(crate) fn op_of(alloc: Global, call: &str, args: &[Arg]) -> Result<Option<Op>, Fault> {
+    match call {
+        "rename" | "copy" | "insert_before" | "insert_after" => {
+            let (from, to) = halves(args)?;
+            Ok(op_of_two(call, words_of(alloc, from)?, words_of(alloc, to)?))
+        }
+        _ => Ok(op_of_one(call, words_of(alloc, args)?)),
+    }
+}
+
 fn say_fault(out: &mut String, fault: &EditFault) -> Result<(), Fault> {
     match fault {
         EditFault::Unknown(path) => say_path(out, "unknown", path),
         EditFault::BadValue(path) => say_path(out, "bad value", path),
         EditFault::Incomplete(path) => say_path(out, "incomplete", path),
         EditFault::Extra(path) => say_path(out, "extra", path),
+        EditFault::NotNamed(path) => say_path(out, "not named", path),
+        EditFault::NotOrdered(path) => say_path(out, "not ordered", path),
         EditFault::NotThere(path) => say_path(out, "not there", path),
+        EditFault::AlreadyThere(path) => say_path(out, "already there", path),
         EditFault::Protected(path) => say_path(out, "protected", path),
         EditFault::TooMany => say(out, "too many"),
         EditFault::NoMemory => Err(Fault::NoMemory),
     }
 }
 
-/// set WORDS.., delete WORDS.. and so on: one change of the tree, whose words are read from a level.
+/// set WORDS.., rename WORDS.. -- WORDS.. and so on: one change of the tree, whose words are read from a level.
 pub(crate) fn change(
     alloc: Global,
     tree: &mut Tree,

@@ -103,7 +103,7 @@ impl Script {
             input_calls::ask(self.alloc, stage, name, args, out)?;
             return Ok(true);
         }
-        if let Some(op) = op_of(name, words_of(self.alloc, args)?) {
+        if let Some(op) = op_of(self.alloc, name, args)? {
             let level = level_of(self.alloc, &self.level)?;
             change(self.alloc, &mut self.tree, &level, &op, out)?;
             return Ok(true);
