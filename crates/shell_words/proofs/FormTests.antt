@@ -11,12 +11,12 @@ use Rattle.shell_words.specs.declared.form.Symbol.TheVariants.{Keyword, Mark, Wo
 use Rattle.shell_words.specs.declared.form.Part.{Part}
 use Rattle.shell_words.specs.declared.form.Part.TheVariants.{Nothing, One, Many}
 use Rattle.shell_words.specs.declared.form.Makes.{Makes}
-use Rattle.shell_words.specs.declared.form.Makes.TheVariants.{Pair}
+use Rattle.shell_words.specs.declared.form.Makes.TheVariants.{Move}
 use Rattle.shell_words.specs.declared.form.CommandForm.{CommandForm}
 use Rattle.shell_words.specs.declared.keyword.Keyword as keywords
+use Rattle.shell_words.specs.declared.keyword.Keyword.TheVariants as key
 use Rattle.shell_words.specs.Item.{Item}
 use Rattle.shell_words.specs.Form.{is_of, names, parts_of}
-use Rattle.shell_words.specs.Pair.{mark_of}
 use Rattle.shell_words.specs.Keyword.{spelled}
 use Rattle.shell_words.specs.Number.{number_of, is_between}
 
@@ -167,5 +167,5 @@ abbrev pub have_sides : keywords.Keyword → List Part → Bool
 have_sides mark parts = leads (passes mark not) (leads (passes mark (λ named. named)) (from_words mark)) parts
 
 abbrev pub are_sides : Makes → List Part → Bool
-are_sides (Pair change) parts = have_sides (mark_of change) parts
+are_sides (Move mover) parts = have_sides (key.Mark mover) parts
 are_sides other parts = true

@@ -5,19 +5,20 @@ use Rattle.std.proofs.lemmas.Bool.{false≢true, and_parts, and_from}
 use Rattle.std.proofs.lemmas.List.{append-nil, append_assoc, length-map, take_at, drop_at}
 use Rattle.cfg_base.specs.Words.{same_word}
 use Rattle.cfg_lex.specs.Lexed.{is_bare_kind}
+use Rattle.commands.specs.declared.mover.Mover.{Mover}
 use Rattle.shell_words.specs.declared.form.Symbol.{Symbol}
 use Rattle.shell_words.specs.declared.form.Symbol.TheVariants.{Keyword, Mark, Word, Neither, Number, OpenBracket, CloseBracket}
 use Rattle.shell_words.specs.declared.form.Part.{Part}
 use Rattle.shell_words.specs.declared.form.Part.TheVariants.{Nothing, One, Many}
-use Rattle.shell_words.specs.declared.form.Makes.TheVariants.{Pair}
+use Rattle.shell_words.specs.declared.form.Makes.TheVariants.{Move}
 use Rattle.shell_words.specs.declared.form.CommandForm.{CommandForm}
 use Rattle.shell_words.specs.declared.keyword.Keyword as keywords
-use Rattle.shell_words.specs.declared.pair.PairChange.{PairChange}
+use Rattle.shell_words.specs.declared.keyword.Keyword.TheVariants as key
 use Rattle.shell_words.specs.Item.{Item}
 use Rattle.shell_words.specs.Keyword.{spelled}
 use Rattle.shell_words.specs.Form.{is_mark, is_of, names, given_by, Fits, parts_of, IsIn}
 use Rattle.shell_words.specs.Form.{forms_of}
-use Rattle.shell_words.specs.Pair.{mark_of, tokens_before, front_words, back_words, words_behind_first, AreSides}
+use Rattle.shell_words.specs.Pair.{tokens_before, front_words, back_words, words_behind_first, AreSides}
 use Rattle.shell_words.proofs.FormTests.{disjoint, leads, runs, is_end, passes, is_the_mark, behind_mark, from_mark, from_words, have_sides, are_sides}
 use Rattle.shell_words.proofs.FormFacts.{forms_sided}
 use Rattle.shell_words.proofs.SymbolLemmas.{disjoint_sound, is_not, same_is}
@@ -196,7 +197,7 @@ sides mark (One symbol ∷ parts) items words e fit =
     }
 sides mark (Many symbol ∷ parts) items words e fit = absurd (false≢true e)
 
-pub two_sides : (configuring : Bool) (items : List Item) (form : CommandForm) (words : List (List ℕ)) (change : PairChange) → IsIn configuring items form words → form.makes ≡ Pair change → AreSides (front_words (mark_of change) items) (back_words (mark_of change) items) words
-two_sides configuring items form words change line makes =
+pub two_sides : (configuring : Bool) (items : List Item) (form : CommandForm) (words : List (List ℕ)) (mover : Mover) → IsIn configuring items form words → form.makes ≡ Move mover → AreSides (front_words (key.Mark mover) items) (back_words (key.Mark mover) items) words
+two_sides configuring items form words mover line makes =
     let tested = all_at (λ (each : CommandForm). are_sides each.makes (parts_of each)) (forms_of configuring) form (forms_sided configuring) line.served in
-    sides (mark_of change) (parts_of form) items words (subst (λ made. are_sides made (parts_of form) ≡ true) makes tested) line.fits
+    sides (key.Mark mover) (parts_of form) items words (subst (λ made. are_sides made (parts_of form) ≡ true) makes tested) line.fits

@@ -3,12 +3,15 @@ use Rattle.std.specs.Prelude.{ℕ, List, codes}
 use Rattle.cfg_lex.specs.declared.mark.Mark.TheVariants.{Pipe}
 use Rattle.cfg_lex.specs.Mark.{mark_word}
 use Rattle.commands.specs.Verb.{keyword}
+use Rattle.commands.specs.Mover as movers
 use Rattle.shell_words.specs.declared.keyword.Keyword.{Keyword}
 use Rattle.shell_words.specs.declared.keyword.Keyword.TheVariants as key
 
 -- the bytes of a word
 abbrev pub spelled : Keyword → List ℕ
 spelled (key.Change verb) = keyword verb
+spelled (key.Move mover) = movers.keyword mover
+spelled (key.Mark mover) = movers.mark mover
 spelled key.Edit = codes "edit"
 spelled key.Up = codes "up"
 spelled key.Top = codes "top"
@@ -24,12 +27,6 @@ spelled key.Inheritance = codes "inheritance"
 spelled key.Private = codes "private"
 spelled key.Exclusive = codes "exclusive"
 spelled key.System = codes "system"
-spelled key.Rename = codes "rename"
-spelled key.Copy = codes "copy"
-spelled key.Insert = codes "insert"
-spelled key.To = codes "to"
-spelled key.Before = codes "before"
-spelled key.After = codes "after"
 spelled key.Load = codes "load"
 spelled key.Merge = codes "merge"
 spelled key.Override = codes "override"

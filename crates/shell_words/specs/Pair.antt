@@ -1,28 +1,13 @@
 -- Changes that name two statements, on either side of a mark. Junos OS CLI User Guide, on rename, copy and insert.
-use Rattle.std.specs.Prelude.{◌≡◌, ◌<◌, ℕ, List, [], ◌∷◌, ◌++◌, length, map, take, drop, not, true, false}
+use Rattle.std.specs.Prelude.{◌≡◌, ◌<◌, ℕ, List, [], ◌∷◌, ◌++◌, length, map, take, drop, not}
 use Rattle.std.specs.List.{prefix_len}
 use Rattle.commands.specs.declared.command.Op.{Op}
-use Rattle.commands.specs.declared.command.Op.TheVariants as op
+use Rattle.commands.specs.declared.mover.Mover.{Mover}
+use Rattle.commands.specs.Mover.{op_of}
 use Rattle.shell_words.specs.declared.keyword.Keyword.{Keyword}
-use Rattle.shell_words.specs.declared.keyword.Keyword.TheVariants as key
-use Rattle.shell_words.specs.declared.pair.PairChange.{PairChange}
-use Rattle.shell_words.specs.declared.pair.PairChange.TheVariants.{Rename, Copy, InsertBefore, InsertAfter}
+use Rattle.shell_words.specs.declared.keyword.Keyword.TheVariants.{Mark}
 use Rattle.shell_words.specs.Item.{Item}
 use Rattle.shell_words.specs.Form.{is_mark}
-
--- the word between the two statements
-abbrev pub mark_of : PairChange → Keyword
-mark_of Rename = key.To
-mark_of Copy = key.To
-mark_of InsertBefore = key.Before
-mark_of InsertAfter = key.After
-
--- what a change asks of the words before its mark and of those behind it
-abbrev pub op_of : PairChange → List (List ℕ) → List (List ℕ) → Op
-op_of Rename front back = op.Rename front back
-op_of Copy front back = op.Copy front back
-op_of InsertBefore front back = op.Insert front true back
-op_of InsertAfter front back = op.Insert front false back
 
 -- how many tokens stand before the first such mark
 abbrev pub tokens_before : Keyword → List Item → ℕ
@@ -41,9 +26,9 @@ front_words mark items = words_behind_first (take (tokens_before mark items) ite
 abbrev pub back_words : Keyword → List Item → List (List ℕ)
 back_words mark items = words_behind_first (drop (tokens_before mark items) items)
 
--- the change that a line asks
-abbrev pub change_in : PairChange → List Item → Op
-change_in change items = op_of change (front_words (mark_of change) items) (back_words (mark_of change) items)
+-- the change of this kind that a line asks
+abbrev pub change_in : Mover → List Item → Op
+change_in mover items = op_of mover (front_words (Mark mover) items) (back_words (Mark mover) items)
 
 -- there are words on both sides, and together they are these
 pub record AreSides (front back words : List (List ℕ)) : Type 0 where

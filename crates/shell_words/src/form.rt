@@ -4,8 +4,7 @@ ghost use Rattle.std.specs.Prelude.{◌≡◌};
 ghost use Rattle.shell_words.specs.Form.{forms_of, parts_of};
 
 use crate::keyword::Keyword;
-use crate::pair::PairChange;
-use commands::{Form, Verb};
+use commands::{Form, Mover, Verb};
 
 /// Which tokens may stand at a place of a line.
 #[derive(Clone, Copy, Debug, PartialEq, Eq)]
@@ -41,8 +40,8 @@ pub(crate) enum Makes {
     ShowActive(Form),
     Logout,
     Change(Verb),
-    /// A change that names two statements.
-    Pair(PairChange),
+    /// A change of two statements.
+    Move(Mover),
     Edit,
     Up,
     Top,
@@ -83,21 +82,27 @@ impl CommandForm {
     }
 }
 
-/// Which tokens: `Word`, `OpenBracket`, `CloseBracket`, `mark Pipe`, `until Before or After`, `number 1 to 9`.
+/// Which tokens: `Word`, `OpenBracket`, `CloseBracket`, `mark Pipe`, `until Pipe`, `mark of Rename` (the one between its
+/// two statements), `until mark of Rename`, `until mark of InsertBefore or InsertAfter`, `number 1 to 9`.
 macro_rules! symbol {
     (mark $mark:ident) => { Symbol::Mark(Keyword::$mark) };
+    (mark of $mover:ident) => { Symbol::Mark(Keyword::Mark(Mover::$mover)) };
     (until $mark:ident) => { Symbol::Neither(Keyword::$mark, Keyword::$mark) };
-    (until $one:ident or $other:ident) => { Symbol::Neither(Keyword::$one, Keyword::$other) };
+    (until mark of $mover:ident) => { symbol!(until mark of $mover or $mover) };
+    (until mark of $one:ident or $other:ident) => {
+        Symbol::Neither(Keyword::Mark(Mover::$one), Keyword::Mark(Mover::$other))
+    };
     (number $low:literal to $high:literal) => { Symbol::Number($low, $high) };
     ($symbol:ident) => { Symbol::$symbol };
 }
 
-/// A part of a form: a keyword, that of a `verb`, `one` token or `many`.
+/// A part of a form: a keyword, that of a `verb` or of a `mover`, `one` token or `many`.
 macro_rules! part {
     (nothing) => { Part::Nothing };
     (one $($symbol:tt)+) => { Part::One(symbol!($($symbol)+)) };
     (many $($symbol:tt)+) => { Part::Many(symbol!($($symbol)+)) };
     (verb $verb:ident) => { Part::One(Symbol::Keyword(Keyword::Change(Verb::$verb))) };
+    (mover $mover:ident) => { Part::One(Symbol::Keyword(Keyword::Move(Mover::$mover))) };
     ($keyword:ident) => { Part::One(Symbol::Keyword(Keyword::$keyword)) };
 }
 
@@ -163,12 +168,14 @@ static CONFIGURING: [CommandForm; 43] = [
     form!(Makes::Unserved; [Commit] [Comment] [one Word]),
     form!(Makes::Unserved; [Commit] [Comment] [one Word] [AndQuit]),
     form!(Makes::Unserved; [Commit] [AndQuit]),
-    form!(Makes::Pair(PairChange::Rename); [Rename] [one until To] [many until To] [one mark To] [one Word] [many Word]),
-    form!(Makes::Pair(PairChange::Copy); [Copy] [one until To] [many until To] [one mark To] [one Word] [many Word]),
-    form!(Makes::Pair(PairChange::InsertBefore); [Insert] [one until Before or After] [many until Before or After]
-        [one mark Before] [one Word] [many Word]),
-    form!(Makes::Pair(PairChange::InsertAfter); [Insert] [one until Before or After] [many until Before or After]
-        [one mark After] [one Word] [many Word]),
+    form!(Makes::Move(Mover::Rename); [mover Rename] [one until mark of Rename] [many until mark of Rename]
+        [one mark of Rename] [one Word] [many Word]),
+    form!(Makes::Move(Mover::Copy); [mover Copy] [one until mark of Copy] [many until mark of Copy]
+        [one mark of Copy] [one Word] [many Word]),
+    form!(Makes::Move(Mover::InsertBefore); [mover InsertBefore] [one until mark of InsertBefore or InsertAfter]
+        [many until mark of InsertBefore or InsertAfter] [one mark of InsertBefore] [one Word] [many Word]),
+    form!(Makes::Move(Mover::InsertAfter); [mover InsertAfter] [one until mark of InsertBefore or InsertAfter]
+        [many until mark of InsertBefore or InsertAfter] [one mark of InsertAfter] [one Word] [many Word]),
     form!(Makes::Unserved; [Load] [Merge] [Terminal]),
     form!(Makes::Unserved; [Load] [Override] [Terminal]),
     form!(Makes::Unserved; [Load] [Replace] [Terminal]),

@@ -4,13 +4,17 @@ ghost use Rattle.std.specs.Prelude.{◌≡◌};
 ghost use Rattle.shell_words.specs.Keyword.{spelled};
 
 use cfg_lex::Mark;
-use commands::Verb;
+use commands::{Mover, Verb};
 
 /// A word that a command is written with.
 #[derive(Clone, Copy, Debug, PartialEq, Eq)]
 pub(crate) enum Keyword {
     /// The keyword of a kind of change.
     Change(Verb),
+    /// The keyword of a kind of change of two statements.
+    Move(Mover),
+    /// The word between the two statements of such a change.
+    Mark(Mover),
     Edit,
     Up,
     Top,
@@ -26,12 +30,6 @@ pub(crate) enum Keyword {
     Private,
     Exclusive,
     System,
-    Rename,
-    Copy,
-    Insert,
-    To,
-    Before,
-    After,
     Load,
     Merge,
     Override,
@@ -54,6 +52,8 @@ impl Keyword {
     {
         match self {
             Keyword::Change(verb) => verb.keyword(),
+            Keyword::Move(mover) => mover.keyword(),
+            Keyword::Mark(mover) => mover.mark(),
             Keyword::Edit => b"edit",
             Keyword::Up => b"up",
             Keyword::Top => b"top",
@@ -69,12 +69,6 @@ impl Keyword {
             Keyword::Private => b"private",
             Keyword::Exclusive => b"exclusive",
             Keyword::System => b"system",
-            Keyword::Rename => b"rename",
-            Keyword::Copy => b"copy",
-            Keyword::Insert => b"insert",
-            Keyword::To => b"to",
-            Keyword::Before => b"before",
-            Keyword::After => b"after",
             Keyword::Load => b"load",
             Keyword::Merge => b"merge",
             Keyword::Override => b"override",

@@ -1,14 +1,15 @@
 ghost use Rattle.std.specs.Prelude.{◌≡◌, ℕ, List, Bool, Option, None, Result, map};
 ghost use Rattle.std.specs.List.{Contains};
 ghost use Rattle.commands.specs.declared.command.Command.{Command};
+ghost use Rattle.commands.specs.declared.mover.Mover.{Mover};
 ghost use Rattle.cfg_lex.specs.declared.token.Token.{Token};
 ghost use Rattle.cfg_lex.specs.Tokens.{IsCut};
 ghost use Rattle.shell_words.specs.declared.form.CommandForm.{CommandForm};
 ghost use Rattle.shell_words.specs.Form.{Fits, IsIn, forms_of, parts_of};
 ghost use Rattle.shell_words.specs.Item.{Item, item_in};
-ghost use Rattle.shell_words.specs.declared.form.Makes.TheVariants.{Pair};
-ghost use Rattle.shell_words.specs.declared.pair.PairChange.{PairChange};
-ghost use Rattle.shell_words.specs.Pair.{AreSides, back_words, front_words, mark_of};
+ghost use Rattle.shell_words.specs.declared.form.Makes.TheVariants.{Move};
+ghost use Rattle.shell_words.specs.declared.keyword.Keyword.TheVariants.{Mark};
+ghost use Rattle.shell_words.specs.Pair.{AreSides, back_words, front_words};
 ghost use Rattle.shell_words.specs.Reading.{IsReading, asked, command_of};
 
 /// A line has one reading; a line that is in a form is read as what that form makes of it, and each form has such tokens.
@@ -21,9 +22,9 @@ pub fn lines_are_read_in_one_way()
         → IsReading configuring line (asked (command_of form.makes (map (item_in line) tokens) words)) }
     ensures each_form { (configuring : Bool) (form : CommandForm) → Contains (forms_of configuring) form
         → (items : List Item) × (words : List (List ℕ)) × Fits (parts_of form) items words }
-    ensures two_sides { (configuring : Bool) (items : List Item) (form : CommandForm) (words : List (List ℕ)) (change : PairChange)
-        → IsIn configuring items form words → form.makes ≡ Pair change
-        → AreSides (front_words (mark_of change) items) (back_words (mark_of change) items) words }
+    ensures two_sides { (configuring : Bool) (items : List Item) (form : CommandForm) (words : List (List ℕ)) (mover : Mover)
+        → IsIn configuring items form words → form.makes ≡ Move mover
+        → AreSides (front_words (Mark mover) items) (back_words (Mark mover) items) words }
 {
     cfg_lex::texts_are_read_in_one_way();
 }

@@ -9,6 +9,7 @@ ghost use Rattle.shell_words.specs.Walk.{furthest, given};
 use crate::form::{CommandForm, Makes, forms_of};
 use crate::item::{Item, items};
 use crate::number::number_of;
+use crate::pair::change_in;
 use crate::walk::{form_for, furthest, give};
 use cfg_base::{NoMemory, Words};
 use cfg_lex::{LexFault, cut_text};
@@ -72,7 +73,7 @@ fn command_of(
             let words = words_of(alloc, form, items)?;
             Ok(Some(Command::Change(verb.op_of(words))))
         }
-        Makes::Pair(change) => Ok(Some(Command::Change(change.change_in(alloc, items)?))),
+        Makes::Move(mover) => Ok(Some(Command::Change(change_in(alloc, mover, items)?))),
         Makes::Edit => Ok(Some(Command::Edit(words_of(alloc, form, items)?))),
         Makes::Up => Ok(Some(Command::Up(levels_of(&words_of(alloc, form, items)?)))),
         Makes::Top => Ok(Some(Command::Top)),
