@@ -1,5 +1,5 @@
 -- An expansion that inherits nothing, of a configuration without marks: its text.
-use Rattle.std.proofs.Common.{◌≡◌, ℕ, zero, suc, ◌+◌, Bool, true, false, ◌&&◌, cond, T, List, [], ◌∷◌, ◌++◌, filter, map, refl, sym, ap, subst, ◌∙◌, Option, Some, None, is_some, codes, if◌then◌else◌}
+use Rattle.std.proofs.Common.{◌≡◌, ℕ, zero, suc, ◌+◌, Bool, true, false, ◌&&◌, cond, T, List, [], ◌∷◌, ◌++◌, filter, map, refl, sym, ap, subst, ◌∙◌, Option, Some, None, is_some, if◌then◌else◌}
 use Rattle.std.specs.FinMap as finite
 use Rattle.std.specs.FinMap.Entries.{find, is_sorted, below_all, same_entries}
 use Rattle.std.specs.List.{flat_map}
@@ -18,7 +18,8 @@ use Rattle.cfg_tree.specs.Children.{is_child, row_steps, order_in, children_at, 
 use Rattle.cfg_tree.specs.Full.{Expansion}
 use Rattle.cfg_tree.specs.OwnWords.{own_words}
 use Rattle.cfg_tree.proofs.MapLemmas.{path_same}
-use Rattle.curly_print.specs.Printed.{ended, spaces, statement_text, text_at, text_below, printed, value_text, words_line}
+use Rattle.cfg_lex.specs.declared.mark.Mark.TheVariants.{Inactive, Protect}
+use Rattle.curly_print.specs.Printed.{ended, mark_text, spaces, statement_text, text_at, text_below, printed, value_text, words_line}
 use Rattle.curly_print.specs.Inherited.{full_text_at, given_below, given_children_at, given_order, given_steps, given_text, printed_full}
 use Rattle.curly_print.specs.Inheriting.{given_child_text}
 use Rattle.curly_print.specs.Printing.{child_text}
@@ -88,8 +89,8 @@ order_own (Some value) = refl
 bare_text : (indent : ℕ) (step : Step) (value : Value) (body : List ℕ) → value.inactive ≡ false → value.protected ≡ false
     → given_text indent step (Some (own_given value)) body ≡ statement_text indent step (Some value) body
 bare_text indent step value body inactive protected =
-    ap (λ (b : Bool). line ((if b then codes "inactive: " else []) ++ [])) (sym inactive)
-    ∙ ap (λ (b : Bool). line ((if value.inactive then codes "inactive: " else []) ++ (if b then codes "protect: " else []))) (sym protected)
+    ap (λ (b : Bool). line ((if b then mark_text Inactive else []) ++ [])) (sym inactive)
+    ∙ ap (λ (b : Bool). line ((if value.inactive then mark_text Inactive else []) ++ (if b then mark_text Protect else []))) (sym protected)
   where
     line : List ℕ → List ℕ
     line marks = spaces indent ++ ((marks ++ (words_line (own_words (step ∷ [])) ++ value_text value.words)) ++ ended indent body)

@@ -6,6 +6,9 @@ use Rattle.std.specs.FinMap as map
 use Rattle.cfg_base.specs.declared.path.Step.{Step}
 use Rattle.cfg_base.specs.declared.path.TheConstants.{MAX_STEPS}
 use Rattle.cfg_base.specs.declared.value.Value.{Value}
+use Rattle.cfg_lex.specs.declared.mark.Mark.{Mark}
+use Rattle.cfg_lex.specs.declared.mark.Mark.TheVariants.{Inactive, Protect}
+use Rattle.cfg_lex.specs.Mark.{mark_word}
 use Rattle.cfg_lex.specs.Printed.{printed_word}
 use Rattle.cfg_schema.specs.declared.place.Place.{Place}
 use Rattle.cfg_schema.specs.Profile.{row_of, is_level}
@@ -14,10 +17,13 @@ use Rattle.cfg_tree.specs.Statements.{Statements, last_of}
 use Rattle.cfg_tree.specs.Children.{children_of}
 use Rattle.cfg_tree.specs.OwnWords.{own_words}
 
+-- a mark with a blank behind it
+abbrev pub mark_text : Mark → List ℕ
+mark_text mark = mark_word mark ++ 32 ∷ []
+
 -- the marks of a statement, each with a blank behind it
 abbrev pub marks_of : Value → List ℕ
-marks_of value =
-    (if value.inactive then codes "inactive: " else []) ++ (if value.protected then codes "protect: " else [])
+marks_of value = (if value.inactive then mark_text Inactive else []) ++ (if value.protected then mark_text Protect else [])
 
 -- words behind one another, a blank between two of them
 abbrev pub words_line : List (List ℕ) → List ℕ

@@ -2,12 +2,12 @@
 
 ghost use Rattle.std.specs.Prelude.{◌≡◌, [], ◌∷◌, ◌++◌, OnOk, if◌then◌else◌};
 ghost use Rattle.cfg_tree.specs.OwnWords.{own_words, word_if_any};
-ghost use Rattle.curly_print.specs.Printed.{line_of, marks_of, spaces, value_text, words_line};
+ghost use Rattle.curly_print.specs.Printed.{line_of, mark_text, marks_of, spaces, value_text, words_line};
 ghost use Rattle.curly_print.specs.Printing.{blank_words};
 ghost use Rattle.curly_print.specs.Inherited.{unmarked_line};
 
 use cfg_base::{NoMemory, Step, Value, WordList};
-use cfg_lex::push_word;
+use cfg_lex::{Mark, push_word};
 
 /// Puts bytes at the end of a text.
 pub(crate) fn push_bytes(text: &mut Vec<u8>, bytes: &[u8]) -> Result<(), NoMemory>
@@ -29,11 +29,13 @@ pub(crate) fn push_spaces(text: &mut Vec<u8>, count: usize) -> Result<(), NoMemo
     Ok(())
 }
 
-fn push_if(text: &mut Vec<u8>, there: bool, bytes: &[u8]) -> Result<(), NoMemory>
-    ensures { OnOk result (text.new.items ≡ text.old.items ++ (if there then bytes.now else [])) }
+/// Puts a mark at the end of a text, with a blank behind it, where it is set.
+fn push_mark(text: &mut Vec<u8>, there: bool, mark: Mark) -> Result<(), NoMemory>
+    ensures { OnOk result (text.new.items ≡ text.old.items ++ (if there then mark_text mark else [])) }
 {
     if there {
-        push_bytes(text, bytes)
+        push_bytes(text, mark.word())?;
+        push_bytes(text, b" ".as_slice())
     } else {
         Ok(())
     }
@@ -42,8 +44,8 @@ fn push_if(text: &mut Vec<u8>, there: bool, bytes: &[u8]) -> Result<(), NoMemory
 fn push_marks(text: &mut Vec<u8>, value: &Value) -> Result<(), NoMemory>
     ensures { OnOk result (text.new.items ≡ text.old.items ++ marks_of value.now) }
 {
-    push_if(text, value.inactive, b"inactive: ".as_slice())?;
-    push_if(text, value.protected, b"protect: ".as_slice())
+    push_mark(text, value.inactive, Mark::Inactive)?;
+    push_mark(text, value.protected, Mark::Protect)
 }
 
 fn push_if_any(text: &mut Vec<u8>, word: &[u8]) -> Result<(), NoMemory>

@@ -6,17 +6,19 @@ use Rattle.cfg_lex.specs.declared.token.TokenKind.TheVariants as kind
 use Rattle.cfg_lex.specs.Lexed.{Lexed}
 use Rattle.cfg_tree.specs.OwnWords.{own_words}
 use Rattle.curly_grammar.specs.Grammar.{sign}
-use Rattle.curly_print.specs.Printed.{marks_of, words_line, value_text, line_of, ended, statement_text}
+use Rattle.cfg_lex.specs.declared.mark.Mark.TheVariants.{Inactive, Protect}
+use Rattle.cfg_lex.specs.Mark.{mark_word}
+use Rattle.curly_print.specs.Printed.{mark_text, marks_of, words_line, value_text, line_of, ended, statement_text}
 use Rattle.curly_print.specs.Printing.{blank_words}
 use Rattle.curly_text.proofs.LexedLemmas.{Closed, Open, Stops, Shuts, closed_closed, closed_open, open_open, open_closed, nothing_made, space_made, sign_made, bare_made, lexed_word, word_made, spaces_made}
 use Rattle.curly_text.proofs.PrintableLemmas.{AllPrintable}
 
 -- the tokens of the marks of a value
 abbrev pub inactive_mark : Lexed
-inactive_mark = record { kind = kind.Bare; word = codes "inactive:" }
+inactive_mark = record { kind = kind.Bare; word = mark_word Inactive }
 
 abbrev pub protect_mark : Lexed
-protect_mark = record { kind = kind.Bare; word = codes "protect:" }
+protect_mark = record { kind = kind.Bare; word = mark_word Protect }
 
 abbrev pub mark_if : Bool → Lexed → List Lexed
 mark_if there mark = (if there then mark ∷ [] else [])
@@ -24,12 +26,12 @@ mark_if there mark = (if there then mark ∷ [] else [])
 abbrev pub mark_tokens : Value → List Lexed
 mark_tokens value = mark_if value.inactive inactive_mark ++ mark_if value.protected protect_mark
 
-inactive_made : (there : Bool) → Closed (if there then codes "inactive: " else []) (mark_if there inactive_mark)
-inactive_made true = open_closed {t = inactive_mark ∷ []} {u = []} (bare_made (codes "inactive:") (omega arith) refl (omega arith)) (space_made 32 refl) (λ rest. refl)
+inactive_made : (there : Bool) → Closed (if there then mark_text Inactive else []) (mark_if there inactive_mark)
+inactive_made true = open_closed {t = inactive_mark ∷ []} {u = []} (bare_made (mark_word Inactive) (omega arith) refl (omega arith)) (space_made 32 refl) (λ rest. refl)
 inactive_made false = nothing_made
 
-protect_made : (there : Bool) → Closed (if there then codes "protect: " else []) (mark_if there protect_mark)
-protect_made true = open_closed {t = protect_mark ∷ []} {u = []} (bare_made (codes "protect:") (omega arith) refl (omega arith)) (space_made 32 refl) (λ rest. refl)
+protect_made : (there : Bool) → Closed (if there then mark_text Protect else []) (mark_if there protect_mark)
+protect_made true = open_closed {t = protect_mark ∷ []} {u = []} (bare_made (mark_word Protect) (omega arith) refl (omega arith)) (space_made 32 refl) (λ rest. refl)
 protect_made false = nothing_made
 
 marks_made : (value : Value) → Closed (marks_of value) (mark_tokens value)
