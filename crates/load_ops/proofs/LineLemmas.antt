@@ -1,13 +1,15 @@
 -- Changes made in turn.
-use Rattle.std.proofs.Common.{◌≡◌, ℕ, suc, ◌+◌, ◌<◌, Bool, List, [], ◌∷◌, ◌++◌, length, take, drop, get_or, refl, sym, ap, subst, ◌∙◌}
+use Rattle.std.proofs.Common.{◌≡◌, ℕ, suc, ◌+◌, ◌<◌, Bool, List, [], ◌∷◌, ◌++◌, length, take, drop, get_or, refl, sym, ap, subst, ◌∙◌, Result, Ok, Err}
+use Rattle.std.specs.Prelude.{IfOk, IfErr}
 use Rattle.std.proofs.lemmas.List.{take_more, take-append-drop}
 use Rattle.std.proofs.Math.Seq.{drop-cons}
 use Rattle.cfg_tree.specs.Statements.{Statements}
 use Rattle.edit_ops.specs.Answer.{IsChange}
 use Rattle.set_text.specs.declared.op_lines.OpLine.{OpLine}
+use Rattle.set_text.specs.Lines.{AsksFor}
 use Rattle.load_ops.specs.declared.fault.LoadFault.{LoadFault}
 use Rattle.load_ops.specs.declared.fault.LoadFault.TheVariants.{Text, Line, Edit, Protected, TooMany, NoMemory}
-use Rattle.load_ops.specs.Lines.{AreMade}
+use Rattle.load_ops.specs.Lines.{AreMade, IsFirstUnmade, IsLineLoad, IsLineLoadFault}
 use Rattle.load_ops.specs.Parts.{IsOneFault, IsMakingFault}
 
 -- one more
@@ -52,3 +54,22 @@ pub unmade_at : (old next : Statements) (lines : List OpLine) (i : ℕ) (line d 
 unmade_at old next lines i line d fault h e =
     unmade old next lines (take i lines) (drop (suc i) lines) line fault
     (around lines i d h ∙ ap (λ (x : OpLine). take i lines ++ x ∷ drop (suc i) lines) (sym e))
+
+-- the changes that a text asks for are its lines'
+module _ (old : Statements) (text : List ℕ) (lines slice : List OpLine) (asks : AsksFor text lines) (is : slice ≡ lines) where
+  pub lines_made : (answer : Result Statements LoadFault) → IfOk answer (AreMade old slice) → IfOk answer (IsLineLoad old text)
+  lines_made (Ok new) made = record { lines = lines; asks = asks; made = subst (λ (ls : List OpLine). AreMade old ls new) is made }
+  lines_made (Err fault) made = tt
+
+  by_fault : (fault : LoadFault) → IsMakingFault old slice fault → IsLineLoadFault old text fault
+  by_fault (Text f) h = absurd h
+  by_fault (Line f) h = absurd h
+  by_fault (Edit number f) h =
+      record { lines = lines; asks = asks; first = subst (λ (ls : List OpLine). IsFirstUnmade old ls number f) is h }
+  by_fault (Protected path) h = absurd h
+  by_fault TooMany h = absurd h
+  by_fault NoMemory h = tt
+
+  pub lines_unmade : (answer : Result Statements LoadFault) → IfErr answer (IsMakingFault old slice) → IfErr answer (IsLineLoadFault old text)
+  lines_unmade (Ok new) h = tt
+  lines_unmade (Err fault) h = by_fault fault h

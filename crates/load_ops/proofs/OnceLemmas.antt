@@ -21,8 +21,9 @@ use Rattle.set_text.specs.Lines.{AsksFor, lines_in}
 use Rattle.set_text.proofs.OnceLemmas as lines
 use Rattle.load_ops.specs.declared.fault.LoadFault.{LoadFault}
 use Rattle.load_ops.specs.declared.fault.LoadFault.TheVariants.{Text, Line, Edit, Protected, TooMany, NoMemory}
-use Rattle.load_ops.specs.Texts.{without_paths, spares_none, IsMadeOf, Makes, IsTextLoad, IsKept, IsTextLoadFault}
+use Rattle.load_ops.specs.Texts.{spares_none, IsMadeOf, Makes, IsTextLoad, IsKept, IsTextLoadFault}
 use Rattle.load_ops.specs.Lines.{AreMade, IsLineLoad, IsLineLoadFault}
+use Rattle.load_ops.proofs.LeftTreeLemmas.{replacement_once}
 use Rattle.load_ops.specs.Answer.{IsLoaded, IsLoad, IsLoadFault}
 
 one_bool : (P : Type 0) (a b : Bool) → Decides a P → Decides b P → a ≡ b
@@ -35,7 +36,7 @@ made_once : (way : LoadWay) (old said : Statements) (tags : List (List Step)) (o
     → IsMadeOf way old said tags other → one ≡ other
 made_once Merge old said tags one other a b = union_once old said one other a b
 made_once Override old said tags one other a b = a ∙ sym b
-made_once Replace old said tags one other a b = union_once (without_paths old tags) said one other a b
+made_once Replace old said tags one other a b = replacement_once old said one other tags a b
 made_once SetLines old said tags one other a b = absurd a
 
 -- a text makes one map

@@ -98,7 +98,7 @@ middle_found (d ∷ seen) e rest h =
     (flipped d.0 e.0 (middle d.0 seen e rest (first _ _ h)))
     ∙ middle_found seen e rest (second _ _ h)
 
-all_less : (k : List Step) (es : List (Pair Value)) → T (below_all path_cmp k es) → AllByRecursion (λ e. path_cmp k e.0 ≡ Less) es
+pub all_less : (k : List Step) (es : List (Pair Value)) → T (below_all path_cmp k es) → AllByRecursion (λ e. path_cmp k e.0 ≡ Less) es
 all_less k [] h = tt
 all_less k (e ∷ es) h = (is_less _ (first _ _ h), all_less k es (second _ _ h))
 

@@ -1,16 +1,19 @@
 -- What a curly text makes is loaded, or refused for the first cause.
-use Rattle.std.proofs.Common.{◌≡◌, ◌≤◌, ℕ, List, sym, ap, subst, ◌∙◌, Result, Ok, Err}
+use Rattle.std.proofs.Common.{◌≡◌, ◌≤◌, ℕ, List, sym, ap, subst, ◌∙◌, Option, Result, Ok, Err}
 use Rattle.std.specs.Prelude.{IfOk, IfErr}
+use Rattle.std.specs.FinMap as map
 use Rattle.cfg_base.specs.declared.path.Step.{Step}
+use Rattle.cfg_base.specs.declared.value.Value.{Value}
 use Rattle.commands.specs.declared.command.LoadWay.{LoadWay}
 use Rattle.commands.specs.declared.command.LoadWay.TheVariants.{Replace}
 use Rattle.cfg_tree.specs.declared.limit.TheConstants.{MAX_STATEMENTS}
 use Rattle.cfg_tree.specs.Statements.{Statements, size_of}
-use Rattle.cfg_tree.specs.Union.{IsUnion}
+use Rattle.cfg_tree.specs.Union.{value_in_both, IsUnion}
 use Rattle.curly_grammar.specs.Grammar.{Reads}
 use Rattle.load_ops.specs.declared.fault.LoadFault.{LoadFault}
 use Rattle.load_ops.specs.declared.fault.LoadFault.TheVariants.{Text, Line, Edit, Protected, TooMany, NoMemory}
-use Rattle.load_ops.specs.Texts.{without_paths, IsMadeOf, Makes, IsTextLoad, IsTextLoadFault}
+use Rattle.load_ops.specs.Left.{IsLeft}
+use Rattle.load_ops.specs.Texts.{IsMadeOf, Makes, IsTextLoad, IsTextLoadFault}
 use Rattle.load_ops.specs.Parts.{IsAllowed, IsRefusal}
 
 module _ (way : LoadWay) (old : Statements) (text : List ℕ) (said : Statements) (tags : List (List Step)) (made : Statements)
@@ -35,7 +38,8 @@ module _ (way : LoadWay) (old : Statements) (text : List ℕ) (said : Statements
   refused (Err fault) h = by_fault fault h
 
 -- the union of what is left and of what the text says
-pub replaced_by : (old said made left : Statements) (tags paths : List (List Step)) → left ≡ without_paths old paths → paths ≡ tags → IsUnion left said made
+pub replaced_by : (old said made left : Statements) (tags paths : List (List Step)) → IsLeft old paths left → paths ≡ tags → IsUnion left said made
     → IsMadeOf Replace old said tags made
-replaced_by old said made left tags paths e f u =
-    subst (λ (x : Statements). IsUnion x said made) (e ∙ ap (λ (ps : List (List Step)). without_paths old ps) f) u
+replaced_by old said made left tags paths is same both =
+    subst (λ (ts : List (List Step)). IsMadeOf Replace old said ts made) same
+    (λ q. both q ∙ ap (λ (o : Option Value). value_in_both q o (map.get said q)) (is q))

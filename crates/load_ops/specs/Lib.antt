@@ -1,3 +1,4 @@
+pub mod Left
 pub mod Texts
 pub mod Lines
 pub mod Answer

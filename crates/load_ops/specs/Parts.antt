@@ -1,5 +1,7 @@
 -- What the parts of a load promise.
-use Rattle.std.specs.Prelude.{◌≡◌, ◌≢◌, ◌≤◌, ◌<◌, ℕ, cond, List, [], ◌∷◌, Result, Ok, Err}
+use Rattle.std.specs.Prelude.{◌≡◌, ◌≢◌, ◌≤◌, ◌<◌, ℕ, Bool, false, cond, List, [], ◌∷◌, Option, Some, None, Result, Ok, Err}
+use Rattle.std.specs.BTreeSet.{BTreeSet, contains}
+use Rattle.cfg_base.specs.Order.{path_cmp}
 use Rattle.cfg_base.specs.declared.path.Step.{Step}
 use Rattle.cfg_base.specs.declared.value.Value.{Value}
 use Rattle.cfg_entries.specs.EntryMap.{Pair}
@@ -13,6 +15,7 @@ use Rattle.edit_ops.specs.Block.{IsFree, IsBlockedBy}
 use Rattle.set_text.specs.declared.op_lines.OpLine.{OpLine}
 use Rattle.load_ops.specs.declared.fault.LoadFault.{LoadFault}
 use Rattle.load_ops.specs.declared.fault.LoadFault.TheVariants.{Text, Edit, Protected, TooMany, NoMemory}
+use Rattle.load_ops.specs.Left.{is_tagged, is_replaced, value_left}
 use Rattle.load_ops.specs.Texts.{spares_none, IsTextLoad, IsTextLoadFault}
 use Rattle.load_ops.specs.Lines.{IsFirstUnmade}
 
@@ -20,6 +23,20 @@ use Rattle.load_ops.specs.Lines.{IsFirstUnmade}
 abbrev pub front_below : List Step → List (Pair Value) → List (Pair Value)
 front_below path [] = []
 front_below path (e ∷ es) = cond (is_below path e.0) (e ∷ front_below path es) []
+
+-- the set has exactly the tagged paths
+abbrev pub Knows : List (List Step) → BTreeSet (List Step) → Type 0
+Knows tags known = (path : List Step) → contains path_cmp known path ≡ is_tagged tags path
+
+-- a path stands at another one or below it, where there is one
+abbrev pub is_covered : Option (List Step) → List Step → Bool
+is_covered None path = false
+is_covered (Some above) path = is_below above path
+
+-- the entries that are left, each with what is left of its value
+abbrev pub entries_left : List (List Step) → List (Pair Value) → List (Pair Value)
+entries_left tags [] = []
+entries_left tags (e ∷ es) = cond (is_replaced tags e.0) (entries_left tags es) ((e.0, value_left tags e.0 e.1) ∷ entries_left tags es)
 
 -- a text isn't read
 abbrev pub IsReadFault : List ℕ → LoadFault → Type 0

@@ -1,34 +1,24 @@
 -- What a curly text makes of the statements that are there. Junos OS CLI User Guide, on load merge, load override and load replace, and on
 -- protected statements; that merging goes path by path is this project's own.
-use Rattle.std.specs.Prelude.{◌≡◌, ◌≤◌, ◌<◌, ℕ, Bool, List, [], ◌∷◌}
-use Rattle.std.specs.List.{list_any}
+use Rattle.std.specs.Prelude.{◌≡◌, ◌≤◌, ◌<◌, ℕ, List}
 use Rattle.cfg_base.specs.declared.path.Step.{Step}
 use Rattle.commands.specs.declared.command.LoadWay.{LoadWay}
 use Rattle.commands.specs.declared.command.LoadWay.TheVariants.{Merge, Override, Replace, SetLines}
 use Rattle.cfg_tree.specs.declared.limit.TheConstants.{MAX_STATEMENTS}
-use Rattle.cfg_tree.specs.Statements.{Statements, size_of, is_below}
-use Rattle.cfg_tree.specs.Change.{removed}
+use Rattle.cfg_tree.specs.Statements.{Statements, size_of}
 use Rattle.cfg_tree.specs.Union.{IsUnion}
 use Rattle.curly_grammar.specs.Grammar.{Reads}
 use Rattle.curly_grammar.specs.Fault.{IsLeftmostFault}
 use Rattle.edit_ops.specs.Block.{IsFree, IsBlockedBy}
+use Rattle.load_ops.specs.Left.{IsReplacement}
 use Rattle.load_ops.specs.declared.fault.LoadFault.{LoadFault}
 use Rattle.load_ops.specs.declared.fault.LoadFault.TheVariants.{Text, Line, Edit, Protected, TooMany, NoMemory}
-
--- the statements without these paths and all below them
-abbrev pub without_paths : Statements → List (List Step) → Statements
-without_paths m [] = m
-without_paths m (path ∷ paths) = without_paths (removed m path) paths
-
--- a path is one of these, or below one of them
-abbrev pub is_replaced : List (List Step) → List Step → Bool
-is_replaced paths path = list_any (λ above. is_below above path) paths
 
 -- what the statements of a text, and the paths that it tags `replace:`, make of those that are there
 abbrev pub IsMadeOf : LoadWay → Statements → Statements → List (List Step) → Statements → Type 0
 IsMadeOf Merge old said tags new = IsUnion old said new
 IsMadeOf Override old said tags new = new ≡ said
-IsMadeOf Replace old said tags new = IsUnion (without_paths old tags) said new
+IsMadeOf Replace old said tags new = IsReplacement old said tags new
 IsMadeOf SetLines old said tags new = ⊥
 
 -- what a text makes of the statements that are there, if nothing keeps them

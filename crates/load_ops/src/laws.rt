@@ -1,13 +1,14 @@
 //! A load has one answer, and what is replaced goes.
 
-ghost use Rattle.std.specs.Prelude.{◌≡◌, ◌≢◌, ◌&&◌, ℕ, Bool, not, is_some, List};
+ghost use Rattle.std.specs.Prelude.{◌≡◌, ◌≢◌, ◌&&◌, ℕ, Bool, not, is_some, List, []};
 ghost use Rattle.std.specs.FinMap as map;
 ghost use Rattle.cfg_base.specs.declared.path.Step.{Step};
 ghost use Rattle.commands.specs.declared.command.LoadWay.{LoadWay};
 ghost use Rattle.cfg_tree.specs.Statements.{Statements};
+ghost use Rattle.cfg_tree.specs.Union.{IsUnion};
 ghost use Rattle.load_ops.specs.declared.fault.LoadFault.{LoadFault};
 ghost use Rattle.load_ops.specs.declared.fault.LoadFault.TheVariants.{NoMemory};
-ghost use Rattle.load_ops.specs.Texts.{without_paths, is_replaced};
+ghost use Rattle.load_ops.specs.Left.{is_replaced, IsLeft, IsReplacement};
 ghost use Rattle.load_ops.specs.Answer.{IsLoad, IsLoadFault};
 
 /// A load has one answer, but for want of memory: one map and one "changed or not", or one refusal.
@@ -20,8 +21,11 @@ pub fn loads_have_one_answer()
         → IsLoad way old text new told → IsLoadFault way old text fault → fault ≡ NoMemory }
 {}
 
-/// Once paths are gone, exactly the statements are left that are at none of them and below none.
+/// What is left once tagged paths are gone: one map, with exactly the statements that are at none of them and below none;
+/// where none is tagged, what the text says is joined to all that is there.
 pub fn replaced_statements_go()
-    ensures { (m : Statements) (paths : List (List Step)) (path : List Step)
-        → is_some (map.get (without_paths m paths) path) ≡ (is_some (map.get m path) && not (is_replaced paths path)) }
+    ensures once { (m one other : Statements) (tags : List (List Step)) → IsLeft m tags one → IsLeft m tags other → one ≡ other }
+    ensures left { (m left : Statements) (tags : List (List Step)) (path : List Step) → IsLeft m tags left
+        → is_some (map.get left path) ≡ (is_some (map.get m path) && not (is_replaced tags path)) }
+    ensures untagged { (old said new : Statements) → IsReplacement old said [] new → IsUnion old said new }
 {}

@@ -10,9 +10,11 @@
 mod blocked;
 mod fault;
 mod laws;
+mod left;
 mod lines;
 mod loading;
 mod same;
+mod tags;
 mod texts;
 
 pub use fault::LoadFault;

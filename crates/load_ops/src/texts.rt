@@ -1,16 +1,16 @@
 //! Curly texts, merged, in place of all, or in place of what they tag.
 
-ghost use Rattle.std.specs.Prelude.{◌≡◌, ◌≤◌, OnOk, IfOk, IfErr};
+ghost use Rattle.std.specs.Prelude.{◌≤◌, IfOk, IfErr};
 ghost use Rattle.commands.specs.declared.command.LoadWay.TheVariants.{Merge, Override, Replace};
 ghost use Rattle.cfg_tree.specs.Statements.{size_of};
 ghost use Rattle.cfg_tree.specs.declared.limit.TheConstants.{MAX_STATEMENTS};
 ghost use Rattle.curly_grammar.specs.Grammar.{Reads};
-ghost use Rattle.load_ops.specs.Texts.{without_paths, IsTextLoad, IsTextLoadFault};
+ghost use Rattle.load_ops.specs.Texts.{IsTextLoad, IsTextLoadFault};
 ghost use Rattle.load_ops.specs.Parts.{IsReadFault};
 
 use crate::blocked::allowed;
 use crate::fault::LoadFault;
-use cfg_base::{NoMemory, Path};
+use crate::left::left_of;
 use cfg_tree::{Draft, Tree};
 use curly_grammar::{Marked, TextFault, parse};
 use std::alloc::Global;
@@ -26,17 +26,6 @@ fn read(alloc: Global, text: &[u8]) -> Result<Marked, LoadFault>
         Err(TextFault::NoMemory) => Err(LoadFault::NoMemory),
         Err(fault) => Err(LoadFault::Text(fault)),
     }
-}
-
-/// The statements without these paths and all below them.
-fn without(tree: &Tree, paths: &[Path]) -> Result<Tree, NoMemory>
-    ensures { IfOk result (λ left. left ≡ without_paths tree.now paths.now) }
-{
-    let mut left = tree.copy()?;
-    for path in paths {
-        left.remove(path)?;
-    }
-    Ok(left)
 }
 
 /// The statements that are there with those of a text joined to them.
@@ -68,7 +57,7 @@ pub fn replaced(alloc: Global, tree: &Tree, text: &[u8]) -> Result<Tree, LoadFau
 {
     match read(alloc, text) {
         Ok(marked) => {
-            let left = without(tree, marked.replaced.as_slice())?;
+            let left = left_of(alloc, tree, marked.replaced.as_slice())?;
             allowed(tree, Draft::union(alloc, &left, &marked.tree)?)
         }
         Err(fault) => Err(fault),
