@@ -1,7 +1,7 @@
 //! Calls that read a line of a session. What stands behind the mode and a blank is the line, blanks and all.
 
 use crate::answers::{say, say_flag};
-use crate::commands::say_command;
+use crate::asking::say_command;
 use crate::fault::Fault;
 use crate::words::{Arg, bytes_of, first_and_rest};
 use cfg_lex::is_plain;

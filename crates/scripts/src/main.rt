@@ -13,11 +13,11 @@ use std::thread::Threads;
 use std::{env, fs, io};
 
 mod answers;
+mod asking;
 mod base_calls;
 mod changes;
 mod check_calls;
 mod checking;
-mod commands;
 mod expanding;
 mod fault;
 mod group_calls;

@@ -1,8 +1,8 @@
 //! Runs of the service for one session, over the ends that the stage makes. Its disks and its beat are not used yet.
 
 use crate::answers::{say, say_bytes, say_text};
+use crate::asking::say_command;
 use crate::base_calls::user_of;
-use crate::commands::say_command;
 use crate::fault::Fault;
 use crate::stage::Stage;
 use crate::words::{Arg, words_of};

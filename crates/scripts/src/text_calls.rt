@@ -4,7 +4,7 @@
 ghost use Rattle.cfg_lex.specs.Tokens.{IsPlaced};
 
 use crate::answers::{put_bytes, say, say_path};
-use crate::commands::say_change;
+use crate::asking::say_change;
 use crate::fault::Fault;
 use crate::words::{Arg, small_number};
 use cfg_lex::{LexFault, Token, TokenKind, tokens};
