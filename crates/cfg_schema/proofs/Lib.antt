@@ -4,3 +4,4 @@ pub mod ChildLemmas
 pub mod PlaceLemmas
 pub mod LevelLemmas
 pub mod BegunLemmas
+pub mod SearchLemmas

@@ -3,3 +3,4 @@ pub mod Profile
 pub mod Child
 pub mod Place
 pub mod Facts
+pub mod Query

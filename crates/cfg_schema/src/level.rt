@@ -1,8 +1,10 @@
-ghost use Rattle.std.specs.Prelude.{◌≡◌, ◌==◌, ◌<◌, length};
-ghost use Rattle.cfg_schema.specs.Profile.{is_own, has_rows, level_in, reaches, stands, is_bare, is_fixed, same_word, begins, goes_on, names};
+ghost use Rattle.std.specs.Prelude.{◌≡◌, ◌<◌, length};
+ghost use Rattle.cfg_schema.specs.declared.rows.TheConstants.{ROWS};
+ghost use Rattle.cfg_schema.specs.Profile.{profile, line_at, level_in, reaches, stands, is_bare, is_fixed, same_word, begins, goes_on, names};
 ghost use Rattle.cfg_schema.specs.Keyword.{spelled};
 
 use crate::rows::{GROUP, GROUPS};
+use crate::search::has_rows;
 use crate::table::{Line, Reach};
 use cfg_base::Shape;
 
@@ -17,32 +19,29 @@ pub struct Level {
     pub applies: bool,
 }
 
-fn is_own(line: &Line, inner: u8) -> bool
-    ensures { result ≡ is_own line.now.reach (line.now.under == inner) }
+/// The row below which the rows of a row's level are listed.
+fn inner(lines: &[Line], parent: u8) -> u8
+    requires rows { lines.now ≡ profile }
+    requires parent { parent < length lines.now }
+    ensures same { result ≡ (line_at lines.now parent).inner }
+    ensures within { result < ROWS }
 {
-    match line.reach {
-        Reach::Top | Reach::Everywhere => false,
-        Reach::Within | Reach::Outside => line.under == inner,
-    }
-}
-
-fn has_rows(lines: &[Line], inner: u8) -> bool
-    ensures { result ≡ has_rows lines.now inner }
-{
-    lines.iter().any(|line| is_own(line, inner))
+    lines[parent as usize].inner
 }
 
 /// The level that a row opens.
 pub fn level_in(lines: &[Line], parent: u8, in_group: bool) -> Level
-    requires { parent < length lines.now }
-    ensures { result ≡ level_in lines.now parent in_group }
+    requires rows { lines.now ≡ profile }
+    requires parent { parent < length lines.now }
+    ensures level { result ≡ level_in lines.now parent in_group }
+    ensures within { result.inner < ROWS }
 {
-    let inner = lines[parent as usize].inner;
+    let inner = inner(lines, parent);
     let grouped = in_group || parent == GROUPS || parent == GROUP;
     Level {
         inner,
         grouped,
-        applies: !grouped && has_rows(lines, inner),
+        applies: !grouped && has_rows(inner),
     }
 }
 

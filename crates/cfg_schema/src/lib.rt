@@ -14,7 +14,9 @@ mod level;
 mod list;
 mod lookup;
 mod place;
+mod query;
 mod rows;
+mod search;
 mod table;
 
 pub use answer::Child;

@@ -1,35 +1,46 @@
-ghost use Rattle.std.specs.Prelude.{◌≡◌, ◌≤◌, length, IfOk, position, ◌&&◌, map, filter};
+ghost use Rattle.std.specs.Prelude.{◌≡◌, ◌<◌, length, IfOk, position, ◌&&◌, map, filter};
 ghost use Rattle.cfg_schema.specs.Profile.{profile, row_of, head_of, name_of, begins, goes_on, names, rows_below};
 ghost use Rattle.cfg_schema.specs.Child.{child_in, child_of, Begins};
 ghost use Rattle.cfg_schema.specs.declared.rows.TheConstants.{ROWS};
 
 use crate::answer::Child;
-use crate::level::{Level, goes_on, level_in};
+use crate::level::{Level, level_in};
+use crate::query::Query;
 use crate::rows::{Row, RowId};
+use crate::search::first_row;
 use crate::table::{Line, lines};
 
 fn fitting(lines: &[Line], level: &Level, word: &[u8], next: &[u8]) -> Option<usize>
+    requires rows { lines.now ≡ profile }
+    requires number { length lines.now ≡ ROWS }
+    requires within { level.now.inner < ROWS }
     ensures { result ≡ position (λ line. begins level.now word.now line && goes_on next.now line) lines.now }
 {
-    lines
-        .iter()
-        .position(|line| level.begins(word, line) && goes_on(next, line))
+    first_row(lines, level, &Query::Words(word, next))
 }
 
 fn with_head(lines: &[Line], level: &Level, word: &[u8]) -> Option<usize>
+    requires rows { lines.now ≡ profile }
+    requires number { length lines.now ≡ ROWS }
+    requires within { level.now.inner < ROWS }
     ensures { result ≡ position (begins level.now word.now) lines.now }
 {
-    lines.iter().position(|line| level.begins(word, line))
+    first_row(lines, level, &Query::Head(word))
 }
 
 fn bare(lines: &[Line], level: &Level) -> Option<usize>
+    requires rows { lines.now ≡ profile }
+    requires number { length lines.now ≡ ROWS }
+    requires within { level.now.inner < ROWS }
     ensures { result ≡ position (names level.now) lines.now }
 {
-    lines.iter().position(|line| level.names(line))
+    first_row(lines, level, &Query::Name)
 }
 
 fn child_in(lines: &[Line], level: &Level, word: &[u8], next: &[u8]) -> Child
-    requires { length lines.now ≡ ROWS }
+    requires rows { lines.now ≡ profile }
+    requires number { length lines.now ≡ ROWS }
+    requires within { level.now.inner < ROWS }
     ensures { result ≡ child_in lines.now level.now word.now next.now }
 {
     if let Some(place) = fitting(lines, level, word, next) {

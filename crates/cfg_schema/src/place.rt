@@ -1,13 +1,14 @@
-ghost use Rattle.std.specs.Prelude.{◌≡◌, ◌∷◌, [], length, ◌&&◌, position};
+ghost use Rattle.std.specs.Prelude.{◌≡◌, ◌<◌, ◌∷◌, [], length, ◌&&◌, position};
 ghost use Rattle.cfg_schema.specs.declared.rows.TheConstants.{ROWS};
-ghost use Rattle.cfg_schema.specs.Keyword.{spelled};
-ghost use Rattle.cfg_schema.specs.Profile.{profile, stands, same_word};
-ghost use Rattle.cfg_schema.specs.Place.{has_words, fits, top_place, entered, entered_by, place_after, place_from, place_of, ordered_row};
+ghost use Rattle.cfg_schema.specs.Profile.{profile, stands};
+ghost use Rattle.cfg_schema.specs.Place.{fits, top_place, entered, entered_by, place_after, place_from, place_of, ordered_row};
 
 use crate::level::{Level, level_in};
+use crate::query::Query;
 use crate::rows::{GROUP, RowId};
+use crate::search::first_row;
 use crate::table::{Line, lines};
-use cfg_base::{Shape, Step};
+use cfg_base::Step;
 
 /// The row that a path follows, and whether what stands below it is inside a group.
 #[derive(Clone, Copy, Debug, PartialEq, Eq)]
@@ -16,43 +17,28 @@ pub struct Place {
     pub in_group: bool,
 }
 
-fn has_words(line: &Line, step: &Step) -> bool
-    ensures { result ≡ has_words line.now.shape (spelled line.now.head) (spelled line.now.name) step.now }
-{
-    let head = step.head.as_bytes();
-    let name = step.name.as_bytes();
-    match line.shape {
-        Shape::Bare => head.is_empty(),
-        Shape::Keyed => line.head.bytes() == head,
-        Shape::Fixed => line.head.bytes() == head && line.name.bytes() == name,
-        Shape::Container | Shape::Leaf | Shape::Flag | Shape::Many => {
-            line.head.bytes() == head && name.is_empty()
-        }
-    }
-}
-
-fn fits(level: &Level, step: &Step, line: &Line) -> bool
-    ensures { result ≡ fits level.now step.now line.now }
-{
-    level.takes(line) && has_words(line, step)
-}
-
 fn fitting(lines: &[Line], level: &Level, step: &Step) -> Option<usize>
+    requires rows { lines.now ≡ profile }
+    requires number { length lines.now ≡ ROWS }
+    requires within { level.now.inner < ROWS }
     ensures { result ≡ position (fits level.now step.now) lines.now }
 {
-    lines.iter().position(|line| fits(level, step, line))
+    first_row(lines, level, &Query::Step(step))
 }
 
 fn ordered(lines: &[Line], level: &Level) -> Option<usize>
+    requires rows { lines.now ≡ profile }
+    requires number { length lines.now ≡ ROWS }
+    requires within { level.now.inner < ROWS }
     ensures { result ≡ position (λ line. stands level.now line && line.ordered) lines.now }
 {
-    lines
-        .iter()
-        .position(|line| level.takes(line) && line.ordered)
+    first_row(lines, level, &Query::Ordered)
 }
 
 fn ordered_in(lines: &[Line], level: &Level) -> Option<RowId>
-    requires { length lines.now ≡ ROWS }
+    requires rows { lines.now ≡ profile }
+    requires number { length lines.now ≡ ROWS }
+    requires within { level.now.inner < ROWS }
     ensures { result ≡ position (λ line. stands level.now line && line.ordered) lines.now }
 {
     match ordered(lines, level) {
@@ -83,7 +69,9 @@ impl Place {
     }
 
     fn after_at(&self, lines: &[Line], level: &Level, step: &Step) -> Option<Place>
-        requires { length lines.now ≡ ROWS }
+        requires rows { lines.now ≡ profile }
+        requires number { length lines.now ≡ ROWS }
+        requires within { level.now.inner < ROWS }
         ensures { result ≡ entered_by self.now (position (fits level.now step.now) lines.now) }
     {
         match fitting(lines, level, step) {

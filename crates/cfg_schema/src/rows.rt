@@ -13,6 +13,12 @@ pub const GROUPS: u8 = 2;
 /// The row of a group's name.
 pub const GROUP: u8 = 3;
 
+/// The row `apply-groups`.
+pub const APPLY_GROUPS: u8 = 4;
+
+/// The row `apply-groups-except`, behind it.
+pub const APPLY_GROUPS_EXCEPT: u8 = 5;
+
 /// The number of a row of the profile, or 0 for the top.
 #[derive(Clone, Copy, Debug, PartialEq, Eq)]
 pub struct RowId(u8);
