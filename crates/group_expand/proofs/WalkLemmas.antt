@@ -1,9 +1,11 @@
 -- A walk over the runs of a level, and the names that are inherited there.
-use Rattle.std.proofs.Common.{◌≡◌, ℕ, ◌<◌, Bool, true, false, cond, List, [], ◌∷◌, ◌++◌, length, filter, map, refl, sym, ap, ◌∙◌, arith, append_assoc}
+use Rattle.std.proofs.Common.{◌≡◌, ℕ, ◌<◌, Bool, true, false, cond, List, [], ◌∷◌, ◌++◌, ◌==◌, eqb-true, length, filter, map, Option, Some, None, refl, sym, ap, ◌∙◌, arith, append_assoc}
+use Rattle.cfg_base.specs.Words.{lists}
 use Rattle.cfg_base.specs.declared.path.Step.{Step}
 use Rattle.cfg_tree.specs.Statements.{no_step}
 use Rattle.group_expand.specs.Offer.{Offer, is_for}
-use Rattle.group_expand.specs.Runs.{first_step, steps_of, is_inherited, name_of}
+use Rattle.group_expand.specs.Runs.{first_step, steps_of, is_inherited, name_of, order_if, order_for}
+use Rattle.group_expand.specs.Node.{Node}
 use Rattle.group_expand.proofs.NodeLemmas.{append_nothing}
 use Rattle.group_expand.proofs.StepsLemmas.{IsRunStep}
 
@@ -35,3 +37,24 @@ module _ (head : List ℕ) (level : List Offer) where
   pub names_end : (left : List Offer) (now all : List (List ℕ)) → length left ≡ 0 → now ++ names_left left ≡ all → now ≡ all
   names_end [] now all l e = sym (append_nothing now) ∙ e
   names_end (o ∷ os) now all l e = absurd (omega (arith, l))
+
+-- where nothing stands below a path, it has no order
+none_listed : (names : List (List ℕ)) → filter (lists []) names ++ [] ≡ []
+none_listed [] = refl
+none_listed (name ∷ names) = none_listed names
+
+nothing_ordered : (head : Option (List ℕ)) (own : Option Node) → order_for head own [] [] ≡ []
+nothing_ordered None own = refl
+nothing_ordered (Some head) own = none_listed (order_if own)
+
+empty : {X : Type 0} (xs : List X) → true ≡ (length xs == 0) → xs ≡ []
+empty [] h = refl
+empty (x ∷ xs) h = let e = eqb-true (length (x ∷ xs)) 0 (sym h) in absurd (omega (arith, e))
+
+pub no_order : (head : Option (List ℕ)) (own : Option Node) (children : List Node) (level : List Offer) (order : List (List ℕ))
+    → order ≡ [] → true ≡ (length children == 0) → true ≡ (length level == 0) → order ≡ order_for head own children level
+no_order head own children level order e f g =
+    e
+    ∙ sym (nothing_ordered head own)
+    ∙ ap (λ (ns : List Node). order_for head own ns []) (sym (empty children f))
+    ∙ ap (order_for head own children) (sym (empty level g))

@@ -133,8 +133,8 @@ fn order_with(
     Ok(order)
 }
 
-/// The order of a level.
-pub fn order(
+/// The order of a level by the row of its path.
+fn order_by_row(
     alloc: Global,
     path: &Path,
     own: Option<&Node<'_>>,
@@ -148,4 +148,22 @@ pub fn order(
         None => Ok(WordList::new(alloc)),
         Some(head) => order_with(alloc, head, own, children, level),
     }
+}
+
+/// The order of a level.
+pub fn order(
+    alloc: Global,
+    path: &Path,
+    own: Option<&Node<'_>>,
+    children: &[Node<'_>],
+    level: &[Offer<'_>],
+) -> Result<WordList, NoMemory>
+    requires { Climbs level.now }
+    ensures { IfOk result (λ order. order ≡ order_for (ordered_head (place_of path.now)) (option_copied own.entry) children.now level.now) }
+{
+    // Where nothing stands below, the row doesn't matter.
+    if children.is_empty() && level.is_empty() {
+        return Ok(WordList::new(alloc));
+    }
+    order_by_row(alloc, path, own, children, level)
 }
