@@ -10,3 +10,4 @@ pub mod RepeatLemmas
 pub mod UnitLemmas
 pub mod NothingLemmas
 pub mod RowLemmas
+pub mod StartLemmas

@@ -1,12 +1,17 @@
 //! The rules that each statement of the expansion meets by itself.
 
-ghost use Rattle.std.specs.Prelude.{◌≡◌, IfOk, MatchOption};
+ghost use Rattle.std.specs.Prelude.{◌≡◌, ◌<◌, ◌∷◌, [], filter, IfOk, MatchOption};
+ghost use Rattle.std.specs.Ordering.{is_le};
 ghost use Rattle.std.specs.FinMap as map;
 ghost use Rattle.commit_check.specs.Least.{Nowhere, IsLeast};
 ghost use Rattle.commit_check.specs.Rules.{breaks, BreaksAt};
-ghost use Rattle.commit_check.specs.First.{first_of};
+ghost use Rattle.cfg_base.specs.Order.{path_cmp};
+ghost use Rattle.cfg_schema.specs.declared.rows.TheConstants.{ROWS};
+ghost use Rattle.commit_check.specs.Kinds.{plain};
+ghost use Rattle.commit_check.specs.First.{first_of, top_row};
 
 use crate::interfaces::lacks_tagging;
+use crate::lookup::{below, plain};
 use crate::network::has_stray_bits;
 use crate::peers::lacks_peer_as;
 use crate::policies::{names_no_list, names_no_policy};
@@ -41,17 +46,52 @@ fn breaks(
     }
 }
 
-/// The first path at which a statement breaks a rule.
-fn first_breach(alloc: Global, rule: StatementRule, full: &Full) -> Result<Option<Path>, NoMemory>
-    ensures { IfOk result (λ found. found ≡ first_of (λ e. breaks rule full.now e.0 e.1.words) (map.entries full.now)) }
+/// The row at the top below which all statements stand that can break a rule.
+fn top_row(rule: StatementRule) -> u8
+    ensures row { result ≡ top_row rule }
+    ensures within { result < ROWS }
 {
-    let mut left = full.walk();
+    match rule {
+        StatementRule::UserClass | StatementRule::KnownClass => 6,
+        StatementRule::VlanTagging => 30,
+        StatementRule::OneWay | StatementRule::Network => 43,
+        StatementRule::PeerAs | StatementRule::Policies | StatementRule::Units => 51,
+        StatementRule::PrefixLists => 73,
+    }
+}
+
+/// The path of that row.
+fn top_of(alloc: Global, rule: StatementRule) -> Result<Path, NoMemory>
+    ensures { IfOk result (λ path. path ≡ plain (top_row rule) ∷ []) }
+{
+    below(&Path::top(alloc), plain(alloc, top_row(rule))?)
+}
+
+/// The first path at which a statement breaks a rule, from a path on.
+fn first_from(
+    alloc: Global,
+    rule: StatementRule,
+    full: &Full,
+    start: &Path,
+) -> Result<Option<Path>, NoMemory>
+    ensures { IfOk result (λ found. found ≡ first_of (λ e. breaks rule full.now e.0 e.1.words)
+        (filter (λ e. is_le (path_cmp start.now e.0)) (map.entries full.now))) }
+{
+    let mut left = full.walk_from(start);
     while let Some((path, given)) = left.next() {
         if breaks(alloc, rule, full, path, &given.words)? {
             return Ok(Some(path.clone()?));
         }
     }
     Ok(None)
+}
+
+/// The first path at which a statement breaks a rule.
+fn first_breach(alloc: Global, rule: StatementRule, full: &Full) -> Result<Option<Path>, NoMemory>
+    ensures { IfOk result (λ found. found ≡ first_of (λ e. breaks rule full.now e.0 e.1.words) (map.entries full.now)) }
+{
+    let start = top_of(alloc, rule)?;
+    first_from(alloc, rule, full, &start)
 }
 
 /// The least path at which a statement breaks a rule.

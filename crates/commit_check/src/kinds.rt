@@ -17,16 +17,25 @@ pub fn has_head(step: &Step, row: u8) -> bool
     step.head.as_bytes() == head(RowId::at(usize::from(row)))
 }
 
-/// Whether steps begin as these rows do, one by one.
-pub fn begin_as(steps: &[Step], rows: &[u8]) -> bool
+fn begin_alike(steps: &[Step], rows: &[u8]) -> bool
     requires { AllByRecursion (λ row. row < ROWS) rows.now }
     ensures { result ≡ begin_as rows.now steps.now }
 {
     match (steps, rows) {
         ([], []) => true,
-        ([step, steps @ ..], [row, rows @ ..]) => has_head(step, *row) && begin_as(steps, rows),
+        ([step, steps @ ..], [row, rows @ ..]) => has_head(step, *row) && begin_alike(steps, rows),
         _ => false,
     }
+}
+
+/// Whether steps begin as these rows do, one by one.
+#[tactic(auto, using(crate::proofs::StartLemmas::never_as))]
+pub fn begin_as(steps: &[Step], rows: &[u8]) -> bool
+    requires { AllByRecursion (λ row. row < ROWS) rows.now }
+    ensures { result ≡ begin_as rows.now steps.now }
+{
+    // The steps of most paths are too many or too few, and aren't read.
+    steps.len() == rows.len() && begin_alike(steps, rows)
 }
 
 /// Whether a path is that of a user.
