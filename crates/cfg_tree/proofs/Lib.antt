@@ -37,6 +37,7 @@ mod GatherLemmas
 mod GatheredLemmas
 mod JoinLemmas
 pub mod UnionLemmas
+pub mod ValuesLemmas
 mod ExcessLemmas
 pub mod NamingLemmas
 pub mod LimitLemmas

@@ -121,7 +121,7 @@ not_there None e h = cc
 not_there (Some v) e h = cc
 
 -- a statement that isn't there has no children
-no_child : (m : Statements) (q : List Step) (s : Step) → IsStatementMap m → 0 < length q → map.get m q ≡ None
+pub no_child : (m : Statements) (q : List Step) (s : Step) → IsStatementMap m → 0 < length q → map.get m q ≡ None
     → is_some (map.get m (q ++ s ∷ [])) ≡ false
 no_child m q s statements long none = by_there (is_some (map.get m (q ++ s ∷ []))) refl
   where

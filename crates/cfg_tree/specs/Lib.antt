@@ -7,6 +7,7 @@ pub mod Limit
 pub mod Moving
 pub mod Gather
 pub mod Union
+pub mod Values
 pub mod Children
 pub mod After
 pub mod Resolve

@@ -9,12 +9,13 @@ ghost use Rattle.cfg_entries.specs.EntryMap.{IsOrdered};
 ghost use Rattle.cfg_tree.specs.Shown.{shown};
 ghost use Rattle.cfg_tree.specs.Statements.{Statements, size_of};
 ghost use Rattle.cfg_tree.specs.Gather.{joined_at, gathered_one, gathered};
-ghost use Rattle.cfg_tree.specs.Union.{IsUnion};
+ghost use Rattle.cfg_tree.specs.Union.{IsUnion, IsUnbounded};
+ghost use Rattle.cfg_tree.specs.Values.{with_value, with_values};
 ghost use Rattle.cfg_tree.specs.declared.limit.TheConstants.{MAX_STATEMENTS};
 
 use crate::limit::MAX_STATEMENTS;
 use crate::pending::Pending;
-use crate::store::{Entries, put_entry};
+use crate::store::{Entries, put_entry, take_entry};
 use crate::tree::Tree;
 use crate::walk::Walk;
 use cfg_base::{NoMemory, Path, Value};
@@ -76,6 +77,27 @@ fn joined(alloc: Global, mine: &Entries, theirs: &Entries) -> Result<Entries, No
     Ok(both)
 }
 
+/// Gives a path a value, or takes it away.
+fn set_value(entries: &mut Entries, path: Path, value: Option<Value>) -> Result<(), NoMemory>
+    ensures { OnOk result (shown entries.new ≡ with_value (shown entries.old) path value) }
+{
+    match value {
+        Some(value) => put_entry(entries, path, value),
+        None => take_entry(entries, &path),
+    }
+}
+
+/// The statements of a map, with these values at their paths.
+fn revalued(entries: &Entries, values: Vec<(Path, Option<Value>)>) -> Result<Entries, NoMemory>
+    ensures { IfOk result (λ made. shown made ≡ with_values (shown entries.now) values.items) }
+{
+    let mut made = entries.clone()?;
+    for (path, value) in values {
+        set_value(&mut made, path, value)?;
+    }
+    Ok(made)
+}
+
 /// Two maps have one union.
 pub fn two_maps_have_one_union()
     ensures { (m n one other : Statements) → IsUnion m n one → IsUnion m n other → one ≡ other }
@@ -118,6 +140,20 @@ impl Draft {
         ensures { IfOk result (λ both. IsUnion one.now other.now both) }
     {
         let statements = joined(alloc, one.entries(), other.entries())?;
+        Ok(Draft { alloc, statements })
+    }
+
+    /// The statements of a tree, with these values at their paths; a path without one is taken away. Pages without such
+    /// a path stay.
+    pub fn with_values(
+        alloc: Global,
+        tree: &Tree,
+        values: Vec<(Path, Option<Value>)>,
+    ) -> Result<Draft, NoMemory>
+        requires { IsUnbounded (with_values tree.now values.items) }
+        ensures { IfOk result (λ draft. draft ≡ with_values tree.now values.items) }
+    {
+        let statements = revalued(tree.entries(), values)?;
         Ok(Draft { alloc, statements })
     }
 
