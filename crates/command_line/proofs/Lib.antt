@@ -1,0 +1,5 @@
+pub mod CommandLemmas
+pub mod GivenLemmas
+pub mod LawLemmas
+pub mod ReadingLemmas
+pub mod SessionLemmas

@@ -1,0 +1,4 @@
+pub mod Causes
+pub mod Command
+pub mod Given
+pub mod Asked
