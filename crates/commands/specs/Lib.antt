@@ -1,2 +1,3 @@
 pub mod Verb
 pub mod Mover
+pub mod Sound

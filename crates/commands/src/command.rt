@@ -1,6 +1,6 @@
 //! What a session asks. Each command and each of its parts stands here from the stage on that serves it.
 
-use cfg_base::Words;
+use cfg_base::{Bytes, Word, Words};
 
 /// How a session edits: the one candidate that sessions share.
 #[derive(Clone, Copy, Debug, PartialEq, Eq)]
@@ -73,7 +73,12 @@ pub enum Command {
     /// Enters configuration mode.
     Configure(Mode),
     /// Prints the active configuration below what the words name; without words all of it.
-    ShowActive { words: Words, form: Form },
+    ShowActive {
+        words: Words,
+        form: Form,
+    },
+    /// Lists the commits that are kept, the last one first.
+    ShowCommits,
     /// Ends the session.
     Logout,
     /// Moves to the level that the words name from the level on, and remembers the one it leaves.
@@ -87,11 +92,26 @@ pub enum Command {
     /// Leaves configuration mode from any level.
     ExitAll,
     /// Prints the candidate below what the words name from the level on; without words below the level.
-    Show { words: Words, form: Form },
+    Show {
+        words: Words,
+        form: Form,
+    },
     /// Changes the candidate.
     Change(Op),
-    /// Asks whether the candidate keeps the rules that a commit asks of it.
+    /// Loads a text into the candidate.
+    Load {
+        way: LoadWay,
+        text: Bytes,
+    },
+    /// Makes the map of that many commits before the last one the candidate.
+    Rollback(u32),
+    /// Asks whether the candidate keeps the rules that a commit asks of it; where it does, a pending commit is confirmed.
     CheckOnly,
-    /// Makes the candidate the active configuration.
-    Commit,
+    /// Makes the candidate the active configuration. With minutes the commit is rolled back unless it is confirmed within
+    /// them; an empty comment is none; `quit` leaves configuration mode behind the commit.
+    Commit {
+        minutes: u32,
+        comment: Word,
+        quit: bool,
+    },
 }

@@ -1,7 +1,7 @@
 -- Tests of the table of forms, and what they tell of each form.
 use Rattle.std.proofs.Common.{ℕ, List, [], ◌∷◌, Bool, true, false, not, ◌&&◌, ◌||◌}
 use Rattle.std.specs.List.{list_all}
-use Rattle.std.specs.Prelude.{codes}
+use Rattle.std.specs.Prelude.{codes, nat_le}
 use Rattle.cfg_base.specs.Words.{same_word}
 use Rattle.cfg_lex.specs.declared.token.TokenKind.{TokenKind}
 use Rattle.cfg_lex.specs.declared.token.TokenKind.TheVariants as kind
@@ -11,7 +11,8 @@ use Rattle.shell_words.specs.declared.form.Symbol.TheVariants.{Keyword, Mark, Wo
 use Rattle.shell_words.specs.declared.form.Part.{Part}
 use Rattle.shell_words.specs.declared.form.Part.TheVariants.{Nothing, One, Many}
 use Rattle.shell_words.specs.declared.form.Makes.{Makes}
-use Rattle.shell_words.specs.declared.form.Makes.TheVariants.{Move}
+use Rattle.shell_words.specs.declared.form.Makes.TheVariants.{Move, Commit}
+use Rattle.shell_words.specs.declared.form.Confirmed.TheVariants.{InMinutes}
 use Rattle.shell_words.specs.declared.form.CommandForm.{CommandForm}
 use Rattle.shell_words.specs.declared.keyword.Keyword as keywords
 use Rattle.shell_words.specs.declared.keyword.Keyword.TheVariants as key
@@ -169,3 +170,17 @@ have_sides mark parts = leads (passes mark not) (leads (passes mark (λ named. n
 abbrev pub are_sides : Makes → List Part → Bool
 are_sides (Move mover) parts = have_sides (key.Mark mover) parts
 are_sides other parts = true
+
+-- the symbol names nothing
+abbrev pub is_unnamed : Symbol → Bool
+is_unnamed symbol = not (names symbol)
+
+-- it is a number of minutes that a commit may have
+abbrev pub is_minutes : Symbol → Bool
+is_minutes (Number low high) = nat_le high 65535
+is_minutes other = false
+
+-- a test that the first word of a commit that tells its minutes is their number
+abbrev pub are_timed : Makes → List Part → Bool
+are_timed (Commit InMinutes comment quit) parts = leads is_unnamed (leads is_unnamed (leads is_minutes (λ others. true))) parts
+are_timed other parts = true

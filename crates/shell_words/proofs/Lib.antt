@@ -6,3 +6,4 @@ pub mod FitLemmas
 pub mod ApartLemmas
 pub mod PairLemmas
 pub mod ReadingLemmas
+pub mod SoundLemmas

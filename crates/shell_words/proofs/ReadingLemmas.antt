@@ -4,7 +4,7 @@ use Rattle.std.specs.List.{Contains}
 use Rattle.std.proofs.lemmas.Bool.{false≢true, and_parts, cases_lt}
 use Rattle.std.proofs.lemmas.List.{append_assoc, take-append-drop, take-take, length-take, length-drop}
 use Rattle.std.proofs.lemmas.List.Sums.{prefix_len-le-length}
-use Rattle.commands.specs.declared.command.Command.{Command}
+use Rattle.shell_words.specs.declared.making.Words0.{Words0}
 use Rattle.cfg_lex.specs.declared.fault.LexFault.{LexFault}
 use Rattle.cfg_lex.specs.declared.token.Token.{Token}
 use Rattle.cfg_lex.specs.Tokens.{IsCut}
@@ -16,7 +16,8 @@ use Rattle.shell_words.specs.declared.reader.ReadFault.TheVariants.{Syntax, NoMe
 use Rattle.shell_words.specs.Item.{Item, item_in}
 use Rattle.shell_words.specs.Form.{is_of, parts_of, Fits, forms_of, IsIn, Begins}
 use Rattle.shell_words.specs.Walk.{run_len, reach, fits, given, furthest, form_for}
-use Rattle.shell_words.specs.Reading.{command_of, asked, first_place, capped, Asks, IsMisfit, AnswersWhole, place_of, Answers, IsReading, Gives}
+use Rattle.shell_words.specs.Made.{made_by}
+use Rattle.shell_words.specs.Reading.{asked, first_place, capped, Asks, IsMisfit, AnswersWhole, place_of, Answers, IsReading, Gives}
 use Rattle.shell_words.proofs.FormTests.{are_ended, have_examples, are_some}
 use Rattle.shell_words.proofs.FormFacts.{forms_sound, forms_apart, forms_some}
 use Rattle.shell_words.proofs.FitLemmas.{sound, complete, completed, goes_on, reaches}
@@ -122,7 +123,7 @@ pub in_none : (configuring : Bool) (items : List Item) → form_for (forms_of co
 in_none configuring items e form words line =
     none_found (forms_of configuring) items form e line.served (complete (parts_of form) items words (tested configuring form line.served).ended line.fits).0
 
-pub asks : (configuring : Bool) (items : List Item) (form : CommandForm) → form_for (forms_of configuring) items ≡ Some form → Asks configuring items (asked (command_of form.makes items (given (parts_of form) items)))
+pub asks : (configuring : Bool) (items : List Item) (form : CommandForm) → form_for (forms_of configuring) items ≡ Some form → Asks configuring items (asked (made_by form.makes items (given (parts_of form) items)))
 asks configuring items form e =
     let here = found (forms_of configuring) items form e in
     record { form = form; words = given (parts_of form) items; line = record { served = here.0; fits = sound (parts_of form) items here.1 }; is = refl }
@@ -136,7 +137,7 @@ begins_front configuring front back begun = record {
   line = record { served = begun.line.served; fits = subst (λ is. Fits (parts_of begun.form) is begun.words) (append_assoc front back begun.more) begun.line.fits };
 }
 
-no_longer : (configuring : Bool) (items : List Item) (end : ℕ) (one other : Result (Option Command) ℕ) (a : IsMisfit configuring items end one) (b : IsMisfit configuring items end other) → a.count < b.count → ⊥
+no_longer : (configuring : Bool) (items : List Item) (end : ℕ) (one other : Result (Option Words0) ℕ) (a : IsMisfit configuring items end one) (b : IsMisfit configuring items end other) → a.count < b.count → ⊥
 no_longer configuring items end one other a b less =
     let front : take (a.count + 1) (take b.count items) ≡ take (a.count + 1) items = take-take (a.count + 1) b.count items (omega arith) in
     a.stops (omega (arith, b.within))
@@ -144,7 +145,7 @@ no_longer configuring items end one other a b less =
     (begins_front configuring (take (a.count + 1) (take b.count items)) (drop (a.count + 1) (take b.count items))
     (subst (Begins configuring) (sym (take-append-drop (a.count + 1) (take b.count items))) b.begins)))
 
-one_misfit : (configuring : Bool) (items : List Item) (end : ℕ) (one other : Result (Option Command) ℕ) → IsMisfit configuring items end one → IsMisfit configuring items end other → one ≡ other
+one_misfit : (configuring : Bool) (items : List Item) (end : ℕ) (one other : Result (Option Words0) ℕ) → IsMisfit configuring items end one → IsMisfit configuring items end other → one ≡ other
 one_misfit configuring items end one other a b =
     let same : a.count ≡ b.count =
     elim (cases_lt a.count b.count) as (λ w. a.count ≡ b.count) [
@@ -157,30 +158,30 @@ one_misfit configuring items end one other a b =
     ] in
     a.is ∙ ap (λ n. Err (capped (first_place (drop n items) end))) same ∙ sym b.is
 
-one_asked : (configuring : Bool) (items : List Item) (one other : Result (Option Command) ℕ) → Asks configuring items one → Asks configuring items other → one ≡ other
+one_asked : (configuring : Bool) (items : List Item) (one other : Result (Option Words0) ℕ) → Asks configuring items one → Asks configuring items other → one ≡ other
 one_asked configuring items one other a b =
     let form : a.form ≡ b.form = one_form (forms_of configuring) a.form b.form items a.words b.words (forms_apart configuring) a.line.served b.line.served a.line.fits b.line.fits in
     let mine = complete (parts_of a.form) items a.words (tested configuring a.form a.line.served).ended a.line.fits in
     let theirs = complete (parts_of b.form) items b.words (tested configuring b.form b.line.served).ended b.line.fits in
     a.is
-    ∙ ap (λ words. asked (command_of a.form.makes items words)) mine.1
-    ∙ ap (λ (f : CommandForm). asked (command_of f.makes items (given (parts_of f) items))) form
-    ∙ ap (λ words. asked (command_of b.form.makes items words)) (sym theirs.1)
+    ∙ ap (λ words. asked (made_by a.form.makes items words)) mine.1
+    ∙ ap (λ (f : CommandForm). asked (made_by f.makes items (given (parts_of f) items))) form
+    ∙ ap (λ words. asked (made_by b.form.makes items words)) (sym theirs.1)
     ∙ sym b.is
 
-one_whole : (configuring : Bool) (items : List Item) (end : ℕ) (one other : Result (Option Command) ℕ) → AnswersWhole configuring items end one → AnswersWhole configuring items end other → one ≡ other
+one_whole : (configuring : Bool) (items : List Item) (end : ℕ) (one other : Result (Option Words0) ℕ) → AnswersWhole configuring items end one → AnswersWhole configuring items end other → one ≡ other
 one_whole configuring [] end one other a b = a ∙ sym b
 one_whole configuring (item ∷ items) end one other (inl a) (inl b) = one_asked configuring (item ∷ items) one other a b
 one_whole configuring (item ∷ items) end one other (inl a) (inr b) = absurd (b.0 a.form a.words a.line)
 one_whole configuring (item ∷ items) end one other (inr a) (inl b) = absurd (a.0 b.form b.words b.line)
 one_whole configuring (item ∷ items) end one other (inr a) (inr b) = one_misfit configuring (item ∷ items) end one other a.1 b.1
 
-one_answer : (configuring : Bool) (items : List Item) (fault : Option LexFault) (end : ℕ) (one other : Result (Option Command) ℕ) → Answers configuring items fault end one → Answers configuring items fault end other → one ≡ other
+one_answer : (configuring : Bool) (items : List Item) (fault : Option LexFault) (end : ℕ) (one other : Result (Option Words0) ℕ) → Answers configuring items fault end one → Answers configuring items fault end other → one ≡ other
 one_answer configuring items None end one other a b = one_whole configuring items end one other a b
 one_answer configuring items (Some fault) end one other a b = one_misfit configuring items (place_of fault) one other a b
 
 -- a line that is cut in one way is read in one way
-pub one_reading : ((text : List ℕ) (one two : List Token) (fault other : Option LexFault) → IsCut text one fault → IsCut text two other → (one ≡ two) × (fault ≡ other)) → (configuring : Bool) (line : List ℕ) (one other : Result (Option Command) ℕ) → IsReading configuring line one → IsReading configuring line other → one ≡ other
+pub one_reading : ((text : List ℕ) (one two : List Token) (fault other : Option LexFault) → IsCut text one fault → IsCut text two other → (one ≡ two) × (fault ≡ other)) → (configuring : Bool) (line : List ℕ) (one other : Result (Option Words0) ℕ) → IsReading configuring line one → IsReading configuring line other → one ≡ other
 one_reading one_cut configuring line one other a b =
     let same = one_cut line a.tokens b.tokens a.fault b.fault a.cut b.cut in
     one_answer configuring (map (item_in line) b.tokens) b.fault (length line) one other
@@ -188,18 +189,18 @@ one_reading one_cut configuring line one other a b =
     (subst (λ tokens. Answers configuring (map (item_in line) tokens) a.fault (length line) one) same.0 a.answers))
     b.answers
 
-whole_line : (configuring : Bool) (items : List Item) (end : ℕ) (form : CommandForm) (words : List (List ℕ)) → IsIn configuring items form words → AnswersWhole configuring items end (asked (command_of form.makes items words))
+whole_line : (configuring : Bool) (items : List Item) (end : ℕ) (form : CommandForm) (words : List (List ℕ)) → IsIn configuring items form words → AnswersWhole configuring items end (asked (made_by form.makes items words))
 whole_line configuring [] end form words line =
     absurd (some_needs (parts_of form) [] words (tested configuring form line.served).some refl line.fits)
 whole_line configuring (item ∷ items) end form words line = inl record { form = form; words = words; line = line; is = refl }
 
-pub own_line : (configuring : Bool) (line : List ℕ) (tokens : List Token) (form : CommandForm) (words : List (List ℕ)) → IsCut line tokens None → IsIn configuring (map (item_in line) tokens) form words → IsReading configuring line (asked (command_of form.makes (map (item_in line) tokens) words))
+pub own_line : (configuring : Bool) (line : List ℕ) (tokens : List Token) (form : CommandForm) (words : List (List ℕ)) → IsCut line tokens None → IsIn configuring (map (item_in line) tokens) form words → IsReading configuring line (asked (made_by form.makes (map (item_in line) tokens) words))
 own_line configuring line tokens form words cut in_form =
     record { tokens = tokens; fault = None; cut = cut; answers = whole_line configuring (map (item_in line) tokens) (length line) form words in_form }
 
 -- an answer that is one thing is another, where each of the one is one of the other
-pub gives_also : (Is Means : Result (Option Command) ℕ → Type 0) → ((answer : Result (Option Command) ℕ) → Is answer → Means answer) → (result : Result (Option Command) ReadFault) → Gives Is result → Gives Means result
-gives_also Is Means on (Ok command) is = on (Ok command) is
+pub gives_also : (Is Means : Result (Option Words0) ℕ → Type 0) → ((answer : Result (Option Words0) ℕ) → Is answer → Means answer) → (result : Result (Option Words0) ReadFault) → Gives Is result → Gives Means result
+gives_also Is Means on (Ok made) is = on (Ok made) is
 gives_also Is Means on (Err (Syntax place)) is = on (Err place) is
 gives_also Is Means on (Err NoMemory) is = tt
 
@@ -209,6 +210,6 @@ whole_misfit configuring [] end some e = absurd (omega arith)
 whole_misfit configuring (item ∷ items) end some e = inr (in_none configuring (item ∷ items) e, misfit configuring (item ∷ items) end)
 
 -- tokens that one is found for
-pub whole_asks : (configuring : Bool) (items : List Item) (end : ℕ) (form : CommandForm) → 0 < length items → form_for (forms_of configuring) items ≡ Some form → AnswersWhole configuring items end (asked (command_of form.makes items (given (parts_of form) items)))
+pub whole_asks : (configuring : Bool) (items : List Item) (end : ℕ) (form : CommandForm) → 0 < length items → form_for (forms_of configuring) items ≡ Some form → AnswersWhole configuring items end (asked (made_by form.makes items (given (parts_of form) items)))
 whole_asks configuring [] end form some e = absurd (omega arith)
 whole_asks configuring (item ∷ items) end form some e = inl (asks configuring (item ∷ items) form e)

@@ -1,51 +1,23 @@
 -- What a line asks, in operational and in configuration mode.
 -- Junos OS CLI User Guide, on the commands of operational and of configuration mode; the places of faults are this project's own.
 use Rattle.std.specs.Prelude.{◌≡◌, ◌⊎◌, ◌<◌, ◌≤◌, ◌+◌, ℕ, List, [], ◌∷◌, length, map, min, take, drop, Bool}
-use Rattle.std.specs.Prelude.{Option, None, Some, unwrap_or, Result, Ok, Err}
-use Rattle.commands.specs.declared.command.Mode.TheVariants.{Shared}
-use Rattle.commands.specs.declared.command.Command.{Command}
-use Rattle.commands.specs.declared.command.Command.TheVariants as command
-use Rattle.commands.specs.Verb.{op_of}
+use Rattle.std.specs.Prelude.{Option, None, Some, Result, Ok, Err}
 use Rattle.cfg_lex.specs.declared.token.Token.{Token}
 use Rattle.cfg_lex.specs.declared.fault.LexFault.{LexFault}
 use Rattle.cfg_lex.specs.declared.fault.LexFault.TheVariants as lex
 use Rattle.cfg_lex.specs.Tokens.{IsCut}
-use Rattle.shell_words.specs.declared.form.Makes.{Makes}
-use Rattle.shell_words.specs.declared.form.Makes.TheVariants as makes
 use Rattle.shell_words.specs.declared.form.CommandForm.{CommandForm}
+use Rattle.shell_words.specs.declared.making.Words0.{Words0}
 use Rattle.shell_words.specs.declared.reader.ReadFault.{ReadFault}
 use Rattle.shell_words.specs.declared.reader.ReadFault.TheVariants.{Syntax, NoMemory}
 use Rattle.shell_words.specs.Item.{Item, item_in}
 use Rattle.shell_words.specs.Form.{IsIn, Begins}
-use Rattle.shell_words.specs.Number.{number_of}
-use Rattle.shell_words.specs.Pair.{change_in}
+use Rattle.shell_words.specs.Made.{made_by}
 
--- how many levels `up` goes: one, or as many as its word says
-abbrev pub levels_of : List (List ℕ) → ℕ
-levels_of [] = 1
-levels_of (word ∷ words) = unwrap_or (number_of word) 1
-
--- the command that a form makes of a line's tokens, which give these words; none where it isn't served
-abbrev pub command_of : Makes → List Item → List (List ℕ) → Option Command
-command_of makes.Configure items words = Some (command.Configure Shared)
-command_of (makes.ShowActive form) items words = Some (command.ShowActive words form)
-command_of makes.Logout items words = Some command.Logout
-command_of (makes.Change verb) items words = Some (command.Change (op_of verb words))
-command_of (makes.Move mover) items words = Some (command.Change (change_in mover items))
-command_of makes.Edit items words = Some (command.Edit words)
-command_of makes.Up items words = Some (command.Up (levels_of words))
-command_of makes.Top items words = Some command.Top
-command_of makes.Exit items words = Some command.Exit
-command_of makes.ExitAll items words = Some command.ExitAll
-command_of (makes.Show form) items words = Some (command.Show words form)
-command_of makes.CheckOnly items words = Some command.CheckOnly
-command_of makes.Commit items words = Some command.Commit
-command_of makes.Unserved items words = None
-
--- a line of a command that isn't served is refused whole, at its first byte
-abbrev pub asked : Option Command → Result (Option Command) ℕ
+-- a line that isn't served is refused whole, at its first byte
+abbrev pub asked : Option Words0 → Result (Option Words0) ℕ
 asked None = Err 0
-asked (Some command) = Ok (Some command)
+asked (Some made) = Ok (Some made)
 
 -- the place of the first token, or else the end
 abbrev pub first_place : List Item → ℕ → ℕ
@@ -57,14 +29,14 @@ abbrev pub capped : ℕ → ℕ
 capped place = min place 4294967295
 
 -- a line of these tokens is in a form, and this is what it asks
-pub record Asks (configuring : Bool) (items : List Item) (answer : Result (Option Command) ℕ) : Type 0 where
+pub record Asks (configuring : Bool) (items : List Item) (answer : Result (Option Words0) ℕ) : Type 0 where
   pub form : CommandForm
   pub words : List (List ℕ)
   pub line : IsIn configuring items form words
-  pub is : answer ≡ asked (command_of form.makes items words)
+  pub is : answer ≡ asked (made_by form.makes items words)
 
 -- a line begins with so many of these tokens and with no more; the place told is that of the next token, or the end
-pub record IsMisfit (configuring : Bool) (items : List Item) (end : ℕ) (answer : Result (Option Command) ℕ) : Type 0 where
+pub record IsMisfit (configuring : Bool) (items : List Item) (end : ℕ) (answer : Result (Option Words0) ℕ) : Type 0 where
   pub count : ℕ
   pub within : count ≤ length items
   pub begins : Begins configuring (take count items)
@@ -76,7 +48,7 @@ abbrev pub IsInNone : Bool → List Item → Type 0
 IsInNone configuring items = (form : CommandForm) (words : List (List ℕ)) → IsIn configuring items form words → ⊥
 
 -- what these tokens ask, which are all of a line: nothing, what their form makes, or the place where the line fits no form
-abbrev pub AnswersWhole : Bool → List Item → ℕ → Result (Option Command) ℕ → Type 0
+abbrev pub AnswersWhole : Bool → List Item → ℕ → Result (Option Words0) ℕ → Type 0
 AnswersWhole configuring [] end answer = answer ≡ Ok None
 AnswersWhole configuring (item ∷ items) end answer =
     Asks configuring (item ∷ items) answer
@@ -91,19 +63,19 @@ place_of (lex.LongWord place) = place
 place_of lex.NoMemory = 0
 
 -- what a line of these tokens asks. A lexical fault behind them is one token more, that fits no form, at its own place
-abbrev pub Answers : Bool → List Item → Option LexFault → ℕ → Result (Option Command) ℕ → Type 0
+abbrev pub Answers : Bool → List Item → Option LexFault → ℕ → Result (Option Words0) ℕ → Type 0
 Answers configuring items None end answer = AnswersWhole configuring items end answer
 Answers configuring items (Some fault) end answer = IsMisfit configuring items (place_of fault) answer
 
--- what a line asks: a command, nothing, or the place of its syntax error
-pub record IsReading (configuring : Bool) (line : List ℕ) (answer : Result (Option Command) ℕ) : Type 0 where
+-- what a line asks: a command, a load of the text behind it, nothing, or the place of its syntax error
+pub record IsReading (configuring : Bool) (line : List ℕ) (answer : Result (Option Words0) ℕ) : Type 0 where
   pub tokens : List Token
   pub fault : Option LexFault
   pub cut : IsCut line tokens fault
   pub answers : Answers configuring (map (item_in line) tokens) fault (length line) answer
 
 -- what the reader answers is so, unless memory is wanting
-abbrev pub Gives : (Result (Option Command) ℕ → Type 0) → Result (Option Command) ReadFault → Type 0
-Gives Is (Ok command) = Is (Ok command)
+abbrev pub Gives : (Result (Option Words0) ℕ → Type 0) → Result (Option Words0) ReadFault → Type 0
+Gives Is (Ok made) = Is (Ok made)
 Gives Is (Err (Syntax place)) = Is (Err place)
 Gives Is (Err NoMemory) = Unit {0}

@@ -4,7 +4,7 @@ ghost use Rattle.std.specs.Prelude.{◌≡◌};
 ghost use Rattle.shell_words.specs.Form.{forms_of, parts_of};
 
 use crate::keyword::Keyword;
-use commands::{Form, Mover, Verb};
+use commands::{Form, LoadWay, Mover, Verb};
 
 /// Which tokens may stand at a place of a line.
 #[derive(Clone, Copy, Debug, PartialEq, Eq)]
@@ -33,11 +33,23 @@ pub(crate) enum Part {
     Many(Symbol),
 }
 
+/// Which time a commit has for its confirmation.
+#[derive(Clone, Copy, Debug, PartialEq, Eq)]
+pub(crate) enum Confirmed {
+    /// It wants none.
+    No,
+    /// Ten minutes.
+    InTen,
+    /// As many minutes as the line's first word says.
+    InMinutes,
+}
+
 /// What a line of a form asks.
 #[derive(Clone, Copy, Debug, PartialEq, Eq)]
 pub(crate) enum Makes {
     Configure,
     ShowActive(Form),
+    ShowCommits,
     Logout,
     Change(Verb),
     /// A change of two statements.
@@ -48,8 +60,16 @@ pub(crate) enum Makes {
     Exit,
     ExitAll,
     Show(Form),
+    /// A load of the text that follows the line.
+    Load(LoadWay),
+    Rollback,
     CheckOnly,
-    Commit,
+    /// A commit, whose comment is the line's last word where it has one.
+    Commit {
+        confirmed: Confirmed,
+        comment: bool,
+        quit: bool,
+    },
     /// A command that isn't served yet.
     Unserved,
 }
@@ -131,7 +151,7 @@ static OPERATIONAL: [CommandForm; 9] = [
         [one mark Pipe] [Display] [verb Set]),
     form!(Makes::ShowActive(Form::Inherited); [Show] [Configuration] [many until Pipe]
         [one mark Pipe] [Display] [Inheritance]),
-    form!(Makes::Unserved; [Show] [System] [Commit]),
+    form!(Makes::ShowCommits; [Show] [System] [Commit]),
     form!(Makes::Logout; [Exit]),
     form!(Makes::Logout; [Quit]),
 ];
@@ -155,19 +175,26 @@ static CONFIGURING: [CommandForm; 43] = [
     form!(Makes::Show(Form::Curly); [Show] [many until Pipe]),
     form!(Makes::Show(Form::SetLines); [Show] [many until Pipe] [one mark Pipe] [Display] [verb Set]),
     form!(Makes::Show(Form::Inherited); [Show] [many until Pipe] [one mark Pipe] [Display] [Inheritance]),
-    form!(Makes::Commit; [Commit]),
     form!(Makes::CheckOnly; [Commit] [Check]),
-    form!(Makes::Unserved; [Commit] [Confirmed]),
-    form!(Makes::Unserved; [Commit] [Confirmed] [AndQuit]),
-    form!(Makes::Unserved; [Commit] [Confirmed] [Comment] [one Word]),
-    form!(Makes::Unserved; [Commit] [Confirmed] [Comment] [one Word] [AndQuit]),
-    form!(Makes::Unserved; [Commit] [Confirmed] [one number 1 to 65535]),
-    form!(Makes::Unserved; [Commit] [Confirmed] [one number 1 to 65535] [AndQuit]),
-    form!(Makes::Unserved; [Commit] [Confirmed] [one number 1 to 65535] [Comment] [one Word]),
-    form!(Makes::Unserved; [Commit] [Confirmed] [one number 1 to 65535] [Comment] [one Word] [AndQuit]),
-    form!(Makes::Unserved; [Commit] [Comment] [one Word]),
-    form!(Makes::Unserved; [Commit] [Comment] [one Word] [AndQuit]),
-    form!(Makes::Unserved; [Commit] [AndQuit]),
+    form!(Makes::Commit { confirmed: Confirmed::No, comment: false, quit: false }; [Commit]),
+    form!(Makes::Commit { confirmed: Confirmed::No, comment: false, quit: true }; [Commit] [AndQuit]),
+    form!(Makes::Commit { confirmed: Confirmed::No, comment: true, quit: false }; [Commit] [Comment] [one Word]),
+    form!(Makes::Commit { confirmed: Confirmed::No, comment: true, quit: true };
+        [Commit] [Comment] [one Word] [AndQuit]),
+    form!(Makes::Commit { confirmed: Confirmed::InTen, comment: false, quit: false }; [Commit] [Confirmed]),
+    form!(Makes::Commit { confirmed: Confirmed::InTen, comment: false, quit: true }; [Commit] [Confirmed] [AndQuit]),
+    form!(Makes::Commit { confirmed: Confirmed::InTen, comment: true, quit: false };
+        [Commit] [Confirmed] [Comment] [one Word]),
+    form!(Makes::Commit { confirmed: Confirmed::InTen, comment: true, quit: true };
+        [Commit] [Confirmed] [Comment] [one Word] [AndQuit]),
+    form!(Makes::Commit { confirmed: Confirmed::InMinutes, comment: false, quit: false };
+        [Commit] [Confirmed] [one number 1 to 65535]),
+    form!(Makes::Commit { confirmed: Confirmed::InMinutes, comment: false, quit: true };
+        [Commit] [Confirmed] [one number 1 to 65535] [AndQuit]),
+    form!(Makes::Commit { confirmed: Confirmed::InMinutes, comment: true, quit: false };
+        [Commit] [Confirmed] [one number 1 to 65535] [Comment] [one Word]),
+    form!(Makes::Commit { confirmed: Confirmed::InMinutes, comment: true, quit: true };
+        [Commit] [Confirmed] [one number 1 to 65535] [Comment] [one Word] [AndQuit]),
     form!(Makes::Move(Mover::Rename); [mover Rename] [one until mark of Rename] [many until mark of Rename]
         [one mark of Rename] [one Word] [many Word]),
     form!(Makes::Move(Mover::Copy); [mover Copy] [one until mark of Copy] [many until mark of Copy]
@@ -176,12 +203,12 @@ static CONFIGURING: [CommandForm; 43] = [
         [many until mark of InsertBefore or InsertAfter] [one mark of InsertBefore] [one Word] [many Word]),
     form!(Makes::Move(Mover::InsertAfter); [mover InsertAfter] [one until mark of InsertBefore or InsertAfter]
         [many until mark of InsertBefore or InsertAfter] [one mark of InsertAfter] [one Word] [many Word]),
-    form!(Makes::Unserved; [Load] [Merge] [Terminal]),
-    form!(Makes::Unserved; [Load] [Override] [Terminal]),
-    form!(Makes::Unserved; [Load] [Replace] [Terminal]),
-    form!(Makes::Unserved; [Load] [verb Set] [Terminal]),
-    form!(Makes::Unserved; [Rollback]),
-    form!(Makes::Unserved; [Rollback] [one number 0 to 4294967295]),
+    form!(Makes::Load(LoadWay::Merge); [Load] [Merge] [Terminal]),
+    form!(Makes::Load(LoadWay::Override); [Load] [Override] [Terminal]),
+    form!(Makes::Load(LoadWay::Replace); [Load] [Replace] [Terminal]),
+    form!(Makes::Load(LoadWay::SetLines); [Load] [verb Set] [Terminal]),
+    form!(Makes::Rollback; [Rollback]),
+    form!(Makes::Rollback; [Rollback] [one number 0 to 4294967295]),
     form!(Makes::Unserved; [Update]),
     form!(Makes::Unserved; [Status]),
 ];

@@ -1,6 +1,5 @@
-ghost use Rattle.std.specs.Prelude.{◌≡◌, ℕ, List, Bool, Option, None, Result, map};
+ghost use Rattle.std.specs.Prelude.{◌≡◌, ℕ, List, Bool, Option, None, Result, Ok, map};
 ghost use Rattle.std.specs.List.{Contains};
-ghost use Rattle.commands.specs.declared.command.Command.{Command};
 ghost use Rattle.commands.specs.declared.mover.Mover.{Mover};
 ghost use Rattle.cfg_lex.specs.declared.token.Token.{Token};
 ghost use Rattle.cfg_lex.specs.Tokens.{IsCut};
@@ -9,17 +8,19 @@ ghost use Rattle.shell_words.specs.Form.{Fits, IsIn, forms_of, parts_of};
 ghost use Rattle.shell_words.specs.Item.{Item, item_in};
 ghost use Rattle.shell_words.specs.declared.form.Makes.TheVariants.{Move};
 ghost use Rattle.shell_words.specs.declared.keyword.Keyword.TheVariants.{Mark};
+ghost use Rattle.shell_words.specs.declared.making.Words0.{Words0};
+ghost use Rattle.shell_words.specs.Made.{AsksSound, made_by};
 ghost use Rattle.shell_words.specs.Pair.{AreSides, back_words, front_words};
-ghost use Rattle.shell_words.specs.Reading.{IsReading, asked, command_of};
+ghost use Rattle.shell_words.specs.Reading.{IsReading, asked};
 
 /// A line has one reading; a line that is in a form is read as what that form makes of it, and each form has such tokens.
 /// The words of a change of two statements are those before its mark and those behind it, of which there are some.
 pub fn lines_are_read_in_one_way()
-    ensures one_reading { (configuring : Bool) (line : List ℕ) (one other : Result (Option Command) ℕ)
+    ensures one_reading { (configuring : Bool) (line : List ℕ) (one other : Result (Option Words0) ℕ)
         → IsReading configuring line one → IsReading configuring line other → one ≡ other }
     ensures own_line { (configuring : Bool) (line : List ℕ) (tokens : List Token) (form : CommandForm) (words : List (List ℕ))
         → IsCut line tokens None → IsIn configuring (map (item_in line) tokens) form words
-        → IsReading configuring line (asked (command_of form.makes (map (item_in line) tokens) words)) }
+        → IsReading configuring line (asked (made_by form.makes (map (item_in line) tokens) words)) }
     ensures each_form { (configuring : Bool) (form : CommandForm) → Contains (forms_of configuring) form
         → (items : List Item) × (words : List (List ℕ)) × Fits (parts_of form) items words }
     ensures two_sides { (configuring : Bool) (items : List Item) (form : CommandForm) (words : List (List ℕ)) (mover : Mover)
@@ -28,3 +29,8 @@ pub fn lines_are_read_in_one_way()
 {
     cfg_lex::texts_are_read_in_one_way();
 }
+
+/// Each command that a line asks is sound: its minutes are at most 65,535, and its comment is of printing bytes.
+pub fn lines_ask_sound_commands()
+    ensures { (configuring : Bool) (line : List ℕ) (made : Option Words0) → IsReading configuring line (Ok made) → AsksSound made }
+{}

@@ -1,7 +1,8 @@
 //! From a line to a command: what a session's line asks, or the place where it isn't a command.
 //!
-//! Guarantees: a line is the one command that its form makes of it in that mode, or a syntax error at its
-//! first token with which no form goes on (specs/Form.antt, specs/Reading.antt); a line without tokens asks nothing.
+//! Guarantees: a line asks the one thing that its form makes of it in that mode, a sound command or a load of the text
+//! behind it, or is a syntax error at its first token with which no form goes on (specs/Form.antt, specs/Made.antt,
+//! specs/Reading.antt); a line without tokens asks nothing.
 //! Leaves to others: how input is cut into lines (`io_edge`), the tokens of a line (`cfg_lex`), and what a command
 //! does (`config_core`).
 #![tactic(auto)]
@@ -10,10 +11,12 @@ mod form;
 mod item;
 mod keyword;
 mod laws;
+mod making;
 mod number;
 mod pair;
 mod reader;
 mod walk;
 
-pub use laws::lines_are_read_in_one_way;
+pub use laws::{lines_are_read_in_one_way, lines_ask_sound_commands};
+pub use making::Words0;
 pub use reader::{ReadFault, read_line};

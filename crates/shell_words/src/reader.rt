@@ -1,19 +1,18 @@
-//! From a line to the command that it asks for.
+//! From a line to what it asks.
 
 ghost use Rattle.std.specs.Prelude.{◌≡◌, IfOk, drop, length};
 ghost use Rattle.shell_words.specs.declared.reader.ReadFault.TheVariants.{NoMemory};
-ghost use Rattle.shell_words.specs.Form.{forms_of, parts_of};
-ghost use Rattle.shell_words.specs.Reading.{Answers, AnswersWhole, Gives, IsReading, asked, capped, command_of, first_place, levels_of, place_of};
-ghost use Rattle.shell_words.specs.Walk.{furthest, given};
+ghost use Rattle.shell_words.specs.Form.{forms_of};
+ghost use Rattle.shell_words.specs.Made.{AsksSound};
+ghost use Rattle.shell_words.specs.Reading.{Answers, AnswersWhole, Gives, IsReading, asked, capped, first_place, place_of};
+ghost use Rattle.shell_words.specs.Walk.{furthest};
 
-use crate::form::{CommandForm, Makes, forms_of};
+use crate::form::forms_of;
 use crate::item::{Item, items};
-use crate::number::number_of;
-use crate::pair::change_in;
-use crate::walk::{form_for, furthest, give};
-use cfg_base::{NoMemory, Words};
+use crate::making::{Words0, made_by};
+use crate::walk::{form_for, furthest};
+use cfg_base::NoMemory;
 use cfg_lex::{LexFault, cut_text};
-use commands::{Command, Mode};
 use std::alloc::Global;
 use thiserror::Error;
 
@@ -32,60 +31,6 @@ impl From<NoMemory> for ReadFault {
 
     fn from(_: NoMemory) -> ReadFault {
         ReadFault::NoMemory
-    }
-}
-
-/// How many levels `up` goes.
-fn levels_of(words: &Words) -> u32
-    ensures { result ≡ levels_of words.now }
-{
-    match words.as_slice() {
-        [] => 1,
-        [word, ..] => number_of(word.as_bytes()).unwrap_or(1),
-    }
-}
-
-/// The words that the tokens give a form.
-fn words_of(alloc: Global, form: &CommandForm, items: &[Item<'_>]) -> Result<Words, NoMemory>
-    ensures { IfOk result (λ words. words ≡ given (parts_of form.now) items.now) }
-{
-    let mut words = Words::new(alloc);
-    give(alloc, &mut words, &form.parts(), items)?;
-    Ok(words)
-}
-
-/// The command that a form makes of the tokens of a line of it; none where it isn't served.
-fn command_of(
-    alloc: Global,
-    form: &CommandForm,
-    items: &[Item<'_>],
-) -> Result<Option<Command>, NoMemory>
-    ensures { IfOk result (λ command. command ≡ command_of form.now.makes items.now (given (parts_of form.now) items.now)) }
-{
-    match form.makes {
-        Makes::Configure => Ok(Some(Command::Configure(Mode::Shared))),
-        Makes::ShowActive(shown) => {
-            let words = words_of(alloc, form, items)?;
-            Ok(Some(Command::ShowActive { words, form: shown }))
-        }
-        Makes::Logout => Ok(Some(Command::Logout)),
-        Makes::Change(verb) => {
-            let words = words_of(alloc, form, items)?;
-            Ok(Some(Command::Change(verb.op_of(words))))
-        }
-        Makes::Move(mover) => Ok(Some(Command::Change(change_in(alloc, mover, items)?))),
-        Makes::Edit => Ok(Some(Command::Edit(words_of(alloc, form, items)?))),
-        Makes::Up => Ok(Some(Command::Up(levels_of(&words_of(alloc, form, items)?)))),
-        Makes::Top => Ok(Some(Command::Top)),
-        Makes::Exit => Ok(Some(Command::Exit)),
-        Makes::ExitAll => Ok(Some(Command::ExitAll)),
-        Makes::Show(shown) => {
-            let words = words_of(alloc, form, items)?;
-            Ok(Some(Command::Show { words, form: shown }))
-        }
-        Makes::CheckOnly => Ok(Some(Command::CheckOnly)),
-        Makes::Commit => Ok(Some(Command::Commit)),
-        Makes::Unserved => Ok(None),
     }
 }
 
@@ -127,12 +72,12 @@ fn misfit(configuring: bool, items: &[Item<'_>], end: usize) -> ReadFault
     syntax(first_place(&items[count..], end))
 }
 
-/// A command that isn't served is refused at the line's first byte.
-fn asked(command: Option<Command>) -> Result<Option<Command>, ReadFault>
-    ensures { Gives (λ answer. answer ≡ asked command) result }
+/// A line that isn't served is refused at its first byte.
+fn asked(made: Option<Words0>) -> Result<Option<Words0>, ReadFault>
+    ensures { Gives (λ answer. answer ≡ asked made) result }
 {
-    match command {
-        Some(command) => Ok(Some(command)),
+    match made {
+        Some(made) => Ok(Some(made)),
         None => Err(ReadFault::Syntax(0)),
     }
 }
@@ -143,7 +88,7 @@ fn read_whole(
     configuring: bool,
     items: &[Item<'_>],
     end: usize,
-) -> Result<Option<Command>, ReadFault>
+) -> Result<Option<Words0>, ReadFault>
     ensures { Gives (AnswersWhole configuring items.now end) result }
 {
     if items.is_empty() {
@@ -151,8 +96,8 @@ fn read_whole(
     }
     match form_for(forms_of(configuring), items) {
         None => Err(misfit(configuring, items, end)),
-        Some(form) => match command_of(alloc, &form, items) {
-            Ok(command) => asked(command),
+        Some(form) => match made_by(alloc, &form, items) {
+            Ok(made) => asked(made),
             Err(_) => Err(ReadFault::NoMemory),
         },
     }
@@ -165,7 +110,7 @@ fn read_items(
     items: &[Item<'_>],
     fault: Option<LexFault>,
     end: usize,
-) -> Result<Option<Command>, ReadFault>
+) -> Result<Option<Words0>, ReadFault>
     ensures { Gives (Answers configuring items.now fault end) result }
 {
     match fault {
@@ -174,13 +119,11 @@ fn read_items(
     }
 }
 
-/// What a line asks, in configuration mode or in operational mode; nothing where it has no tokens.
-pub fn read_line(
-    alloc: Global,
-    configuring: bool,
-    line: &[u8],
-) -> Result<Option<Command>, ReadFault>
-    ensures { Gives (IsReading configuring line.now) result }
+/// What a line asks, in configuration mode or in operational mode; nothing where it has no tokens. A command that it
+/// asks is sound.
+pub fn read_line(alloc: Global, configuring: bool, line: &[u8]) -> Result<Option<Words0>, ReadFault>
+    ensures reading { Gives (IsReading configuring line.now) result }
+    ensures sound { IfOk result AsksSound }
 {
     let cut = cut_text(alloc, line)?;
     let items = items(alloc, line, cut.tokens.as_slice())?;

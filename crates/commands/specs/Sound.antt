@@ -1,0 +1,11 @@
+-- The commands that a session may ask. The longest time of a commit confirmed, 65,535 minutes, is that of the Junos OS CLI User Guide, on
+-- commit confirmed; which bytes a comment may have is this project's own.
+use Rattle.std.specs.Prelude.{◌≤◌}
+use Rattle.cfg_lex.specs.Printed.{IsPrintable}
+use Rattle.commands.specs.declared.command.Command.{Command}
+use Rattle.commands.specs.declared.command.Command.TheVariants.{Commit}
+
+-- a commit's minutes are at most 65,535, and its comment is of printing bytes; of any other command nothing is asked
+abbrev pub IsSound : Command → Type 0
+IsSound (Commit minutes comment quit) = (minutes ≤ 65535) × IsPrintable comment
+IsSound other = Unit {0}
