@@ -1,0 +1,57 @@
+-- What an entry of the list keeps to: its own fields, and its place behind the entries before it.
+-- The ranges are this project's own.
+use Rattle.std.specs.Prelude.{ℕ, ◌≡◌, ◌≤◌, ◌<◌, ◌+◌, ◌^◌, length, IsSome}
+use Rattle.cfg_base.specs.declared.moment.TheConstants.{MOMENT_MAX}
+use Rattle.cfg_base.specs.Kind.{IsName}
+use Rattle.cfg_tree.specs.Statements.{Statements}
+use Rattle.cfg_tree.specs.Tree.{IsTree}
+use Rattle.cfg_values.specs.Spelling.{IsText}
+use Rattle.commit_ledger.specs.declared.entry.Commit.{Commit}
+use Rattle.commit_ledger.specs.declared.entry.Confirm.{Confirm}
+use Rattle.commit_ledger.specs.declared.entry.Entry.{Entry}
+use Rattle.commit_ledger.specs.declared.entry.Entry.TheVariants.{Commit as CommitOf, Confirm as ConfirmOf}
+use Rattle.commit_ledger.specs.Kept.{Kept, RoomFor}
+use Rattle.commit_ledger.specs.Payload.{text_of, most_text}
+
+-- the number of a commit
+abbrev pub IsNumber : ℕ → Type 0
+IsNumber n = (1 ≤ n) × (n < 2 ^ 64)
+
+-- a commit's own fields: a user's name, a printable comment, at most 65,535 minutes, and an accepted configuration, whose
+-- text isn't longer than a payload's may be
+pub record IsCommit (accepted : Statements → Type 0) (commit : Commit) : Type 0 where
+  pub number : IsNumber commit.number
+  pub moment : commit.moment ≤ MOMENT_MAX
+  pub user : IsName commit.user
+  pub comment : IsText commit.comment
+  pub minutes : commit.minutes ≤ 65535
+  pub tree : IsTree commit.tree
+  pub text : length (text_of commit.tree) ≤ most_text
+  pub passes : accepted commit.tree
+
+-- a confirmation's own fields
+pub record IsConfirm (confirm : Confirm) : Type 0 where
+  pub number : IsNumber confirm.number
+  pub moment : confirm.moment ≤ MOMENT_MAX
+  pub user : IsName confirm.user
+
+abbrev pub IsEntry : (Statements → Type 0) → Entry → Type 0
+IsEntry accepted (CommitOf commit) = IsCommit accepted commit
+IsEntry accepted (ConfirmOf confirm) = IsConfirm confirm
+
+-- commit numbers rise by 1 and moments don't fall
+pub record CommitFollows (kept : Kept) (commit : Commit) : Type 0 where
+  pub number : commit.number ≡ kept.last.number + 1
+  pub moment : kept.moment ≤ commit.moment
+  pub room : RoomFor kept (CommitOf commit)
+
+-- a confirmation is of the last commit, and stands only where a run is unconfirmed
+pub record ConfirmFollows (kept : Kept) (confirm : Confirm) : Type 0 where
+  pub number : confirm.number ≡ kept.last.number
+  pub moment : kept.moment ≤ confirm.moment
+  pub waits : IsSome kept.pending
+
+-- the entry may be the next one
+abbrev pub Follows : Kept → Entry → Type 0
+Follows kept (CommitOf commit) = CommitFollows kept commit
+Follows kept (ConfirmOf confirm) = ConfirmFollows kept confirm

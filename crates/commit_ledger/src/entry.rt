@@ -1,0 +1,59 @@
+ghost use Rattle.std.specs.Prelude.{◌≡◌, IfOk};
+
+use cfg_base::{Moment, NoMemory, UserName, Word};
+use cfg_tree::Tree;
+
+/// How a commit came: by a session, or in another way, as by the service itself.
+#[derive(Clone, Copy, Debug, PartialEq, Eq)]
+pub enum Via {
+    Cli,
+    Other,
+}
+
+/// A configuration that became the active one.
+#[derive(Debug, Drop)]
+pub struct Commit {
+    /// Rises by 1 from the factory commit's 1.
+    pub number: u64,
+    pub user: UserName,
+    pub via: Via,
+    pub moment: Moment,
+    /// Without bytes where there is none.
+    pub comment: Word,
+    pub tree: Tree,
+    /// Within how many minutes it must be confirmed; 0 where it needs no confirmation.
+    pub minutes: u32,
+}
+
+/// A confirmation of commits that had a deadline.
+#[derive(Debug, Drop)]
+pub struct Confirm {
+    /// The number of the last commit.
+    pub number: u64,
+    pub user: UserName,
+    pub moment: Moment,
+}
+
+/// One entry of the list.
+#[derive(Debug, Drop)]
+pub enum Entry {
+    Commit(Commit),
+    Confirm(Confirm),
+}
+
+impl Commit {
+    /// A copy, whose map shares its pages.
+    pub fn copy(&self) -> Result<Commit, NoMemory>
+        ensures { IfOk result (λ commit. commit ≡ self.now) }
+    {
+        Ok(Commit {
+            number: self.number,
+            user: self.user.clone()?,
+            via: self.via,
+            moment: self.moment,
+            comment: self.comment.clone()?,
+            tree: self.tree.copy()?,
+            minutes: self.minutes,
+        })
+    }
+}

@@ -1,0 +1,21 @@
+use crate::entry::Via;
+
+/// The fields of a commit's payload.
+#[derive(Clone, Copy, Debug)]
+pub(crate) struct CommitRead<'a> {
+    pub(crate) number: u64,
+    pub(crate) moment: u64,
+    pub(crate) via: Via,
+    pub(crate) minutes: u32,
+    pub(crate) user: &'a [u8],
+    pub(crate) comment: &'a [u8],
+    pub(crate) text: &'a [u8],
+}
+
+/// The fields of a confirmation's payload.
+#[derive(Clone, Copy, Debug)]
+pub(crate) struct ConfirmRead<'a> {
+    pub(crate) number: u64,
+    pub(crate) moment: u64,
+    pub(crate) user: &'a [u8],
+}

@@ -1,0 +1,68 @@
+//! What holds of all lists.
+
+ghost use Rattle.std.specs.Prelude.{◌≡◌, ℕ, List, [], ◌∷◌, ◌++◌};
+ghost use Rattle.record_code.specs.declared.payloads.Placed.{Placed};
+ghost use Rattle.record_code.specs.Listed.{records_of};
+ghost use Rattle.record_code.specs.Record.{Record};
+ghost use Rattle.std.specs.FinMap as map;
+ghost use Rattle.commit_ledger.specs.declared.entry.Commit.{Commit};
+ghost use Rattle.commit_ledger.specs.declared.entry.Entry.{Entry};
+ghost use Rattle.commit_ledger.specs.declared.entry.Entry.TheVariants.{Commit as CommitOf};
+ghost use Rattle.commit_ledger.specs.Kept.{Kept, factory, factory_commit, opened, newest, after_entries, commits_of, commits_in, KeepsMaps, BringsMap, append_entry, target_of};
+ghost use Rattle.commit_ledger.specs.Listing.{IsListing};
+ghost use Rattle.commit_ledger.specs.Payload.{entry_record, HasShortText};
+ghost use Rattle.commit_ledger.specs.Reading.{IsRecordOf, ReadsAs, IsUnread};
+ghost use Rattle.commit_ledger.specs.Rules.{IsCommit, IsEntry, Follows};
+
+use cfg_tree::LedgerCheck;
+
+/// Of a list that begins with the factory commit the last 50 commits are kept, in order; confirmations are no commits.
+pub fn the_last_fifty_commits_are_kept()
+    ensures { (entries : List Entry) → commits_of (after_entries factory entries)
+        ≡ newest 50 (factory_commit ∷ commits_in entries) }
+{}
+
+/// A list of commits is shown as one text.
+pub fn listings_are_one_text()
+    ensures { (kept : Kept) (one two : List ℕ) → IsListing kept one → IsListing kept two → one ≡ two }
+{}
+
+/// Where each map that is kept is accepted, and that of a further commit too, each is from then on; so is the one that an
+/// unconfirmed run goes back to.
+pub fn kept_maps_stay_accepted<J: LedgerCheck>(judge: &J)
+    ensures more { (kept : Kept) (entry : Entry) → KeepsMaps (J.accepted judge.now) kept
+        → BringsMap (J.accepted judge.now) entry → KeepsMaps (J.accepted judge.now) (append_entry kept entry) }
+    ensures target { (kept : Kept) → KeepsMaps (J.accepted judge.now) kept
+        → J.accepted judge.now (target_of kept).tree }
+{
+    let _ = judge;
+}
+
+/// Records are of one entry each and are read as one value, or aren't read, and not both; each map that is kept of them is
+/// accepted. Where they are read, one more entry that keeps to its ranges and may come next is read behind them.
+pub fn records_have_one_reading<J: LedgerCheck>(judge: &J)
+    ensures one_entry { (r : Record) (one two : Entry) → IsRecordOf (J.accepted judge.now) r one
+        → IsRecordOf (J.accepted judge.now) r two → one ≡ two }
+    ensures one_reading { (rs : List Record) (one two : Kept) → ReadsAs (J.accepted judge.now) rs one
+        → ReadsAs (J.accepted judge.now) rs two → one ≡ two }
+    ensures not_both { (placed : List Placed) (offset : ℕ) (kept : Kept) → IsUnread (J.accepted judge.now) placed offset
+        → ReadsAs (J.accepted judge.now) (records_of placed) kept → ⊥ }
+    ensures accepted { (rs : List Record) (kept : Kept) → ReadsAs (J.accepted judge.now) rs kept
+        → KeepsMaps (J.accepted judge.now) kept }
+    ensures read_back { (rs : List Record) (kept : Kept) (entry : Entry) → ReadsAs (J.accepted judge.now) rs kept
+        → IsEntry (J.accepted judge.now) entry → Follows kept entry
+        → ReadsAs (J.accepted judge.now) (rs ++ entry_record entry ∷ []) (append_entry kept entry) }
+{
+    let _ = judge;
+}
+
+/// A journal's first record is read where it is of an accepted commit numbered 1 that needs no confirmation. The factory
+/// commit is one where the configuration without statements is accepted.
+pub fn lists_begin_with_one_commit<J: LedgerCheck>(judge: &J)
+    ensures read { (commit : Commit) → IsCommit (J.accepted judge.now) commit → commit.number ≡ 1 → commit.minutes ≡ 0
+        → ReadsAs (J.accepted judge.now) (entry_record (CommitOf commit) ∷ []) (opened commit) }
+    ensures factory { J.accepted judge.now map.empty → IsCommit (J.accepted judge.now) factory_commit }
+    ensures short { HasShortText (CommitOf factory_commit) }
+{
+    let _ = judge;
+}

@@ -1,0 +1,209 @@
+//! A ledger of the records of a journal.
+
+ghost use Rattle.std.specs.Prelude.{◌≡◌, ◌≤◌, ◌↔◌, ◌+◌, ◌∷◌, ℕ, Some, None, IsTrue, IsNone, IsErrOf, IfSome, IfOk, OnOk};
+ghost use Rattle.record_code.specs.Listed.{record_of, records_of};
+ghost use Rattle.commit_ledger.specs.declared.limit.TheConstants.{MAX_ENTRIES};
+ghost use Rattle.commit_ledger.specs.declared.entry.Commit.{Commit};
+ghost use Rattle.commit_ledger.specs.declared.entry.Entry.{Entry};
+ghost use Rattle.commit_ledger.specs.declared.opening.LedgerFault.{LedgerFault};
+ghost use Rattle.commit_ledger.specs.Kept.{Kept, opened, NumberFits, RoomFor};
+ghost use Rattle.commit_ledger.specs.Reading.{IsFirst, Opens, GoesOn, ReadsOn, ReadsAs, IsFirstBad, IsUnread};
+ghost use Rattle.commit_ledger.specs.Rules.{Follows, CommitFollows, ConfirmFollows};
+
+use crate::entry::{Commit, Confirm, Entry};
+use crate::ledger::{Ledger, ROOM};
+use crate::limit::MAX_ENTRIES;
+use crate::reading::entry_of;
+use cfg_base::NoMemory;
+use cfg_tree::LedgerCheck;
+use record_code::{Payloads, Placed};
+use std::alloc::Global;
+use thiserror::Error;
+
+/// The offset of a journal's first record, where a journal without one breaks the rules.
+const FIRST_RECORD: u64 = 17;
+
+/// Why records aren't those of a list of commits.
+#[derive(Clone, Copy, Debug, PartialEq, Eq, Error)]
+pub enum LedgerFault {
+    /// The first record that breaks a rule has its gate there.
+    #[error("bad record at {offset}")]
+    BadRecord { offset: u64 },
+    #[error("out of memory")]
+    NoMemory,
+}
+
+impl From<NoMemory> for LedgerFault {
+    ghost use Rattle.commit_ledger.specs.declared.opening.LedgerFault.TheVariants.{NoMemory as Wanting};
+
+    ghost from_gives = { λ _ fault. fault ≡ Wanting };
+
+    fn from(_: NoMemory) -> LedgerFault {
+        LedgerFault::NoMemory
+    }
+}
+
+fn opened(alloc: Global, commit: Commit) -> Result<Ledger, NoMemory>
+    requires { commit.number ≡ 1 }
+    ensures { IfOk result (λ ledger. ledger ≡ opened commit) }
+{
+    let older = Vec::with_capacity(alloc, ROOM)?;
+    Ok(Ledger {
+        count: 1,
+        moment: commit.moment,
+        last: commit,
+        older,
+        pending: None,
+    })
+}
+
+fn first_commit(entry: Entry) -> Option<Commit>
+    ensures some { IfSome result (IsFirst entry) }
+    ensures none { IsNone result → (commit : Commit) → IsFirst entry commit → ⊥ }
+{
+    match entry {
+        Entry::Commit(commit) if commit.number == 1 && commit.minutes == 0 => Some(commit),
+        _ => None,
+    }
+}
+
+/// The ledger of a first record.
+fn open<J: LedgerCheck>(alloc: Global, placed: &Placed, judge: &J) -> Result<Ledger, LedgerFault>
+    ensures ok { IfOk result (Opens (J.accepted judge.now) (record_of placed.now)) }
+    ensures bad { (offset : ℕ) → IsErrOf result (LedgerFault.BadRecord offset) → (offset ≡ placed.now.offset)
+        × ((next : Kept) → Opens (J.accepted judge.now) (record_of placed.now) next → ⊥) }
+{
+    let bad = LedgerFault::BadRecord {
+        offset: placed.offset,
+    };
+    let Some(entry) = entry_of(alloc, placed, judge)? else {
+        return Err(bad);
+    };
+    let Some(commit) = first_commit(entry) else {
+        return Err(bad);
+    };
+    Ok(opened(alloc, commit)?)
+}
+
+/// The ledger of a first record and those behind it.
+fn of_records<J: LedgerCheck>(
+    alloc: Global,
+    first: &Placed,
+    rest: &[Placed],
+    judge: &J,
+) -> Result<Ledger, LedgerFault>
+    ensures ok { IfOk result (ReadsAs (J.accepted judge.now) (records_of (first.now ∷ rest.now))) }
+    ensures bad { (offset : ℕ) → IsErrOf result (LedgerFault.BadRecord offset)
+        → IsFirstBad (J.accepted judge.now) None (first.now ∷ rest.now) offset }
+{
+    match open(alloc, first, judge) {
+        Err(fault) => Err(fault),
+        Ok(mut ledger) => match ledger.read_on(alloc, rest, judge) {
+            Err(fault) => Err(fault),
+            Ok(()) => Ok(ledger),
+        },
+    }
+}
+
+impl Ledger {
+    fn has_room(&self, commit: &Commit) -> bool
+        ensures { IsTrue result ↔ RoomFor self.now (Entry.Commit commit.now) }
+    {
+        if commit.minutes == 0 {
+            self.count <= MAX_ENTRIES
+        } else {
+            self.count < MAX_ENTRIES
+        }
+    }
+
+    fn commit_follows(&self, commit: &Commit) -> bool
+        ensures exact { IsTrue result ↔ CommitFollows self.now commit.now }
+        ensures number { IsTrue result → commit.now.number ≤ self.now.count + 1 }
+    {
+        commit.number == self.last().number + 1
+            && self.moment() <= commit.moment
+            && self.has_room(commit)
+    }
+
+    fn confirm_follows(&self, confirm: &Confirm) -> bool
+        ensures exact { IsTrue result ↔ ConfirmFollows self.now confirm.now }
+        ensures room { IsTrue result → self.now.count ≤ MAX_ENTRIES }
+    {
+        confirm.number == self.last().number
+            && self.moment() <= confirm.moment
+            && self.pending().is_some()
+    }
+
+    fn follows(&self, entry: &Entry) -> bool
+        ensures exact { IsTrue result ↔ Follows self.now entry.now }
+        ensures number { IsTrue result → NumberFits self.now entry.now }
+        ensures room { IsTrue result → RoomFor self.now entry.now }
+    {
+        match entry {
+            Entry::Commit(commit) => self.commit_follows(commit),
+            Entry::Confirm(confirm) => self.confirm_follows(confirm),
+        }
+    }
+
+    /// Takes in the entry of a further record.
+    fn go_on<J: LedgerCheck>(
+        &mut self,
+        alloc: Global,
+        placed: &Placed,
+        judge: &J,
+    ) -> Result<(), LedgerFault>
+        ensures ok { OnOk result (GoesOn (J.accepted judge.now) self.old (record_of placed.now) self.new) }
+        ensures bad { (offset : ℕ) → IsErrOf result (LedgerFault.BadRecord offset) → (offset ≡ placed.now.offset)
+            × (self.new ≡ self.old) × ((next : Kept) → GoesOn (J.accepted judge.now) self.old (record_of placed.now) next → ⊥) }
+    {
+        let bad = LedgerFault::BadRecord {
+            offset: placed.offset,
+        };
+        let Some(entry) = entry_of(alloc, placed, judge)? else {
+            return Err(bad);
+        };
+        if !self.follows(&entry) {
+            return Err(bad);
+        }
+        let ready = self.prepare(entry)?;
+        self.accept(ready);
+        Ok(())
+    }
+
+    /// Takes in the entries of further records, up to the first one that breaks a rule.
+    fn read_on<J: LedgerCheck>(
+        &mut self,
+        alloc: Global,
+        records: &[Placed],
+        judge: &J,
+    ) -> Result<(), LedgerFault>
+        ensures ok { OnOk result (ReadsOn (J.accepted judge.now) (Some self.old) (records_of records.now) (Some self.new)) }
+        ensures bad { (offset : ℕ) → IsErrOf result (LedgerFault.BadRecord offset)
+            → IsFirstBad (J.accepted judge.now) (Some self.old) records.now offset }
+    {
+        for placed in records {
+            if let Err(fault) = self.go_on(alloc, placed, judge) {
+                return Err(fault);
+            }
+        }
+        Ok(())
+    }
+
+    /// The ledger of a journal's records, or the first record that breaks a rule: at offset 17 where there is none.
+    pub fn of<J: LedgerCheck>(
+        alloc: Global,
+        payloads: &Payloads,
+        judge: &J,
+    ) -> Result<Ledger, LedgerFault>
+        ensures ok { IfOk result (ReadsAs (J.accepted judge.now) (records_of payloads.now)) }
+        ensures bad { (offset : ℕ) → IsErrOf result (LedgerFault.BadRecord offset)
+            → IsUnread (J.accepted judge.now) payloads.now offset }
+    {
+        match payloads.as_slice() {
+            [] => Err(LedgerFault::BadRecord {
+                offset: FIRST_RECORD,
+            }),
+            [first, rest @ ..] => of_records(alloc, first, rest, judge),
+        }
+    }
+}
