@@ -1,5 +1,6 @@
 pub mod LevelLemmas
 pub mod StepLemmas
+pub mod PlanLemmas
 pub mod OutcomeLemmas
 pub mod ShowingLemmas
-pub mod AcceptedLemmas
+pub mod SoundLemmas

@@ -1,10 +1,12 @@
 -- A step has one outcome.
 use Rattle.std.proofs.Common.{◌≡◌, ◌≢◌, ◌⊎◌, ℕ, Bool, true, false, ◌==◌, List, [], length, refl, sym, ap, subst, ◌∙◌, inl, inr, Some, None, Result, Ok, Err}
-use Rattle.std.specs.Prelude.{MatchBool}
+use Rattle.std.specs.Prelude.{MatchBool, Option}
+use Rattle.std.proofs.lemmas.Bool.Decides.{same_from_decides}
 use Rattle.commands.specs.declared.command.Command.{Command}
-use Rattle.commands.specs.declared.command.Command.TheVariants.{Configure, ShowActive, Logout, Edit, Up, Top, Exit, ExitAll, Show, Change, CheckOnly, Commit as CommitOf}
+use Rattle.commands.specs.declared.command.Command.TheVariants.{Configure, ShowActive, ShowCommits, Logout, Edit, Up, Top, Exit, ExitAll, Show, Change, Load, Rollback, CheckOnly, Commit as CommitAsked}
 use Rattle.commands.specs.declared.command.Form.{Form}
 use Rattle.commands.specs.declared.command.Form.TheVariants.{Curly, SetLines, Inherited}
+use Rattle.commands.specs.declared.command.LoadWay.{LoadWay}
 use Rattle.commands.specs.declared.command.Op.{Op}
 use Rattle.cfg_base.specs.declared.path.Step.{Step}
 use Rattle.cfg_tree.specs.declared.target.Target.{Target}
@@ -18,17 +20,28 @@ use Rattle.edit_ops.specs.declared.fault.EditFault.{EditFault}
 use Rattle.edit_ops.specs.declared.fault.EditFault.TheVariants as edit
 use Rattle.edit_ops.specs.Answer.{edit_fault, IsChange, IsEditFault}
 use Rattle.group_expand.specs.Expansion.{IsExpansion}
+use Rattle.load_ops.specs.declared.fault.LoadFault.{LoadFault}
+use Rattle.load_ops.specs.declared.fault.LoadFault.TheVariants as load
+use Rattle.load_ops.specs.Answer.{IsLoad, IsLoadFault}
 use Rattle.commit_check.specs.Accepts.{Accepts, IsFirst}
 use Rattle.config_core.specs.declared.event.Event.{Event}
-use Rattle.config_core.specs.declared.event.Event.TheVariants.{Command as CommandOf}
+use Rattle.config_core.specs.declared.event.Event.TheVariants.{Settle, Revert, Command as CommandOf}
+use Rattle.config_core.specs.declared.event.Outcome.{Outcome}
+use Rattle.config_core.specs.declared.event.Outcome.TheVariants as outcomes
 use Rattle.config_core.specs.declared.reply.Refusal.{Refusal}
-use Rattle.config_core.specs.declared.reply.Refusal.TheVariants.{WrongMode, Check}
+use Rattle.config_core.specs.declared.reply.Refusal.TheVariants.{WrongMode, Check, DiskFault}
 use Rattle.config_core.specs.declared.reply.Reply.{Reply}
-use Rattle.config_core.specs.declared.reply.Reply.TheVariants.{Done, Checked}
-use Rattle.config_core.specs.Kept.{active_of}
-use Rattle.config_core.specs.State.{State}
-use Rattle.config_core.specs.Showing.{refusal_of, NamesNone, NamesOne, path_alone, AsksFor, shown_full, ShowsBelow, ShowsAnswer, IsShow}
-use Rattle.config_core.specs.Machine.{Turned, answered, refused, level_of, is_configuring, edited, Moves, IsLost, Shows, Changes, IsUnchanged, Checks, committed, Operational, Configuring, Serves, later, Steps}
+use Rattle.config_core.specs.declared.reply.Reply.TheVariants.{Done, Text, Loaded, Committed, Refused}
+use Rattle.commit_ledger.specs.declared.entry.Commit.{Commit}
+use Rattle.commit_ledger.specs.declared.entry.Entry.TheVariants.{Commit as CommitOf}
+use Rattle.commit_ledger.specs.Kept.{Kept, active_of, nth_last}
+use Rattle.commit_ledger.specs.Listing.{IsListing}
+use Rattle.config_core.specs.State.{State, Made}
+use Rattle.config_core.specs.Showing.{refusal_of, load_refusal_of, NamesNone, NamesOne, path_alone, AsksFor, shown_full, ShowsBelow, ShowsAnswer, IsShow}
+use Rattle.config_core.specs.Callers.{level_of, is_configuring}
+use Rattle.config_core.specs.Entries.{commit_of, with_candidate}
+use Rattle.config_core.specs.Serving.{Turned, answered, refused, edited, Moves, IsLost, Shows, Lists, Changes, IsUnchanged, Loads, IsNotLoaded, Replaces, RollsTo, Checks, checked, makes, Operational, Configuring, Serves}
+use Rattle.config_core.specs.Machine.{Waiting, InFlight, Missed, Free, waiting_of, Ends, IsPutInFlight, StepsFrom, later, reverted, Steps}
 
 both_served : (b : Bool) (P Q P' Q' R : Type 0) → (P → P' → R) → (Q → Q' → R) → MatchBool b P Q → MatchBool b P' Q' → R
 both_served true P Q P' Q' R f g h k = f h k
@@ -62,6 +75,9 @@ same_why one other e = cc
 -- what is refused isn't want of memory
 has_cause : (fault : EditFault) (refusal : Refusal) → refusal_of fault ≡ Some refusal → fault ≢ edit.NoMemory
 has_cause fault refusal told e = some_none refusal (sym (ap refusal_of e) ∙ told)
+
+load_has_cause : (fault : LoadFault) (refusal : Refusal) → load_refusal_of fault ≡ Some refusal → fault ≢ load.NoMemory
+load_has_cause fault refusal told e = some_none refusal (sym (ap load_refusal_of e) ∙ told)
 
 why_has_cause : (why : WordsFault) (refusal : Refusal) → refusal_of (edit_fault why) ≡ Some refusal → misnamed why ≢ misnamed words.NoMemory
 why_has_cause why refusal told e = has_cause (edit_fault why) refusal told (ap edit_fault (same_why why words.NoMemory e))
@@ -144,6 +160,13 @@ module _ (s : State) (caller : ℕ)
     (first_once : (m : Statements) (number other : ℕ) (path again : List Step) → IsFirst m number path → IsFirst m other again
     → (number ≡ other) × (path ≡ again))
     (accepted_or_first : (m : Statements) (number : ℕ) (path : List Step) → Accepts m → IsFirst m number path → ⊥)
+    (load_once : (way : LoadWay) (old one other : Statements) (text : List ℕ) (told again : Bool) → IsLoad way old text one told
+    → IsLoad way old text other again → (one ≡ other) × (told ≡ again))
+    (load_fault_once : (way : LoadWay) (old : Statements) (text : List ℕ) (one other : LoadFault) → IsLoadFault way old text one
+    → IsLoadFault way old text other → one ≢ load.NoMemory → other ≢ load.NoMemory → one ≡ other)
+    (load_or_fault : (way : LoadWay) (old new : Statements) (text : List ℕ) (told : Bool) (fault : LoadFault) → IsLoad way old text new told
+    → IsLoadFault way old text fault → fault ≡ load.NoMemory)
+    (listing_once : (kept : Kept) (one other : List ℕ) → IsListing kept one → IsListing kept other → one ≡ other)
     (is_level : IsLevelPath (level_of s caller))
     (map_once : (op : Op) (one other : Statements) (told again : Bool) → IsChange s.candidate one (level_of s caller) op told
     → IsChange s.candidate other (level_of s caller) op again → (one ≡ other) × (told ≡ again))
@@ -163,7 +186,8 @@ module _ (s : State) (caller : ℕ)
   changes_once : (op : Op) (one other : Turned) → Changes s caller op one ⊎ IsUnchanged s caller op one
       → Changes s caller op other ⊎ IsUnchanged s caller op other → one ≡ other
   changes_once op one other (inl a) (inl b) =
-      a.is ∙ ap (λ (n : Statements). answered (record s { candidate = n }) Done) (map_once op a.next b.next a.told b.told a.change b.change).0 ∙ sym b.is
+      let same = map_once op a.next b.next a.told b.told a.change b.change in
+      a.is ∙ ap (λ (n : Statements). answered (with_candidate s n a.told) Done) same.0 ∙ ap (λ (told : Bool). answered (with_candidate s b.next told) Done) same.1 ∙ sym b.is
   changes_once op one other (inl a) (inr b) =
       absurd (has_cause b.fault b.refusal b.told (map_or_fault op a.next a.told b.fault a.change b.cause))
   changes_once op one other (inr a) (inl b) =
@@ -171,6 +195,33 @@ module _ (s : State) (caller : ℕ)
   changes_once op one other (inr a) (inr b) =
       let same = fault_once op a.fault b.fault a.cause b.cause (has_cause a.fault a.refusal a.told) (has_cause b.fault b.refusal b.told)
       in a.is ∙ ap (refused s) (same_some a.refusal b.refusal (sym a.told ∙ ap refusal_of same ∙ b.told)) ∙ sym b.is
+
+  loads_once : (way : LoadWay) (text : List ℕ) (one other : Turned) → Loads s way text one ⊎ IsNotLoaded s way text one
+      → Loads s way text other ⊎ IsNotLoaded s way text other → one ≡ other
+  loads_once way text one other (inl a) (inl b) =
+      let same = load_once way s.candidate a.next b.next text a.told b.told a.load b.load in
+      a.is ∙ ap (λ (n : Statements). answered (with_candidate s n a.told) Loaded) same.0
+      ∙ ap (λ (told : Bool). answered (with_candidate s b.next told) Loaded) same.1 ∙ sym b.is
+  loads_once way text one other (inl a) (inr b) =
+      absurd (load_has_cause b.fault b.refusal b.told (load_or_fault way s.candidate a.next text a.told b.fault a.load b.cause))
+  loads_once way text one other (inr a) (inl b) =
+      absurd (load_has_cause a.fault a.refusal a.told (load_or_fault way s.candidate b.next text b.told a.fault b.load a.cause))
+  loads_once way text one other (inr a) (inr b) =
+      let same = load_fault_once way s.candidate text a.fault b.fault a.cause b.cause (load_has_cause a.fault a.refusal a.told)
+      (load_has_cause b.fault b.refusal b.told)
+      in a.is ∙ ap (refused s) (same_some a.refusal b.refusal (sym a.told ∙ ap load_refusal_of same ∙ b.told)) ∙ sym b.is
+
+  lists_once : (one other : Turned) → Lists s one → Lists s other → one ≡ other
+  lists_once one other a b = a.is ∙ ap (λ (text : List ℕ). answered s (Text text)) (listing_once s.kept a.text b.text a.listing b.listing) ∙ sym b.is
+
+  replaces_once : (next : Statements) (one other : Turned) → Replaces s next one → Replaces s next other → one ≡ other
+  replaces_once next one other a b =
+      a.is ∙ ap (λ (told : Bool). answered (with_candidate s next told) Loaded) (same_from_decides a.told b.told a.tells b.tells) ∙ sym b.is
+
+  rolls_once : (n : ℕ) (commit : Option Commit) (one other : Turned) → RollsTo s n commit one → RollsTo s n commit other → one ≡ other
+  rolls_once n None one other a b = a ∙ sym b
+  rolls_once n (Some commit) one other a b =
+      both_served (n == 0) _ _ _ _ (one ≡ other) (both_are _ one other) (replaces_once commit.tree one other) a b
 
   module _ (one other : Turned) where
     operational_once : (P Q : Type 0) → (P → Q → one ≡ other) → Operational s caller one P → Operational s caller other Q → one ≡ other
@@ -188,6 +239,7 @@ module _ (s : State) (caller : ℕ)
     serves_once (Configure mode) = operational_once _ _ (both_are _ one other)
     serves_once (ShowActive asked form) =
         operational_once _ _ (shows_once [] (once_at [] (top_is_level [] refl)) full_once s (active_of s.kept) asked form one other)
+    serves_once ShowCommits = operational_once _ _ (lists_once one other)
     serves_once Logout = both_are _ one other
     serves_once (Edit asked) = configuring_once _ _ (moves_once asked one other)
     serves_once (Up count) = configuring_once _ _ (both_are _ one other)
@@ -197,8 +249,38 @@ module _ (s : State) (caller : ℕ)
     serves_once (Show asked form) =
         configuring_once _ _ (shows_once (level_of s caller) (once_at (level_of s caller) is_level) full_once s s.candidate asked form one other)
     serves_once (Change op) = configuring_once _ _ (changes_once op one other)
-    serves_once CheckOnly = configuring_once _ _ (checks_once first_once accepted_or_first s (answered s Checked) one other)
-    serves_once CommitOf = configuring_once _ _ (checks_once first_once accepted_or_first s (committed s caller) one other)
+    serves_once (Load way text) = configuring_once _ _ (loads_once way text one other)
+    serves_once (Rollback n) = configuring_once _ _ (rolls_once n (nth_last s.kept n) one other)
+    serves_once CheckOnly = configuring_once _ _ (checks_once first_once accepted_or_first s (checked s caller s.kept.pending) one other)
+    serves_once (CommitAsked minutes comment quit) =
+        configuring_once _ _
+        (checks_once first_once accepted_or_first s (makes s caller (CommitOf (commit_of s caller minutes comment)) quit (Committed minutes quit)) one other)
+
+-- what was to be done ends in one way
+put_once : (s : State) (done one other : Turned) → IsPutInFlight s done one → IsPutInFlight s done other → one ≡ other
+put_once s done one other a b =
+    a.is ∙ ap (λ (made : Made). record { state = record s { flight = Some made }; reply = Refused DiskFault; made = Some made })
+    (same_some a.made b.made (sym a.makes ∙ b.makes)) ∙ sym b.is
+
+ends_once : (outcome : Outcome) (s : State) (done one other : Turned) → Ends outcome s done one → Ends outcome s done other → one ≡ other
+ends_once outcomes.Done s done one other a b = a ∙ sym b
+ends_once outcomes.Fault s done one other a b = put_once s done one other a b
+
+from_once : (waiting : Waiting) (s : State) (caller : ℕ) (event : Event) (outcome : Outcome) (one other : Turned)
+    → ((command : Command) (done again : Turned) → Serves s caller command done → Serves s caller command again → done ≡ again)
+    → StepsFrom waiting s caller event outcome one → StepsFrom waiting s caller event outcome other → one ≡ other
+from_once (InFlight made) s caller (Settle is_kept) outcomes.Done one other once a b = a ∙ sym b
+from_once (InFlight made) s caller (CommandOf command) outcomes.Fault one other once a b = a ∙ sym b
+from_once (InFlight made) s caller (Settle is_kept) outcomes.Fault one other once a b = absurd a
+from_once (InFlight made) s caller (CommandOf command) outcomes.Done one other once a b = absurd a
+from_once (InFlight made) s caller Revert outcome one other once a b = absurd a
+from_once Missed s caller Revert outcome one other once a b = ends_once outcome s (reverted s) one other a b
+from_once Missed s caller (Settle is_kept) outcome one other once a b = absurd a
+from_once Missed s caller (CommandOf command) outcome one other once a b = absurd a
+from_once Free s caller (CommandOf command) outcome one other once a b =
+    ends_once outcome s b.done one other (subst (λ (done : Turned). Ends outcome s done one) (once command a.done b.done a.serves b.serves) a.ends) b.ends
+from_once Free s caller (Settle is_kept) outcome one other once a b = absurd a
+from_once Free s caller Revert outcome one other once a b = absurd a
 
 -- an event has one outcome
 pub steps_once :
@@ -214,11 +296,20 @@ pub steps_once :
     → IsEditFault m level op other → one ≢ edit.NoMemory → other ≢ edit.NoMemory → one ≡ other)
     → ((m n : Statements) (level : List Step) (op : Op) (told : Bool) (fault : EditFault) → IsLevelPath level → IsChange m n level op told
     → IsEditFault m level op fault → fault ≡ edit.NoMemory)
-    → (s : State) (caller moment : ℕ) (event : Event) (one other : Turned) → IsLevelPath (level_of s caller)
-    → Steps s caller moment event one → Steps s caller moment event other → one ≡ other
-steps_once words_once full_once first_once accepted_or_first map_once fault_once map_or_fault s caller moment (CommandOf command) one other is_level =
-    serves_once (later s moment) caller words_once full_once first_once accepted_or_first is_level
-    (λ op one other told again. map_once s.candidate one other (level_of s caller) op told again is_level)
-    (λ op one other. fault_once s.candidate (level_of s caller) op one other is_level)
+    → ((way : LoadWay) (old one other : Statements) (text : List ℕ) (told again : Bool) → IsLoad way old text one told
+    → IsLoad way old text other again → (one ≡ other) × (told ≡ again))
+    → ((way : LoadWay) (old : Statements) (text : List ℕ) (one other : LoadFault) → IsLoadFault way old text one
+    → IsLoadFault way old text other → one ≢ load.NoMemory → other ≢ load.NoMemory → one ≡ other)
+    → ((way : LoadWay) (old new : Statements) (text : List ℕ) (told : Bool) (fault : LoadFault) → IsLoad way old text new told
+    → IsLoadFault way old text fault → fault ≡ load.NoMemory)
+    → ((kept : Kept) (one other : List ℕ) → IsListing kept one → IsListing kept other → one ≡ other)
+    → (s : State) (caller moment : ℕ) (event : Event) (outcome : Outcome) (one other : Turned) → IsLevelPath (level_of s caller)
+    → Steps s caller moment event outcome one → Steps s caller moment event outcome other → one ≡ other
+steps_once words_once full_once first_once accepted_or_first map_once fault_once map_or_fault load_once load_fault_once load_or_fault listing_once s caller moment event
+    outcome one other is_level =
+    from_once (waiting_of s moment) (later s moment) caller event outcome one other
+    (λ command done again. serves_once (later s moment) caller words_once full_once first_once accepted_or_first load_once load_fault_once load_or_fault listing_once is_level
+    (λ op m n told more. map_once s.candidate m n (level_of s caller) op told more is_level)
+    (λ op f g. fault_once s.candidate (level_of s caller) op f g is_level)
     (λ op n told fault. map_or_fault s.candidate n (level_of s caller) op told fault is_level)
-    one other command
+    done again command)

@@ -1,7 +1,10 @@
-pub mod Kept
 pub mod State
 pub mod Levels
+pub mod Callers
 pub mod Showing
+pub mod Entries
+pub mod Serving
 pub mod Machine
 pub mod Plan
 pub mod Prepared
+pub mod Soundness

@@ -1,10 +1,30 @@
--- What a prepared step holds: whose it is, at which moment, what it does, and the reply.
-use Rattle.std.specs.Prelude.{ℕ}
+-- What a prepared step holds: whose it is, at which moment, what it does where it is done, and the reply.
+use Rattle.std.specs.Prelude.{ℕ, Option, Some, None}
+use Rattle.cfg_tree.specs.Statements.{Statements}
+use Rattle.commit_ledger.specs.declared.entry.Entry.{Entry}
+use Rattle.commit_ledger.specs.declared.entry.Entry.TheVariants.{Commit as CommitOf, Confirm as ConfirmOf}
+use Rattle.config_core.specs.declared.effect.Appending.{Appending}
 use Rattle.config_core.specs.declared.effect.Effect.{Effect}
+use Rattle.config_core.specs.declared.effect.Effect.TheVariants.{Append}
 use Rattle.config_core.specs.declared.reply.Reply.{Reply}
+use Rattle.config_core.specs.State.{Made}
 
 pub record Plan : Type 0 where
   pub caller : ℕ
   pub moment : ℕ
   pub effect : Effect
   pub reply : Reply
+
+-- the entry that is to be appended
+abbrev pub made_of : Appending → Made
+made_of a = record { entry = a.ready.entry; maker = a.maker }
+
+-- the entry that a plan makes
+abbrev pub made_in : Effect → Option Made
+made_in (Append a) = Some (made_of a)
+made_in effect = None
+
+-- the map of a commit
+abbrev pub tree_in : Entry → Option Statements
+tree_in (CommitOf commit) = Some commit.tree
+tree_in (ConfirmOf confirm) = None

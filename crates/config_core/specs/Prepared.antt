@@ -1,42 +1,123 @@
 -- A step that is prepared and not yet carried out.
-use Rattle.std.specs.Prelude.{◌≡◌, ℕ, ◌+◌, ◌<◌, Some}
+use Rattle.std.specs.Prelude.{◌≡◌, ◌&&◌, ℕ, Bool, true, not, if◌then◌else◌, Option, Some, None}
+use Rattle.commands.specs.declared.command.Command.{Command}
+use Rattle.cfg_tree.specs.Statements.{Statements}
+use Rattle.commit_ledger.specs.Kept.{Kept, target_for, NumberFits, RoomFor}
+use Rattle.config_core.specs.declared.effect.Appending.{Appending}
 use Rattle.config_core.specs.declared.effect.Effect.{Effect}
-use Rattle.config_core.specs.declared.effect.Effect.TheVariants.{Stay, Leave, Enter, Move, Edit, Append}
-use Rattle.config_core.specs.declared.ledger.TheConstants.{MAX_ENTRIES}
-use Rattle.config_core.specs.Kept.{append_entry}
+use Rattle.config_core.specs.declared.effect.Effect.TheVariants.{Stay, Leave, Enter, Move, Edit, Settle, Append}
+use Rattle.config_core.specs.declared.event.Event.{Event}
+use Rattle.config_core.specs.declared.event.Event.TheVariants.{Settle as SettleOf, Revert, Command as CommandOf}
+use Rattle.config_core.specs.declared.event.Need.{Need}
+use Rattle.config_core.specs.declared.event.Need.TheVariants as need
+use Rattle.config_core.specs.declared.event.Outcome.{Outcome}
+use Rattle.config_core.specs.declared.event.Outcome.TheVariants.{Done, Fault}
+use Rattle.config_core.specs.declared.reply.Refusal.TheVariants.{DiskFault}
+use Rattle.config_core.specs.declared.reply.Reply.{Reply}
+use Rattle.config_core.specs.declared.reply.Reply.TheVariants.{Refused}
 use Rattle.config_core.specs.Levels.{at_top}
-use Rattle.config_core.specs.Plan.{Plan}
-use Rattle.config_core.specs.State.{State}
-use Rattle.config_core.specs.Machine.{IsCaller, Turned, with_caller, with_position, without_mode}
+use Rattle.config_core.specs.Plan.{Plan, made_of, made_in, tree_in}
+use Rattle.config_core.specs.State.{State, Made}
+use Rattle.config_core.specs.Callers.{IsCaller, with_caller, with_position, without_mode}
+use Rattle.config_core.specs.Entries.{taken}
+use Rattle.config_core.specs.Serving.{Turned, left_if}
+use Rattle.config_core.specs.Machine.{Waiting, InFlight, Missed, Free, waiting_of, is_logout, settled, later, Steps}
 
--- what an effect makes of the state
-abbrev pub effected : Effect → ℕ → State → State
-effected Stay caller s = s
-effected Leave caller s = without_mode s caller
-effected (Enter mode) caller s = with_caller s caller (Some mode) at_top
-effected (Move position) caller s = with_position s caller position
-effected (Edit tree) caller s = record s { candidate = tree }
-effected (Append commit) caller s = record s { kept = append_entry s.kept commit }
+-- the entry in flight is settled so
+abbrev pub settled_in : Option Made → Bool → State → State
+settled_in None is_kept s = s
+settled_in (Some made) is_kept s = settled s made is_kept
+
+-- what an effect makes of the state, by the outcome
+abbrev pub effected : Effect → ℕ → Outcome → State → State
+effected Stay caller outcome s = s
+effected Leave caller outcome s = without_mode s caller
+effected (Enter mode) caller outcome s = with_caller s caller (Some mode) at_top
+effected (Move position) caller outcome s = with_position s caller position
+effected (Edit tree is_modified) caller outcome s = record s { candidate = tree; is_modified = is_modified }
+effected (Settle is_kept) caller outcome s = settled_in s.flight is_kept s
+effected (Append a) caller Done s = left_if a.quit caller (taken s (made_of a))
+effected (Append a) caller Fault s = record s { flight = Some (made_of a) }
 
 -- the state after the prepared step
-abbrev pub applied : Plan → State → State
-applied plan s = effected plan.effect plan.caller (record s { greatest = plan.moment })
+abbrev pub applied : Plan → Outcome → State → State
+applied plan outcome s = effected plan.effect plan.caller outcome (later s plan.moment)
 
--- a commit that is to be appended is the next one, and there is room for it
-abbrev pub CanApply : Effect → State → Type 0
-CanApply (Append commit) s = (s.kept.count < MAX_ENTRIES) × (commit.number ≡ s.kept.last.number + 1)
-CanApply _ s = Unit {0}
+-- the reply to it: an entry that isn't known to be kept is a fault of the disk
+abbrev pub replied : Effect → Reply → Outcome → Reply
+replied (Append a) reply Fault = Refused DiskFault
+replied effect reply outcome = reply
+
+-- what the prepared step leaves
+abbrev pub ended : Plan → Outcome → State → Turned
+ended plan outcome s = record { state = applied plan outcome s; reply = replied plan.effect plan.reply outcome; made = made_in plan.effect }
+
+-- what it leaves where it is done
+abbrev pub turned_by : Plan → State → Turned
+turned_by plan s = record { state = applied plan Done s; reply = plan.reply; made = made_in plan.effect }
+
+-- what is to be appended was made ready over that value, and the list has room for it
+pub record IsReady (kept : Kept) (a : Appending) : Type 0 where
+  pub target : a.ready.target ≡ target_for kept a.ready.entry
+  pub number : NumberFits kept a.ready.entry
+  pub room : RoomFor kept a.ready.entry
+  pub fresh : a.fresh ≡ tree_in a.ready.entry
 
 -- the step was prepared of such a state
-pub record Follows (plan : Plan) (s : State) : Type 0 where
-  pub is_caller : IsCaller s plan.caller
-  pub fits : CanApply plan.effect s
+abbrev pub CanApply : Effect → ℕ → State → Type 0
+CanApply Stay caller s = Unit {0}
+CanApply Leave caller s = IsCaller s caller
+CanApply (Enter mode) caller s = IsCaller s caller
+CanApply (Move position) caller s = IsCaller s caller
+CanApply (Edit tree is_modified) caller s = Unit {0}
+CanApply (Settle is_kept) caller s = Unit {0}
+CanApply (Append a) caller s = IsReady s.kept a × (a.quit ≡ true → IsCaller s caller)
 
--- what the prepared step makes of a state, and its reply
-abbrev pub turned_by : Plan → State → Turned
-turned_by plan s = record { state = applied plan s; reply = plan.reply }
+abbrev pub Follows : Plan → State → Type 0
+Follows plan s = CanApply plan.effect plan.caller s
 
--- the prepared step is one of the machine
-pub record Prepares (s : State) (Step : Turned → Type 0) (plan : Plan) : Type 0 where
+-- the prepared step is one of a command, where nothing comes before it
+pub record Prepares (s : State) (moment : ℕ) (Step : Turned → Type 0) (plan : Plan) : Type 0 where
+  pub at_moment : plan.moment ≡ moment
   pub follows : Follows plan s
   pub steps : Step (turned_by plan s)
+
+-- which outcomes an event may have, by what stands before the next command and by the entry that it makes
+abbrev pub CanEnd : Waiting → Event → Option Made → Outcome → Type 0
+CanEnd (InFlight made) (SettleOf is_kept) entry Done = Unit {0}
+CanEnd (InFlight made) (CommandOf command) entry Fault = Unit {0}
+CanEnd Missed Revert entry outcome = Unit {0}
+CanEnd Free (CommandOf command) entry Done = Unit {0}
+CanEnd Free (CommandOf command) (Some made) Fault = Unit {0}
+CanEnd waiting event entry outcome = ⊥
+
+-- the prepared step is one of the machine, with each outcome that the event may have
+pub record IsPrepared (s : State) (caller moment : ℕ) (event : Event) (plan : Plan) : Type 0 where
+  pub follows : Follows plan s
+  pub steps : (outcome : Outcome) → CanEnd (waiting_of s moment) event (made_in plan.effect) outcome → Steps s caller moment event outcome (ended plan outcome s)
+
+-- what comes before the next command, as it is told
+abbrev pub need_in : Waiting → Need
+need_in (InFlight made) = need.Settle
+need_in Missed = need.Revert
+need_in Free = need.Nothing
+
+-- the plan of a command that isn't done because an entry is in flight
+abbrev pub put_off : ℕ → ℕ → Command → Plan
+put_off caller moment command =
+    record { caller = caller; moment = moment; effect = if is_logout command then Leave else Stay; reply = Refused DiskFault }
+
+-- an event settles the entry in flight
+abbrev pub IsSettling : Event → Type 0
+IsSettling (SettleOf is_kept) = Unit {0}
+IsSettling Revert = ⊥
+IsSettling (CommandOf command) = ⊥
+
+-- the candidate, and whether it is modified, when a commit of this map comes
+abbrev pub candidate_with : Statements → Bool → Option Statements → Bool → Statements
+candidate_with candidate is_modified None is_committed = candidate
+candidate_with candidate is_modified (Some tree) is_committed = if is_modified && not is_committed then candidate else tree
+
+abbrev pub modified_with : Bool → Option Statements → Bool → Bool
+modified_with is_modified None is_committed = is_modified
+modified_with is_modified (Some tree) is_committed = is_modified && not is_committed

@@ -19,6 +19,12 @@ use Rattle.set_text.specs.Printed.{printed_set}
 use Rattle.edit_ops.specs.declared.fault.EditFault.{EditFault}
 use Rattle.edit_ops.specs.declared.fault.EditFault.TheVariants as edit
 use Rattle.edit_ops.specs.Answer.{edit_fault}
+use Rattle.curly_grammar.specs.declared.fault.TextFault.{TextFault}
+use Rattle.curly_grammar.specs.declared.fault.TextFault.TheVariants as text
+use Rattle.set_text.specs.declared.fault.LineFault.{LineFault}
+use Rattle.set_text.specs.declared.fault.LineFault.TheVariants as line
+use Rattle.load_ops.specs.declared.fault.LoadFault.{LoadFault}
+use Rattle.load_ops.specs.declared.fault.LoadFault.TheVariants as load
 use Rattle.group_expand.specs.Expansion.{IsExpansion}
 use Rattle.config_core.specs.declared.reply.Refusal.{Refusal}
 use Rattle.config_core.specs.declared.reply.Refusal.TheVariants as refuse
@@ -38,6 +44,26 @@ refusal_of (edit.AlreadyThere path) = Some (refuse.AlreadyThere path)
 refusal_of (edit.Protected path) = Some (refuse.Protected path)
 refusal_of edit.TooMany = Some refuse.TooMany
 refusal_of edit.NoMemory = None
+
+-- a curly text is refused by its leftmost fault; one of too many statements as a change that makes too many
+abbrev pub text_refusal_of : TextFault → Option Refusal
+text_refusal_of text.TooMany = Some refuse.TooMany
+text_refusal_of text.NoMemory = None
+text_refusal_of fault = Some (refuse.Text fault)
+
+-- texts of lines are refused so
+abbrev pub line_refusal_of : LineFault → Option Refusal
+line_refusal_of (line.Line number place) = Some (refuse.Line number place)
+line_refusal_of line.NoMemory = None
+
+-- loads are refused so
+abbrev pub load_refusal_of : LoadFault → Option Refusal
+load_refusal_of (load.Text fault) = text_refusal_of fault
+load_refusal_of (load.Line fault) = line_refusal_of fault
+load_refusal_of (load.Edit number fault) = Some (refuse.LineEdit number fault)
+load_refusal_of (load.Protected path) = Some (refuse.Protected path)
+load_refusal_of load.TooMany = Some refuse.TooMany
+load_refusal_of load.NoMemory = None
 
 -- words that name no statement from a level on are refused, and the answer is made of the refusal
 pub record NamesNone {A : Type 0} (answer_of : Refusal → A) (level : List Step) (asked : List (List ℕ)) (answer : A) : Type 0 where

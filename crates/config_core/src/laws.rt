@@ -1,33 +1,50 @@
 //! A step has one outcome, and leaves the active configuration accepted.
 
-ghost use Rattle.std.specs.Prelude.{◌≡◌, ℕ, List};
+ghost use Rattle.std.specs.Prelude.{◌≡◌, ℕ, List, IfSome};
 ghost use Rattle.cfg_tree.specs.Resolve.{IsLevelPath};
+ghost use Rattle.commit_ledger.specs.Kept.{Kept, factory};
 ghost use Rattle.config_core.specs.declared.event.Event.{Event};
-ghost use Rattle.config_core.specs.Kept.{factory};
+ghost use Rattle.config_core.specs.declared.event.Outcome.{Outcome};
 ghost use Rattle.config_core.specs.State.{State, IsActiveAccepted, opening_of};
-ghost use Rattle.config_core.specs.Machine.{Turned, Steps, level_of};
+ghost use Rattle.config_core.specs.Callers.{level_of};
+ghost use Rattle.config_core.specs.Serving.{Turned};
+ghost use Rattle.config_core.specs.Machine.{Fits, Steps};
+ghost use Rattle.config_core.specs.Soundness.{IsSoundKept, IsSoundMade, IsSoundState};
 
 use cfg_tree::words_have_one_answer;
 use commit_check::{checks_have_one_answer, nothing_is_accepted};
+use commit_ledger::listings_are_one_text;
 use edit_ops::changes_have_one_answer;
 use group_expand::expansion_is_one;
+use load_ops::loads_have_one_answer;
 
-/// Of a caller that stands at a level, an event at a moment leaves one state, with one reply.
+/// Of a caller that stands at a level, an event at a moment with an outcome leaves one state, with one reply and one entry or
+/// none.
 pub fn steps_have_one_outcome()
-    ensures { (s : State) (caller moment : ℕ) (event : Event) (one other : Turned) → IsLevelPath (level_of s caller)
-        → Steps s caller moment event one → Steps s caller moment event other → one ≡ other }
+    ensures { (s : State) (caller moment : ℕ) (event : Event) (outcome : Outcome) (one other : Turned)
+        → IsLevelPath (level_of s caller) → Steps s caller moment event outcome one → Steps s caller moment event outcome other
+        → one ≡ other }
 {
     words_have_one_answer();
     changes_have_one_answer();
     expansion_is_one();
     checks_have_one_answer();
+    loads_have_one_answer();
+    listings_are_one_text();
 }
 
-/// The active configuration is accepted where the list begins, and stays so: a commit whose map breaks a rule isn't made.
+/// The active configuration is accepted where the list begins, and stays so whatever events come and however they end: a commit
+/// whose map breaks a rule isn't made, and neither a settling nor a revert brings one. Each entry that is made may be the next
+/// of the list.
 pub fn active_configuration_stays_accepted()
-    ensures factory { (users : List (List ℕ)) → IsActiveAccepted (opening_of factory users) }
-    ensures steps { (s : State) (caller moment : ℕ) (event : Event) (turned : Turned) → IsActiveAccepted s
-        → Steps s caller moment event turned → IsActiveAccepted turned.state }
+    ensures factory { IsSoundKept factory }
+    ensures opening { (kept : Kept) (users : List (List ℕ)) → IsSoundKept kept → IsSoundState (opening_of kept users) }
+    ensures steps { (s : State) (caller moment : ℕ) (event : Event) (outcome : Outcome) (turned : Turned) → IsSoundState s
+        → Fits s caller moment event → Steps s caller moment event outcome turned → IsSoundState turned.state }
+    ensures entries { (s : State) (caller moment : ℕ) (event : Event) (outcome : Outcome) (turned : Turned) → IsSoundState s
+        → Fits s caller moment event → Steps s caller moment event outcome turned
+        → IfSome turned.made (IsSoundMade s.kept moment) }
+    ensures accepted { (s : State) → IsSoundState s → IsActiveAccepted s }
 {
     nothing_is_accepted();
 }

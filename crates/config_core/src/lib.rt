@@ -10,25 +10,26 @@
 #![tactic(auto)]
 
 mod caller;
-mod commit;
+mod committing;
 mod core_state;
+mod editing;
 mod effect;
 mod event;
 mod laws;
-mod ledger;
+mod moving;
 mod position;
 mod prepared;
 mod refusing;
 mod reply;
+mod settling;
 mod showing;
+mod viewing;
 
 pub use caller::Caller;
-pub use commit::{Commit, Via};
 pub use core_state::Core;
-pub use effect::Effect;
-pub use event::{Event, Outcome};
+pub use effect::{Appending, Effect};
+pub use event::{Event, Need, Outcome};
 pub use laws::{active_configuration_stays_accepted, steps_have_one_outcome};
-pub use ledger::{Ledger, MAX_ENTRIES, limits_are_stated};
 pub use position::Position;
 pub use prepared::Prepared;
 pub use reply::{Refusal, Reply};

@@ -1,13 +1,16 @@
-//! How words and changes are refused, and which paths are levels.
+//! How words, changes and loads are refused, and which paths are levels.
 
 ghost use Rattle.std.specs.Prelude.{◌≡◌};
 ghost use Rattle.config_core.specs.Levels.{is_level_at};
-ghost use Rattle.config_core.specs.Showing.{refusal_of};
+ghost use Rattle.config_core.specs.Showing.{refusal_of, text_refusal_of, line_refusal_of, load_refusal_of};
 
 use crate::reply::Refusal;
 use cfg_base::{Path, Shape};
 use cfg_schema::{Place, row};
+use curly_grammar::TextFault;
 use edit_ops::EditFault;
+use load_ops::LoadFault;
+use set_text::LineFault;
 
 /// The refusal of a change; none for want of memory.
 pub(crate) fn refusal_of(fault: EditFault) -> Option<Refusal>
@@ -25,6 +28,39 @@ pub(crate) fn refusal_of(fault: EditFault) -> Option<Refusal>
         EditFault::Protected(path) => Some(Refusal::Protected(path)),
         EditFault::TooMany => Some(Refusal::TooMany),
         EditFault::NoMemory => None,
+    }
+}
+
+fn text_refusal_of(fault: TextFault) -> Option<Refusal>
+    ensures { result ≡ text_refusal_of fault }
+{
+    match fault {
+        TextFault::TooMany => Some(Refusal::TooMany),
+        TextFault::NoMemory => None,
+        fault => Some(Refusal::Text(fault)),
+    }
+}
+
+fn line_refusal_of(fault: LineFault) -> Option<Refusal>
+    ensures { result ≡ line_refusal_of fault }
+{
+    match fault {
+        LineFault::Line { line, place } => Some(Refusal::Line { line, place }),
+        LineFault::NoMemory => None,
+    }
+}
+
+/// The refusal of a load; none for want of memory.
+pub(crate) fn load_refusal_of(fault: LoadFault) -> Option<Refusal>
+    ensures { result ≡ load_refusal_of fault }
+{
+    match fault {
+        LoadFault::Text(fault) => text_refusal_of(fault),
+        LoadFault::Line(fault) => line_refusal_of(fault),
+        LoadFault::Edit { line, fault } => Some(Refusal::LineEdit { line, fault }),
+        LoadFault::Protected(path) => Some(Refusal::Protected(path)),
+        LoadFault::TooMany => Some(Refusal::TooMany),
+        LoadFault::NoMemory => None,
     }
 }
 

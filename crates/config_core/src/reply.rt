@@ -1,5 +1,7 @@
 use cfg_base::{Bytes, Path};
 use commands::Mode;
+use curly_grammar::TextFault;
+use edit_ops::EditFault;
 
 /// Why a command was refused; nothing changed but the moment.
 #[derive(Debug, Drop, PartialEq, Eq)]
@@ -30,10 +32,20 @@ pub enum Refusal {
     TooMany,
     /// The expansion that is to be shown has more than 65536 paths.
     TooWide,
+    /// No commit of that number is kept; so many are.
+    NoRollback { n: u32, kept: u32 },
+    /// The curly text isn't read.
+    Text(TextFault),
+    /// A line of the text, counted from 1, is no change; the byte in it that doesn't fit.
+    Line { line: u32, place: u32 },
+    /// The change of a line of the text, counted from 1, is refused.
+    LineEdit { line: u32, fault: EditFault },
     /// The candidate breaks the rule of this number first at this path, and no rule of a lower number.
     Check { number: u8, path: Path },
     /// The list of entries is full.
     Exhausted,
+    /// The entry could not be written, or what was written before isn't known to be kept.
+    DiskFault,
 }
 
 /// The answer to an event.
@@ -44,8 +56,11 @@ pub enum Reply {
     Text(Bytes),
     Entered(Mode),
     Left,
+    /// The text, or the commit's map, is in the candidate.
+    Loaded,
     /// The candidate is accepted.
     Checked,
-    Committed,
+    /// The candidate is committed; with minutes it is rolled back unless it is confirmed within them.
+    Committed { minutes: u32, quit: bool },
     Refused(Refusal),
 }

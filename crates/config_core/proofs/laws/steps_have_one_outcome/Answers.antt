@@ -5,4 +5,6 @@ pub returns : goal.returns
 returns c =
     let changes = c.changes_have_one_answer.ensures in
     let checks = c.checks_have_one_answer.ensures in
+    let loads = c.loads_have_one_answer.ensures in
     steps_once c.words_have_one_answer.ensures c.expansion_is_one.ensures.one checks.one checks.apart changes.one_map changes.one_fault changes.apart
+    loads.one_map loads.one_fault loads.apart c.listings_are_one_text.ensures

@@ -1,0 +1,269 @@
+-- What holds of every state stays so.
+use Rattle.std.proofs.Common.{◌≡◌, ◌≢◌, ◌⊎◌, ◌==◌, ◌+◌, ◌<◌, ◌≤◌, ℕ, zero, suc, List, [], Bool, true, false, if◌then◌else◌, refl, sym, ◌∙◌, ap, subst, nat_lt, Option, None, Some, inl, inr, arith, rules}
+use Rattle.std.specs.Prelude.{IsSome, IfSome}
+use Rattle.std.specs.FinMap as map
+use Rattle.std.proofs.lemmas.List.Elements.{All-nil}
+use Rattle.commands.specs.Sound.{IsSound}
+use Rattle.commands.specs.declared.command.Command.{Command}
+use Rattle.commands.specs.declared.command.Command.TheVariants.{Configure, ShowActive, ShowCommits, Logout, Edit, Up, Top, Exit, ExitAll, Show, Change, Load, Rollback, CheckOnly, Commit as CommitAsked}
+use Rattle.cfg_base.specs.declared.path.Step.{Step}
+use Rattle.cfg_lex.specs.Printed.{IsPrintable}
+use Rattle.cfg_tree.specs.Statements.{Statements}
+use Rattle.commit_check.specs.Accepts.{Accepts}
+use Rattle.commit_ledger.specs.declared.entry.Commit.{Commit}
+use Rattle.commit_ledger.specs.declared.entry.Entry.{Entry}
+use Rattle.commit_ledger.specs.declared.entry.Entry.TheVariants.{Commit as CommitOf, Confirm as ConfirmOf}
+use Rattle.commit_ledger.specs.declared.limit.TheConstants.{MAX_ENTRIES}
+use Rattle.commit_ledger.specs.Kept.{Kept, Unconfirmed, KeepsMaps, append_entry, target_of, factory, nth_last, is_missed, is_revert_due}
+use Rattle.commit_ledger.proofs.KeptLemmas.{keeps_more, target_is_kept}
+use Rattle.config_core.specs.declared.event.Event.{Event}
+use Rattle.config_core.specs.declared.event.Event.TheVariants.{Settle, Revert, Command as CommandOf}
+use Rattle.config_core.specs.declared.event.Outcome.{Outcome}
+use Rattle.config_core.specs.declared.event.Outcome.TheVariants.{Done, Fault}
+use Rattle.config_core.specs.declared.reply.Reply.{Reply}
+use Rattle.config_core.specs.Levels.{Position, is_level_at}
+use Rattle.config_core.specs.State.{State, Made}
+use Rattle.config_core.specs.Callers.{is_configuring, level_of, without_mode}
+use Rattle.config_core.specs.Entries.{commit_of, confirm_of, made_by, revert_made, taken}
+use Rattle.config_core.specs.Serving.{Turned, answered, exited, edited, makes, left_if, checked, Moves, IsLost, Changes, IsUnchanged, Loads, IsNotLoaded, Replaces, RollsTo, Checks, Shows, Serves}
+use Rattle.config_core.specs.Machine.{Waiting, InFlight, Missed, Free, waiting_for, waiting_of, is_logout, settled, reverted, left_by, Ends, IsPutInFlight, StepsFrom, Steps, later, Fits, IsAskable}
+use Rattle.config_core.specs.Soundness.{IsSoundCommit, IsSoundEntry, IsSoundMade, IsSoundKept, AreSound, IsSoundState}
+use Rattle.config_core.proofs.StepLemmas.{by_mode}
+
+-- a step leaves a state that is sound, and an entry that may be the next one, or none
+abbrev Keeps : State → Turned → Type 0
+Keeps s turned = IsSoundState turned.state × IfSome turned.made (IsSoundMade s.kept s.greatest)
+
+kept_by : (s : State) (turned to : Turned) → turned ≡ to → Keeps s to → Keeps s turned
+kept_by s turned to is keeps = subst (Keeps s) (sym is) keeps
+
+either : (s : State) (b : Bool) (x y : Turned) → (b ≡ true → Keeps s x) → Keeps s y → Keeps s (if b then x else y)
+either s true x y first second = first refl
+either s false x y first second = second
+
+-- one more entry
+room_after : (minutes count limit : ℕ) (run : Unconfirmed) → (minutes ≢ 0 → count < limit) → IsSome (if minutes == 0 then None else Some run) → count + 1 ≤ limit
+room_after zero count limit run room waits = absurd (cc)
+room_after (suc n) count limit run room waits = let below = room (λ e. cc) in omega (arith, below)
+
+numbered : (number last : ℕ) → number ≡ last + 1 → 1 ≤ number
+numbered number last is = omega (arith, is)
+
+taken_sound : (s : State) (entry : Entry) (maker : Option ℕ) → IsSoundState s → IsSoundMade s.kept s.greatest (record { entry = entry; maker = maker })
+    → IsSoundState (taken s (record { entry = entry; maker = maker }))
+taken_sound s (CommitOf commit) maker sound made = record {
+  kept = record {
+    maps = keeps_more Accepts s.kept (CommitOf commit) sound.kept.maps made.entry.accepted;
+    number = numbered commit.number s.kept.last.number made.entry.follows.number;
+    room = room_after commit.minutes s.kept.count MAX_ENTRIES _ made.entry.follows.room.1;
+  };
+  no_later = made.no_later;
+  flight = tt;
+}
+taken_sound s (ConfirmOf confirm) maker sound made = record {
+  kept = record {
+    maps = keeps_more Accepts s.kept (ConfirmOf confirm) sound.kept.maps tt;
+    number = sound.kept.number;
+    room = λ waits. absurd (cc);
+  };
+  no_later = made.no_later;
+  flight = tt;
+}
+
+dropped_sound : (s : State) → IsSoundState s → IsSoundState (record s { flight = None })
+dropped_sound s sound = record { kept = sound.kept; no_later = sound.no_later; flight = tt }
+
+settled_sound : (s : State) (made : Made) (is_kept : Bool) → IsSoundState s → IsSoundMade s.kept s.greatest made → IsSoundState (settled s made is_kept)
+settled_sound s made true sound is = taken_sound s made.entry made.maker sound is
+settled_sound s made false sound is = dropped_sound s sound
+
+module _ (s : State) (sound : IsSoundState s) where
+  same : (turned to : Turned) → Keeps s to → turned ≡ to → Keeps s turned
+  same turned to keeps is = kept_by s turned to is keeps
+
+  left_sound : (quit : Bool) (caller : ℕ) (t : State) → IsSoundState t → IsSoundState (left_if quit caller t)
+  left_sound true caller t is = is
+  left_sound false caller t is = is
+
+  below : (count limit : ℕ) → nat_lt count limit ≡ true → count < limit
+  below count limit is = search rules
+
+  -- a command's entry
+  makes_keep : (caller : ℕ) (entry : Entry) (quit : Bool) (reply : Reply)
+      → (s.kept.count < MAX_ENTRIES → IsSoundMade s.kept s.greatest (made_by caller entry)) → Keeps s (makes s caller entry quit reply)
+  makes_keep caller entry quit reply is =
+      either s (nat_lt s.kept.count MAX_ENTRIES) _ _
+      (λ room. let made = is (below s.kept.count MAX_ENTRIES room) in (left_sound quit caller _ (taken_sound s entry (Some caller) sound made), made)) (sound, tt)
+
+  commit_is_sound : (caller minutes : ℕ) (comment : List ℕ) → minutes ≤ 65535 → IsPrintable comment → Accepts s.candidate → s.kept.count < MAX_ENTRIES
+      → IsSoundMade s.kept s.greatest (made_by caller (CommitOf (commit_of s caller minutes comment)))
+  commit_is_sound caller minutes comment short printable accepted room = record {
+    entry = record {
+      follows = record { number = refl; moment = sound.no_later; room = (search (arith, room), λ h. room) };
+      minutes = short;
+      comment = printable;
+      accepted = accepted;
+    };
+    no_later = search arith;
+  }
+
+  confirm_is_sound : (caller : ℕ) → IsSome s.kept.pending → s.kept.count < MAX_ENTRIES
+      → IsSoundMade s.kept s.greatest (made_by caller (ConfirmOf (confirm_of s caller)))
+  confirm_is_sound caller waits room = record {
+    entry = record {
+      follows = record { number = refl; moment = sound.no_later; waits = waits };
+      number = sound.kept.number;
+      room = search (arith, room);
+    };
+    no_later = search arith;
+  }
+
+  revert_is_sound : IsSome s.kept.pending → IsSoundMade s.kept s.greatest (revert_made s)
+  revert_is_sound waits = record {
+    entry = record {
+      follows = record { number = refl; moment = sound.no_later; room = (sound.kept.room waits, λ h. absurd (h refl)) };
+      minutes = search arith;
+      comment = record { short = search arith; printing = refl };
+      accepted = target_is_kept Accepts s.kept sound.kept.maps;
+    };
+    no_later = search arith;
+  }
+
+  checked_keeps : (caller : ℕ) (pending : Option Unconfirmed) → s.kept.pending ≡ pending → Keeps s (checked s caller pending)
+  checked_keeps caller None is = (sound, tt)
+  checked_keeps caller (Some run) is =
+      makes_keep caller (ConfirmOf (confirm_of s caller)) false _ (confirm_is_sound caller (subst IsSome (sym is) refl))
+
+  checks_keep : (turned after : Turned) → (Accepts s.candidate → Keeps s after) → Checks s turned after → Keeps s turned
+  checks_keep turned after more (inl checks) = same turned after (more checks.0) checks.1
+  checks_keep turned after more (inr broken) = same turned _ (sound, tt) broken.is
+
+  exited_keeps : (caller : ℕ) (back : Option Position) → Keeps s (exited s caller back)
+  exited_keeps caller None = (sound, tt)
+  exited_keeps caller (Some position) = (sound, tt)
+
+  edited_keeps : (caller : ℕ) (path : List Step) → Keeps s (edited s caller path)
+  edited_keeps caller path = either s (is_level_at path) _ _ (λ e. (sound, tt)) (sound, tt)
+
+  module _ (caller : ℕ) (turned : Turned) where
+    rolls_keep : (n : ℕ) (commit : Option Commit) → RollsTo s n commit turned → Keeps s turned
+    rolls_keep n None rolls = same turned _ (sound, tt) rolls
+    rolls_keep n (Some commit) rolls =
+        by_mode (n == 0) _ _ (Keeps s turned) (same turned _ (sound, tt)) (λ (r : Replaces s commit.tree turned). same turned _ (sound, tt) r.is) rolls
+
+    moves_keep : (asked : List (List ℕ)) → Moves s caller asked turned ⊎ IsLost s (level_of s caller) asked turned → Keeps s turned
+    moves_keep asked (inl moves) = same turned _ (edited_keeps caller moves.target.path) moves.is
+    moves_keep asked (inr lost) = same turned _ (sound, tt) lost.is
+
+    serves_keep : (command : Command) → IsSound command → Serves s caller command turned → Keeps s turned
+    serves_keep (Configure mode) is = by_mode (is_configuring s caller) _ _ _ (same turned _ (sound, tt)) (same turned _ (sound, tt))
+    serves_keep (ShowActive asked form) is = by_mode (is_configuring s caller) _ _ _ (same turned _ (sound, tt)) (λ shows. same turned _ (sound, tt) shows.is)
+    serves_keep ShowCommits is = by_mode (is_configuring s caller) _ _ _ (same turned _ (sound, tt)) (λ lists. same turned _ (sound, tt) lists.is)
+    serves_keep Logout is = same turned _ (sound, tt)
+    serves_keep (Edit asked) is = by_mode (is_configuring s caller) _ _ _ (moves_keep asked) (same turned _ (sound, tt))
+    serves_keep (Up count) is = by_mode (is_configuring s caller) _ _ _ (same turned _ (sound, tt)) (same turned _ (sound, tt))
+    serves_keep Top is = by_mode (is_configuring s caller) _ _ _ (same turned _ (sound, tt)) (same turned _ (sound, tt))
+    serves_keep Exit is = by_mode (is_configuring s caller) _ _ _ (same turned _ (exited_keeps caller _)) (same turned _ (sound, tt))
+    serves_keep ExitAll is = by_mode (is_configuring s caller) _ _ _ (same turned _ (sound, tt)) (same turned _ (sound, tt))
+    serves_keep (Show asked form) is = by_mode (is_configuring s caller) _ _ _ (λ shows. same turned _ (sound, tt) shows.is) (same turned _ (sound, tt))
+    serves_keep (Change op) is = by_mode (is_configuring s caller) _ _ _ either_way (same turned _ (sound, tt))
+      where
+        either_way : Changes s caller op turned ⊎ IsUnchanged s caller op turned → Keeps s turned
+        either_way (inl changes) = same turned _ (sound, tt) changes.is
+        either_way (inr unchanged) = same turned _ (sound, tt) unchanged.is
+    serves_keep (Load way text) is = by_mode (is_configuring s caller) _ _ _ either_way (same turned _ (sound, tt))
+      where
+        either_way : Loads s way text turned ⊎ IsNotLoaded s way text turned → Keeps s turned
+        either_way (inl loads) = same turned _ (sound, tt) loads.is
+        either_way (inr fault) = same turned _ (sound, tt) fault.is
+    serves_keep (Rollback n) is = by_mode (is_configuring s caller) _ _ _ (rolls_keep n (nth_last s.kept n)) (same turned _ (sound, tt))
+    serves_keep CheckOnly is =
+        by_mode (is_configuring s caller) _ _ _ (checks_keep turned _ (λ accepted. checked_keeps caller s.kept.pending refl)) (same turned _ (sound, tt))
+    serves_keep (CommitAsked minutes comment quit) is =
+        by_mode (is_configuring s caller) _ _ _
+        (checks_keep turned _ (λ accepted. makes_keep caller (CommitOf (commit_of s caller minutes comment)) quit _ (commit_is_sound caller minutes comment is.0 is.1 accepted)))
+        (same turned _ (sound, tt))
+
+  -- what was to be done, or what is in flight in its place
+  put_keeps : (done turned : Turned) → Keeps s done → IsPutInFlight s done turned → Keeps s turned
+  put_keeps done turned keeps put =
+      same turned _ ((record { kept = sound.kept; no_later = sound.no_later; flight = made }), made) put.is
+    where
+      made : IsSoundMade s.kept s.greatest put.made
+      made = subst (λ (o : Option Made). IfSome o (IsSoundMade s.kept s.greatest)) put.makes keeps.1
+
+  ends_keep : (outcome : Outcome) (done turned : Turned) → Keeps s done → Ends outcome s done turned → Keeps s turned
+  ends_keep Done done turned keeps is = same turned done keeps is
+  ends_keep Fault done turned keeps put = put_keeps done turned keeps put
+
+  left_keeps : (caller : ℕ) (command : Command) → IsSoundState (left_by s caller command)
+  left_keeps caller command = go (is_logout command)
+    where
+      go : (b : Bool) → IsSoundState (if b then without_mode s caller else s)
+      go true = sound
+      go false = sound
+
+  in_flight_sound : (made : Made) → s.flight ≡ Some made → IsSoundMade s.kept s.greatest made
+  in_flight_sound made is = subst (λ (o : Option Made). IfSome o (IsSoundMade s.kept s.greatest)) is sound.flight
+
+  from_keeps : (waiting : Waiting) (caller : ℕ) (event : Event) (outcome : Outcome) (turned : Turned)
+      → ((made : Made) → waiting ≡ InFlight made → s.flight ≡ Some made) → (waiting ≡ Missed → IsSome s.kept.pending) → IsAskable s caller event
+      → StepsFrom waiting s caller event outcome turned → Keeps s turned
+  from_keeps (InFlight made) caller (Settle is_kept) Done turned flying waits askable is =
+      same turned _ (settled_sound s made is_kept sound (in_flight_sound made (flying made refl)), tt) is
+  from_keeps (InFlight made) caller (CommandOf command) Fault turned flying waits askable is = same turned _ (left_keeps caller command, tt) is
+  from_keeps (InFlight made) caller (Settle is_kept) Fault turned flying waits askable is = absurd is
+  from_keeps (InFlight made) caller (CommandOf command) Done turned flying waits askable is = absurd is
+  from_keeps (InFlight made) caller Revert outcome turned flying waits askable is = absurd is
+  from_keeps Missed caller Revert outcome turned flying waits askable is =
+      let made = revert_is_sound (waits refl) in
+      ends_keep outcome (reverted s) turned (taken_sound s (revert_made s).entry None sound made, made) is
+  from_keeps Missed caller (Settle is_kept) outcome turned flying waits askable is = absurd is
+  from_keeps Missed caller (CommandOf command) outcome turned flying waits askable is = absurd is
+  from_keeps Free caller (CommandOf command) outcome turned flying waits askable is =
+      ends_keep outcome is.done turned (serves_keep caller is.done command askable.1 is.serves) is.ends
+  from_keeps Free caller (Settle is_kept) outcome turned flying waits askable is = absurd is
+  from_keeps Free caller Revert outcome turned flying waits askable is = absurd is
+
+-- the list that every list begins with
+pub factory_sound : Accepts map.empty → IsSoundKept factory
+factory_sound accepted = record {
+  maps = record { last = accepted; older = All-nil _; target = tt };
+  number = search arith;
+  room = λ waits. absurd (cc);
+}
+
+-- what stands before the next command
+flying_when : (flight : Option Made) (missed : Bool) (made : Made) → waiting_for flight missed ≡ InFlight made → flight ≡ Some made
+flying_when (Some one) missed made is = cc
+flying_when None true made is = absurd (cc)
+flying_when None false made is = absurd (cc)
+
+pending_when : (flight : Option Made) (pending : Option Unconfirmed) (moment : ℕ) → waiting_for flight (is_missed pending moment) ≡ Missed → IsSome pending
+pending_when (Some one) pending moment is = absurd (cc)
+pending_when None None moment is = absurd (cc)
+pending_when None (Some run) moment is = refl
+
+-- at a later moment
+made_later : (kept : Kept) (greatest moment : ℕ) (flight : Option Made) → greatest ≤ moment → IfSome flight (IsSoundMade kept greatest)
+    → IfSome flight (IsSoundMade kept moment)
+made_later kept greatest moment None no_earlier is = tt
+made_later kept greatest moment (Some made) no_earlier is = record { entry = is.entry; no_later = search (arith, is.no_later, no_earlier) }
+
+later_sound : (s : State) (moment : ℕ) → s.greatest ≤ moment → IsSoundState s → IsSoundState (later s moment)
+later_sound s moment no_earlier sound = record {
+  kept = sound.kept;
+  no_later = search (arith, sound.no_later, no_earlier);
+  flight = made_later s.kept s.greatest moment s.flight no_earlier sound.flight;
+}
+
+askable_later : (s : State) (caller moment : ℕ) (event : Event) → IsAskable s caller event → IsAskable (later s moment) caller event
+askable_later s caller moment (Settle is_kept) is = is
+askable_later s caller moment Revert is = is
+askable_later s caller moment (CommandOf command) is = is
+
+pub steps_keep : (s : State) (caller moment : ℕ) (event : Event) (outcome : Outcome) (turned : Turned) → IsSoundState s → Fits s caller moment event
+    → Steps s caller moment event outcome turned → IsSoundState turned.state × IfSome turned.made (IsSoundMade s.kept moment)
+steps_keep s caller moment event outcome turned sound fits steps =
+    from_keeps (later s moment) (later_sound s moment fits.no_earlier sound) (waiting_of s moment) caller event outcome turned
+    (flying_when s.flight (is_revert_due s.kept moment)) (pending_when s.flight s.kept.pending moment) (askable_later s caller moment event fits.askable) steps

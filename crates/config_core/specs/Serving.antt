@@ -1,0 +1,171 @@
+-- What a command does, where nothing comes before it.
+-- Junos OS CLI User Guide, on entering and leaving configuration mode, on moves through levels, on changes of the candidate,
+-- on load and rollback, on commit, commit confirmed and commit check, and on show.
+use Rattle.std.specs.Prelude.{◌≡◌, ◌≢◌, ◌⊎◌, ℕ, ◌==◌, nat_lt, List, [], Bool, false, Decides, if◌then◌else◌, MatchBool, Option, None, Some}
+use Rattle.commands.specs.declared.command.Form.{Form}
+use Rattle.commands.specs.declared.command.LoadWay.{LoadWay}
+use Rattle.commands.specs.declared.command.Op.{Op}
+use Rattle.commands.specs.declared.command.Command.{Command}
+use Rattle.commands.specs.declared.command.Command.TheVariants.{Configure, ShowActive, ShowCommits, Logout, Edit, Up, Top, Exit, ExitAll, Show, Change, Load, Rollback, CheckOnly, Commit as CommitAsked}
+use Rattle.cfg_base.specs.declared.path.Step.{Step}
+use Rattle.cfg_tree.specs.Statements.{Statements}
+use Rattle.edit_ops.specs.declared.fault.EditFault.{EditFault}
+use Rattle.edit_ops.specs.Answer.{IsChange, IsEditFault}
+use Rattle.load_ops.specs.declared.fault.LoadFault.{LoadFault}
+use Rattle.load_ops.specs.Answer.{IsLoad, IsLoadFault}
+use Rattle.commit_check.specs.Accepts.{Accepts, IsFirst}
+use Rattle.commit_ledger.specs.declared.entry.Commit.{Commit}
+use Rattle.commit_ledger.specs.declared.entry.Entry.{Entry}
+use Rattle.commit_ledger.specs.declared.entry.Entry.TheVariants.{Commit as CommitOf, Confirm as ConfirmOf}
+use Rattle.commit_ledger.specs.declared.limit.TheConstants.{MAX_ENTRIES}
+use Rattle.commit_ledger.specs.Kept.{Unconfirmed, active_of, nth_last, kept_commits}
+use Rattle.commit_ledger.specs.Listing.{IsListing}
+use Rattle.config_core.specs.declared.reply.Refusal.{Refusal}
+use Rattle.config_core.specs.declared.reply.Refusal.TheVariants.{WrongMode, NotALevel, NoRollback, Check, Exhausted}
+use Rattle.config_core.specs.declared.reply.Reply.{Reply}
+use Rattle.config_core.specs.declared.reply.Reply.TheVariants.{Done, LoggedOut, Text, Entered, Left, Loaded, Checked, Committed, Refused}
+use Rattle.config_core.specs.State.{State, Made}
+use Rattle.config_core.specs.Levels.{Position, at_top, is_level_at, moved_to, moved_up, moved_back}
+use Rattle.config_core.specs.Callers.{is_configuring, position_of, level_of, with_caller, with_position, without_mode}
+use Rattle.config_core.specs.Entries.{commit_of, confirm_of, made_by, with_candidate, freshened, taken}
+use Rattle.config_core.specs.Showing.{refusal_of, load_refusal_of, NamesNone, NamesOne, IsShow}
+
+-- what an event leaves: the state after it, its reply, and the entry that it makes
+pub record Turned : Type 0 where
+  pub state : State
+  pub reply : Reply
+  pub made : Option Made
+
+-- no entry is made
+abbrev pub answered : State → Reply → Turned
+answered s reply = record { state = s; reply = reply; made = None }
+
+abbrev pub refused : State → Refusal → Turned
+refused s refusal = answered s (Refused refusal)
+
+-- `exit` as its move says
+abbrev pub exited : State → ℕ → Option Position → Turned
+exited s caller None = answered (without_mode s caller) Left
+exited s caller (Some position) = answered (with_position s caller position) Done
+
+-- `edit` goes to the level that the words name
+abbrev pub edited : State → ℕ → List Step → Turned
+edited s caller path =
+    if is_level_at path then answered (with_position s caller (moved_to (position_of s caller) path)) Done
+    else refused s (NotALevel path)
+
+abbrev pub Moves : State → ℕ → List (List ℕ) → Turned → Type 0
+Moves s caller asked turned = NamesOne (λ target. edited s caller target.path) (level_of s caller) asked turned
+
+-- words that name no statement from a level on are refused
+abbrev pub IsLost : State → List Step → List (List ℕ) → Turned → Type 0
+IsLost s level asked turned = NamesNone (refused s) level asked turned
+
+-- a show of statements from a level on changes nothing
+pub record Shows (s : State) (m : Statements) (level : List Step) (asked : List (List ℕ)) (form : Form) (turned : Turned) : Type 0 where
+  pub reply : Reply
+  pub show : IsShow m level asked form reply
+  pub is : turned ≡ answered s reply
+
+-- the commits that are kept are listed; nothing changes
+pub record Lists (s : State) (turned : Turned) : Type 0 where
+  pub text : List ℕ
+  pub listing : IsListing s.kept text
+  pub is : turned ≡ answered s (Text text)
+
+-- a change makes another candidate of the candidate, or leaves it as it was
+pub record Changes (s : State) (caller : ℕ) (op : Op) (turned : Turned) : Type 0 where
+  pub next : Statements
+  pub told : Bool
+  pub change : IsChange s.candidate next (level_of s caller) op told
+  pub is : turned ≡ answered (with_candidate s next told) Done
+
+-- or it is refused
+pub record IsUnchanged (s : State) (caller : ℕ) (op : Op) (turned : Turned) : Type 0 where
+  pub fault : EditFault
+  pub refusal : Refusal
+  pub cause : IsEditFault s.candidate (level_of s caller) op fault
+  pub told : refusal_of fault ≡ Some refusal
+  pub is : turned ≡ refused s refusal
+
+-- a load makes another candidate of the candidate and of a text, or leaves it as it was
+pub record Loads (s : State) (way : LoadWay) (text : List ℕ) (turned : Turned) : Type 0 where
+  pub next : Statements
+  pub told : Bool
+  pub load : IsLoad way s.candidate text next told
+  pub is : turned ≡ answered (with_candidate s next told) Loaded
+
+-- or it is refused
+pub record IsNotLoaded (s : State) (way : LoadWay) (text : List ℕ) (turned : Turned) : Type 0 where
+  pub fault : LoadFault
+  pub refusal : Refusal
+  pub cause : IsLoadFault way s.candidate text fault
+  pub told : load_refusal_of fault ≡ Some refusal
+  pub is : turned ≡ refused s refusal
+
+-- a commit's map takes the place of the candidate's
+pub record Replaces (s : State) (next : Statements) (turned : Turned) : Type 0 where
+  pub told : Bool
+  pub tells : Decides told (next ≢ s.candidate)
+  pub is : turned ≡ answered (with_candidate s next told) Loaded
+
+-- rollback 0 leaves the active map, unmodified; another one the map of that commit; one that isn't kept is refused
+abbrev pub RollsTo : State → ℕ → Option Commit → Turned → Type 0
+RollsTo s n None turned = turned ≡ refused s (NoRollback n (kept_commits s.kept))
+RollsTo s n (Some commit) turned = MatchBool (n == 0) (turned ≡ answered (freshened s) Loaded) (Replaces s commit.tree turned)
+
+-- the candidate breaks a rule, and is refused for the first fault
+pub record BreaksRule (s : State) (turned : Turned) : Type 0 where
+  pub number : ℕ
+  pub path : List Step
+  pub first : IsFirst s.candidate number path
+  pub is : turned ≡ refused s (Check number path)
+
+-- the candidate is checked: where it is accepted this comes of it
+abbrev pub Checks : State → Turned → Turned → Type 0
+Checks s turned accepted = (Accepts s.candidate × (turned ≡ accepted)) ⊎ BreaksRule s turned
+
+-- with `and-quit` the caller leaves the mode
+abbrev pub left_if : Bool → ℕ → State → State
+left_if quit caller s = if quit then without_mode s caller else s
+
+-- a caller's command makes an entry, unless the list is full
+abbrev pub makes : State → ℕ → Entry → Bool → Reply → Turned
+makes s caller entry quit reply =
+    if nat_lt s.kept.count MAX_ENTRIES
+    then record { state = left_if quit caller (taken s (made_by caller entry)); reply = reply; made = Some (made_by caller entry) }
+    else refused s Exhausted
+
+-- what a check of an accepted candidate does: where commits are unconfirmed it confirms them
+abbrev pub checked : State → ℕ → Option Unconfirmed → Turned
+checked s caller None = answered s Checked
+checked s caller (Some run) = makes s caller (ConfirmOf (confirm_of s caller)) false Checked
+
+-- a command of operational mode, and one of configuration mode, is refused in the other
+abbrev pub Operational : State → ℕ → Turned → Type 0 → Type 0
+Operational s caller turned Served = MatchBool (is_configuring s caller) (turned ≡ refused s WrongMode) Served
+
+abbrev pub Configuring : State → ℕ → Turned → Type 0 → Type 0
+Configuring s caller turned Served = MatchBool (is_configuring s caller) Served (turned ≡ refused s WrongMode)
+
+-- what a command does at the state's own greatest moment
+abbrev pub Serves : State → ℕ → Command → Turned → Type 0
+Serves s caller (Configure mode) turned =
+    Operational s caller turned (turned ≡ answered (with_caller s caller (Some mode) at_top) (Entered mode))
+Serves s caller (ShowActive asked form) turned = Operational s caller turned (Shows s (active_of s.kept) [] asked form turned)
+Serves s caller ShowCommits turned = Operational s caller turned (Lists s turned)
+Serves s caller Logout turned = turned ≡ answered (without_mode s caller) LoggedOut
+Serves s caller (Edit asked) turned = Configuring s caller turned (Moves s caller asked turned ⊎ IsLost s (level_of s caller) asked turned)
+Serves s caller (Up count) turned =
+    Configuring s caller turned (turned ≡ answered (with_position s caller (moved_up (position_of s caller) count)) Done)
+Serves s caller Top turned = Configuring s caller turned (turned ≡ answered (with_position s caller at_top) Done)
+Serves s caller Exit turned = Configuring s caller turned (turned ≡ exited s caller (moved_back (position_of s caller)))
+Serves s caller ExitAll turned = Configuring s caller turned (turned ≡ answered (without_mode s caller) Left)
+Serves s caller (Show asked form) turned = Configuring s caller turned (Shows s s.candidate (level_of s caller) asked form turned)
+Serves s caller (Change op) turned = Configuring s caller turned (Changes s caller op turned ⊎ IsUnchanged s caller op turned)
+Serves s caller (Load way text) turned = Configuring s caller turned (Loads s way text turned ⊎ IsNotLoaded s way text turned)
+Serves s caller (Rollback n) turned = Configuring s caller turned (RollsTo s n (nth_last s.kept n) turned)
+Serves s caller CheckOnly turned = Configuring s caller turned (Checks s turned (checked s caller s.kept.pending))
+Serves s caller (CommitAsked minutes comment quit) turned =
+    Configuring s caller turned
+    (Checks s turned (makes s caller (CommitOf (commit_of s caller minutes comment)) quit (Committed minutes quit)))

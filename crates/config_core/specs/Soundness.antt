@@ -1,0 +1,55 @@
+-- What holds of every state that the machine reaches, and of every entry that it makes.
+-- Junos OS CLI User Guide, on the active configuration, which only a commit that was checked replaces.
+use Rattle.std.specs.Prelude.{ℕ, ◌≤◌, Option, IsSome, IfSome}
+use Rattle.cfg_lex.specs.Printed.{IsPrintable}
+use Rattle.commit_check.specs.Accepts.{Accepts}
+use Rattle.commit_ledger.specs.declared.entry.Commit.{Commit}
+use Rattle.commit_ledger.specs.declared.entry.Confirm.{Confirm}
+use Rattle.commit_ledger.specs.declared.entry.Entry.{Entry}
+use Rattle.commit_ledger.specs.declared.entry.Entry.TheVariants.{Commit as CommitOf, Confirm as ConfirmOf}
+use Rattle.commit_ledger.specs.declared.limit.TheConstants.{MAX_ENTRIES}
+use Rattle.commit_ledger.specs.Kept.{Kept, KeepsMaps}
+use Rattle.commit_ledger.specs.Rules.{CommitFollows, ConfirmFollows}
+use Rattle.config_core.specs.State.{State, Made}
+
+-- a commit may be the next entry: by its number, its moment and the room for it; its minutes, its comment and its map are such
+-- as a commit may have
+pub record IsSoundCommit (kept : Kept) (commit : Commit) : Type 0 where
+  pub follows : CommitFollows kept commit
+  pub minutes : commit.minutes ≤ 65535
+  pub comment : IsPrintable commit.comment
+  pub accepted : Accepts commit.tree
+
+-- a confirmation may be the next entry: it is of the last commit, and a run is unconfirmed
+pub record IsSoundConfirm (kept : Kept) (confirm : Confirm) : Type 0 where
+  pub follows : ConfirmFollows kept confirm
+  pub number : 1 ≤ confirm.number
+  pub room : kept.count ≤ MAX_ENTRIES
+
+abbrev pub IsSoundEntry : Kept → Entry → Type 0
+IsSoundEntry kept (CommitOf commit) = IsSoundCommit kept commit
+IsSoundEntry kept (ConfirmOf confirm) = IsSoundConfirm kept confirm
+
+abbrev pub moment_of : Entry → ℕ
+moment_of (CommitOf commit) = commit.moment
+moment_of (ConfirmOf confirm) = confirm.moment
+
+-- an entry that is made may be the next one of a list, and isn't of a later moment than the last event
+pub record IsSoundMade (kept : Kept) (greatest : ℕ) (made : Made) : Type 0 where
+  pub entry : IsSoundEntry kept made.entry
+  pub no_later : moment_of made.entry ≤ greatest
+
+-- each map that the list keeps is accepted; commits are numbered from 1; where a run is unconfirmed there is room for a revert
+pub record IsSoundKept (kept : Kept) : Type 0 where
+  pub maps : KeepsMaps Accepts kept
+  pub number : 1 ≤ kept.last.number
+  pub room : IsSome kept.pending → kept.count ≤ MAX_ENTRIES
+
+-- the list is so, none of its entries is of a later moment than the last event, and what is in flight may be the next one
+pub record AreSound (entries : Kept) (flying : Option Made) (greatest : ℕ) : Type 0 where
+  pub kept : IsSoundKept entries
+  pub no_later : entries.moment ≤ greatest
+  pub flight : IfSome flying (IsSoundMade entries greatest)
+
+abbrev pub IsSoundState : State → Type 0
+IsSoundState s = AreSound s.kept s.flight s.greatest
