@@ -1,15 +1,20 @@
 -- The texts of replies. The texts are this project's own; each line ends in an LF.
-use Rattle.std.specs.Prelude.{ℕ, Bool, true, false, List, [], ◌∷◌, ◌++◌, if◌then◌else◌, codes, decimal}
+use Rattle.std.specs.Prelude.{ℕ, Bool, true, false, List, [], ◌∷◌, ◌++◌, ◌==◌, if◌then◌else◌, codes, decimal}
 use Rattle.std.specs.List.{join_by}
 use Rattle.cfg_base.specs.declared.path.Step.{Step}
 use Rattle.commands.specs.declared.command.Mode.TheVariants.{Shared}
 use Rattle.config_core.specs.declared.reply.Refusal.{Refusal}
-use Rattle.config_core.specs.declared.reply.Refusal.TheVariants.{WrongMode, Unknown, BadValue, Incomplete, Extra, NotNamed, NotOrdered, NotThere, AlreadyThere, NotALevel, Protected, TooMany, TooWide, Check, Exhausted}
+use Rattle.config_core.specs.declared.reply.Refusal.TheVariants.{WrongMode, Unknown, BadValue, Incomplete, Extra, NotNamed, NotOrdered, NotThere, AlreadyThere, NotALevel, Protected, TooMany, TooWide, NoRollback, Line, LineEdit, Check, Exhausted, DiskFault}
+use Rattle.config_core.specs.declared.reply.Refusal.TheVariants as refusal
 use Rattle.config_core.specs.declared.reply.Reply.{Reply}
-use Rattle.config_core.specs.declared.reply.Reply.TheVariants.{Done, LoggedOut, Text, Entered, Left, Checked, Committed, Refused}
+use Rattle.config_core.specs.declared.reply.Reply.TheVariants.{Done, LoggedOut, Text, Entered, Left, Loaded, Checked, Committed, Refused}
+use Rattle.curly_grammar.specs.declared.fault.TextFault.{TextFault}
+use Rattle.curly_grammar.specs.declared.fault.TextFault.TheVariants as text
+use Rattle.edit_ops.specs.declared.fault.EditFault.{EditFault}
+use Rattle.edit_ops.specs.declared.fault.EditFault.TheVariants as edit
 use Rattle.cfg_lex.specs.Printed.{printed_word}
 use Rattle.reply_text.specs.declared.fault.ShellFault.{ShellFault}
-use Rattle.reply_text.specs.declared.fault.ShellFault.TheVariants.{Syntax, LineTooLong}
+use Rattle.reply_text.specs.declared.fault.ShellFault.TheVariants.{Syntax, LineTooLong, TextTooLong}
 
 -- no bytes
 abbrev pub is_empty : List ℕ → Bool
@@ -32,36 +37,97 @@ printed_path (step ∷ steps) = join_by printed_step (32 ∷ []) (step ∷ steps
 abbrev pub error_line : List ℕ → List ℕ
 error_line text = codes "error: " ++ (text ++ 10 ∷ [])
 
-abbrev pub text_of_refusal : Refusal → List ℕ
-text_of_refusal WrongMode = error_line (codes "not in this mode")
-text_of_refusal (Unknown path) = error_line (codes "unknown statement: " ++ printed_path path)
-text_of_refusal (BadValue path) = error_line (codes "bad value: " ++ printed_path path)
-text_of_refusal (Incomplete path) = error_line (codes "incomplete statement: " ++ printed_path path)
-text_of_refusal (Extra path) = error_line (codes "unexpected words after: " ++ printed_path path)
-text_of_refusal (NotNamed path) = error_line (codes "statement has no such name: " ++ printed_path path)
-text_of_refusal (NotOrdered path) = error_line (codes "statements are not ordered: " ++ printed_path path)
-text_of_refusal (NotThere path) = error_line (codes "statement not found: " ++ printed_path path)
-text_of_refusal (AlreadyThere path) = error_line (codes "statement already exists: " ++ printed_path path)
-text_of_refusal (NotALevel path) = error_line (codes "not a level: " ++ printed_path path)
-text_of_refusal (Protected path) = error_line (codes "statement is protected: " ++ printed_path path)
-text_of_refusal TooMany = error_line (codes "more than 16384 statements")
-text_of_refusal TooWide = error_line (codes "more than 65536 expanded statements")
-text_of_refusal (Check number path) = error_line (codes "check C" ++ (decimal number ++ (codes " failed: " ++ printed_path path)))
-text_of_refusal Exhausted = error_line (codes "no more entries")
+-- what is wrong with a change
+abbrev pub message_of_edit : EditFault → List ℕ
+message_of_edit (edit.Unknown path) = codes "unknown statement: " ++ printed_path path
+message_of_edit (edit.BadValue path) = codes "bad value: " ++ printed_path path
+message_of_edit (edit.Incomplete path) = codes "incomplete statement: " ++ printed_path path
+message_of_edit (edit.Extra path) = codes "unexpected words after: " ++ printed_path path
+message_of_edit (edit.NotNamed path) = codes "statement has no such name: " ++ printed_path path
+message_of_edit (edit.NotOrdered path) = codes "statements are not ordered: " ++ printed_path path
+message_of_edit (edit.NotThere path) = codes "statement not found: " ++ printed_path path
+message_of_edit (edit.AlreadyThere path) = codes "statement already exists: " ++ printed_path path
+message_of_edit (edit.Protected path) = codes "statement is protected: " ++ printed_path path
+message_of_edit edit.TooMany = codes "more than 16384 statements"
+message_of_edit edit.NoMemory = codes "out of memory"
 
+-- what is said of a place of a text
+abbrev pub at_byte : ℕ → List ℕ → List ℕ
+at_byte place words = codes "text at byte " ++ (decimal place ++ (codes ": " ++ words))
+
+-- what is wrong with a curly text
+abbrev pub message_of_text : TextFault → List ℕ
+message_of_text (text.BadByte place) = at_byte place (codes "bad byte")
+message_of_text (text.OpenComment place) = at_byte place (codes "comment not closed")
+message_of_text (text.OpenQuote place) = at_byte place (codes "quote not closed")
+message_of_text (text.LongWord place) = at_byte place (codes "word too long")
+message_of_text (text.Unexpected place) = at_byte place (codes "unexpected")
+message_of_text (text.Unknown place) = at_byte place (codes "unknown statement")
+message_of_text (text.BadValue place) = at_byte place (codes "bad value")
+message_of_text text.TooMany = codes "more than 16384 statements"
+message_of_text text.NoMemory = codes "out of memory"
+
+-- what is said of a line of a text begins with its number
+abbrev pub in_line : ℕ → List ℕ
+in_line line = codes "line " ++ (decimal line ++ codes ": ")
+
+-- why a command was refused
+abbrev pub message_of : Refusal → List ℕ
+message_of WrongMode = codes "not in this mode"
+message_of (Unknown path) = message_of_edit (edit.Unknown path)
+message_of (BadValue path) = message_of_edit (edit.BadValue path)
+message_of (Incomplete path) = message_of_edit (edit.Incomplete path)
+message_of (Extra path) = message_of_edit (edit.Extra path)
+message_of (NotNamed path) = message_of_edit (edit.NotNamed path)
+message_of (NotOrdered path) = message_of_edit (edit.NotOrdered path)
+message_of (NotThere path) = message_of_edit (edit.NotThere path)
+message_of (AlreadyThere path) = message_of_edit (edit.AlreadyThere path)
+message_of (NotALevel path) = codes "not a level: " ++ printed_path path
+message_of (Protected path) = message_of_edit (edit.Protected path)
+message_of TooMany = message_of_edit edit.TooMany
+message_of TooWide = codes "more than 65536 expanded statements"
+message_of (NoRollback n kept) = codes "no rollback " ++ (decimal n ++ (codes ", " ++ (decimal kept ++ codes " kept")))
+message_of (refusal.Text fault) = message_of_text fault
+message_of (Line line place) = in_line line ++ (codes "syntax error at byte " ++ decimal place)
+message_of (LineEdit line fault) = in_line line ++ message_of_edit fault
+message_of (Check number path) = codes "check C" ++ (decimal number ++ (codes " failed: " ++ printed_path path))
+message_of Exhausted = codes "no more entries"
+message_of DiskFault = codes "journal write failed"
+
+-- the line of a refusal
+abbrev pub text_of_refusal : Refusal → List ℕ
+text_of_refusal refusal = error_line (message_of refusal)
+
+-- a commit that is to be confirmed says how long that may take
+abbrev pub deadline_text : ℕ → List ℕ
+deadline_text minutes =
+    if minutes == 0
+    then []
+    else codes "commit confirmed will be automatically rolled back in " ++ (decimal minutes ++ codes " minutes unless confirmed\n")
+
+-- a commit that leaves configuration mode says so
+abbrev pub complete_text : Bool → List ℕ
+complete_text true = codes "commit complete\nExiting configuration mode\n"
+complete_text false = codes "commit complete\n"
+
+-- what is written of a reply
 abbrev pub text_of_reply : Reply → List ℕ
 text_of_reply Done = []
 text_of_reply LoggedOut = []
 text_of_reply (Text bytes) = bytes
 text_of_reply (Entered Shared) = codes "Entering configuration mode\n"
 text_of_reply Left = codes "Exiting configuration mode\n"
+text_of_reply Loaded = codes "load complete\n"
 text_of_reply Checked = codes "configuration check succeeds\n"
-text_of_reply Committed = codes "commit complete\n"
+text_of_reply (Committed minutes quit) = deadline_text minutes ++ complete_text quit
 text_of_reply (Refused refusal) = text_of_refusal refusal
 
+-- what is written for a line that was refused without a turn
 abbrev pub text_of_fault : ShellFault → List ℕ
 text_of_fault (Syntax place) = error_line (codes "syntax error at byte " ++ decimal place)
 text_of_fault LineTooLong = error_line (codes "line too long")
+text_of_fault TextTooLong = error_line (codes "text too long")
 
+-- what is written for want of memory
 abbrev pub no_memory_text : List ℕ
 no_memory_text = error_line (codes "out of memory")

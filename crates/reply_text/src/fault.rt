@@ -5,4 +5,6 @@ pub enum ShellFault {
     Syntax(u32),
     /// It has more than 4,096 bytes.
     LineTooLong,
+    /// It ends a text of more than 2,097,152 bytes, and no line of it was too long before.
+    TextTooLong,
 }

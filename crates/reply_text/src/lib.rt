@@ -6,7 +6,9 @@
 #![tactic(auto)]
 
 mod fault;
+mod refusal;
+mod reply;
 mod writing;
 
 pub use fault::ShellFault;
-pub use writing::{put_fault, put_no_memory, put_reply};
+pub use reply::{put_fault, put_no_memory, put_reply};

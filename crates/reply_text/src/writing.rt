@@ -1,24 +1,19 @@
-//! The texts of replies, written piece by piece, without memory.
+//! The pieces of texts, written without memory: words, steps, paths and numbers.
 
-ghost use Rattle.std.specs.Prelude.{◌≡◌, ◌≤◌, ◌∷◌, ◌++◌, [], OnErr, codes, decimal};
-ghost use Rattle.config_core.specs.declared.reply.Refusal.TheVariants.{Check};
-ghost use Rattle.std.specs.List.{flat_map, join_by};
+ghost use Rattle.std.specs.Prelude.{◌≤◌, ◌∷◌, ◌++◌, [], OnErr, decimal};
+ghost use Rattle.std.specs.List.{flat_map};
 ghost use Rattle.cfg_base.specs.Counts.{Rose};
 ghost use Rattle.io_edge.specs.Wrote.{Wrote};
 ghost use Rattle.cfg_lex.specs.Printed.{escaped, printed_word};
-ghost use Rattle.reply_text.specs.declared.fault.ShellFault.TheVariants.{Syntax};
-ghost use Rattle.reply_text.specs.Texts.{no_memory_text, printed_path, printed_step, text_of_fault, text_of_refusal, text_of_reply};
+ghost use Rattle.reply_text.specs.Texts.{printed_path, printed_step};
 
-use crate::fault::ShellFault;
 use cfg_base::{Path, Step, Word};
 use cfg_lex::is_plain;
-use commands::Mode;
-use config_core::{Refusal, Reply};
 use io_edge::{PutFailed, Sink, put_all};
 use itoa::Buffer;
 
 /// Writes one text and then another.
-fn put_both<K: Sink>(sink: &mut K, first: &[u8], second: &[u8]) -> Result<(), PutFailed>
+pub(crate) fn put_both<K: Sink>(sink: &mut K, first: &[u8], second: &[u8]) -> Result<(), PutFailed>
     ensures wrote { Wrote result (first.now ++ second.now) (K.held sink.old) (K.held sink.new) }
     ensures cause { OnErr result (Rose (K.faults sink.old) (K.faults sink.new)) }
     ensures later { K.faults sink.old ≤ K.faults sink.new }
@@ -151,7 +146,7 @@ fn put_spaced_steps<K: Sink>(sink: &mut K, steps: &[Step]) -> Result<(), PutFail
     }
 }
 
-fn put_path<K: Sink>(sink: &mut K, path: &Path) -> Result<(), PutFailed>
+pub(crate) fn put_path<K: Sink>(sink: &mut K, path: &Path) -> Result<(), PutFailed>
     ensures wrote { Wrote result (printed_path path.now) (K.held sink.old) (K.held sink.new) }
     ensures cause { OnErr result (Rose (K.faults sink.old) (K.faults sink.new)) }
     ensures later { K.faults sink.old ≤ K.faults sink.new }
@@ -165,149 +160,59 @@ fn put_path<K: Sink>(sink: &mut K, path: &Path) -> Result<(), PutFailed>
     }
 }
 
-fn put_path_end<K: Sink>(sink: &mut K, path: &Path) -> Result<(), PutFailed>
-    ensures wrote { Wrote result (printed_path path.now ++ 10 ∷ []) (K.held sink.old) (K.held sink.new) }
-    ensures cause { OnErr result (Rose (K.faults sink.old) (K.faults sink.new)) }
-    ensures later { K.faults sink.old ≤ K.faults sink.new }
-{
-    match put_path(sink, path) {
-        Ok(()) => put_all(sink, b"\n"),
-        Err(failed) => Err(failed),
-    }
-}
-
-fn put_path_line<K: Sink>(sink: &mut K, front: &[u8], path: &Path) -> Result<(), PutFailed>
-    ensures wrote { Wrote result (front.now ++ (printed_path path.now ++ 10 ∷ [])) (K.held sink.old) (K.held sink.new) }
+/// Writes a text and the path behind it.
+pub(crate) fn put_told<K: Sink>(sink: &mut K, front: &[u8], path: &Path) -> Result<(), PutFailed>
+    ensures wrote { Wrote result (front.now ++ printed_path path.now) (K.held sink.old) (K.held sink.new) }
     ensures cause { OnErr result (Rose (K.faults sink.old) (K.faults sink.new)) }
     ensures later { K.faults sink.old ≤ K.faults sink.new }
 {
     match put_all(sink, front) {
-        Ok(()) => put_path_end(sink, path),
+        Ok(()) => put_path(sink, path),
         Err(failed) => Err(failed),
     }
 }
 
-fn put_number<K: Sink>(sink: &mut K, number: u8) -> Result<(), PutFailed>
-    ensures wrote { Wrote result (decimal number) (K.held sink.old) (K.held sink.new) }
+/// Writes a number and a text behind it.
+pub(crate) fn put_number_before<K: Sink>(
+    sink: &mut K,
+    number: u32,
+    back: &[u8],
+) -> Result<(), PutFailed>
+    ensures wrote { Wrote result (decimal number ++ back.now) (K.held sink.old) (K.held sink.new) }
     ensures cause { OnErr result (Rose (K.faults sink.old) (K.faults sink.new)) }
     ensures later { K.faults sink.old ≤ K.faults sink.new }
 {
     let mut digits = Buffer::new();
-    put_all(sink, digits.format(number).as_bytes())
+    put_both(sink, digits.format(number).as_bytes(), back)
 }
 
-fn put_failed_rule<K: Sink>(sink: &mut K, number: u8, path: &Path) -> Result<(), PutFailed>
-    ensures wrote { Wrote result (decimal number ++ (codes " failed: " ++ (printed_path path.now ++ 10 ∷ []))) (K.held sink.old) (K.held sink.new) }
-    ensures cause { OnErr result (Rose (K.faults sink.old) (K.faults sink.new)) }
-    ensures later { K.faults sink.old ≤ K.faults sink.new }
-{
-    match put_number(sink, number) {
-        Ok(()) => put_path_line(sink, b" failed: ", path),
-        Err(failed) => Err(failed),
-    }
-}
-
-fn put_check<K: Sink>(sink: &mut K, number: u8, path: &Path) -> Result<(), PutFailed>
-    ensures wrote { Wrote result (text_of_refusal (Check number path.now)) (K.held sink.old) (K.held sink.new) }
-    ensures cause { OnErr result (Rose (K.faults sink.old) (K.faults sink.new)) }
-    ensures later { K.faults sink.old ≤ K.faults sink.new }
-{
-    match put_all(sink, b"error: check C") {
-        Ok(()) => put_failed_rule(sink, number, path),
-        Err(failed) => Err(failed),
-    }
-}
-
-fn put_refusal<K: Sink>(sink: &mut K, refusal: &Refusal) -> Result<(), PutFailed>
-    ensures wrote { Wrote result (text_of_refusal refusal.now) (K.held sink.old) (K.held sink.new) }
-    ensures cause { OnErr result (Rose (K.faults sink.old) (K.faults sink.new)) }
-    ensures later { K.faults sink.old ≤ K.faults sink.new }
-{
-    match refusal {
-        Refusal::WrongMode => put_all(sink, b"error: not in this mode\n"),
-        Refusal::Unknown(path) => put_path_line(sink, b"error: unknown statement: ", path),
-        Refusal::BadValue(path) => put_path_line(sink, b"error: bad value: ", path),
-        Refusal::Incomplete(path) => put_path_line(sink, b"error: incomplete statement: ", path),
-        Refusal::Extra(path) => put_path_line(sink, b"error: unexpected words after: ", path),
-        Refusal::NotNamed(path) => put_path_line(
-            sink,
-            b"error: statement has no such name: ",
-            path,
-        ),
-        Refusal::NotOrdered(path) => put_path_line(
-            sink,
-            b"error: statements are not ordered: ",
-            path,
-        ),
-        Refusal::NotThere(path) => put_path_line(sink, b"error: statement not found: ", path),
-        Refusal::AlreadyThere(path) => put_path_line(
-            sink,
-            b"error: statement already exists: ",
-            path,
-        ),
-        Refusal::NotALevel(path) => put_path_line(sink, b"error: not a level: ", path),
-        Refusal::Protected(path) => put_path_line(sink, b"error: statement is protected: ", path),
-        Refusal::TooMany => put_all(sink, b"error: more than 16384 statements\n"),
-        Refusal::TooWide => put_all(sink, b"error: more than 65536 expanded statements\n"),
-        Refusal::Check { number, path } => put_check(sink, *number, path),
-        Refusal::Exhausted => put_all(sink, b"error: no more entries\n"),
-    }
-}
-
-/// Writes the text of a reply.
-pub fn put_reply<K: Sink>(sink: &mut K, reply: &Reply) -> Result<(), PutFailed>
-    ensures wrote { Wrote result (text_of_reply reply.now) (K.held sink.old) (K.held sink.new) }
-    ensures cause { OnErr result (Rose (K.faults sink.old) (K.faults sink.new)) }
-    ensures later { K.faults sink.old ≤ K.faults sink.new }
-{
-    match reply {
-        Reply::Done | Reply::LoggedOut => Ok(()),
-        Reply::Text(text) => put_all(sink, text.as_slice()),
-        Reply::Entered(Mode::Shared) => put_all(sink, b"Entering configuration mode\n"),
-        Reply::Left => put_all(sink, b"Exiting configuration mode\n"),
-        Reply::Checked => put_all(sink, b"configuration check succeeds\n"),
-        Reply::Committed => put_all(sink, b"commit complete\n"),
-        Reply::Refused(refusal) => put_refusal(sink, refusal),
-    }
-}
-
-fn put_place<K: Sink>(sink: &mut K, place: u32) -> Result<(), PutFailed>
-    ensures wrote { Wrote result (decimal place ++ 10 ∷ []) (K.held sink.old) (K.held sink.new) }
+/// Writes a number and a text in front of it.
+pub(crate) fn put_number_behind<K: Sink>(
+    sink: &mut K,
+    front: &[u8],
+    number: u32,
+) -> Result<(), PutFailed>
+    ensures wrote { Wrote result (front.now ++ decimal number) (K.held sink.old) (K.held sink.new) }
     ensures cause { OnErr result (Rose (K.faults sink.old) (K.faults sink.new)) }
     ensures later { K.faults sink.old ≤ K.faults sink.new }
 {
     let mut digits = Buffer::new();
-    put_both(sink, digits.format(place).as_bytes(), b"\n")
+    put_both(sink, front, digits.format(number).as_bytes())
 }
 
-fn put_syntax<K: Sink>(sink: &mut K, place: u32) -> Result<(), PutFailed>
-    ensures wrote { Wrote result (text_of_fault (Syntax place)) (K.held sink.old) (K.held sink.new) }
+/// Writes a number between two texts.
+pub(crate) fn put_number_between<K: Sink>(
+    sink: &mut K,
+    front: &[u8],
+    number: u32,
+    back: &[u8],
+) -> Result<(), PutFailed>
+    ensures wrote { Wrote result (front.now ++ (decimal number ++ back.now)) (K.held sink.old) (K.held sink.new) }
     ensures cause { OnErr result (Rose (K.faults sink.old) (K.faults sink.new)) }
     ensures later { K.faults sink.old ≤ K.faults sink.new }
 {
-    match put_all(sink, b"error: syntax error at byte ") {
-        Ok(()) => put_place(sink, place),
+    match put_all(sink, front) {
+        Ok(()) => put_number_before(sink, number, back),
         Err(failed) => Err(failed),
     }
-}
-
-/// Writes the text for a line that was refused.
-pub fn put_fault<K: Sink>(sink: &mut K, fault: ShellFault) -> Result<(), PutFailed>
-    ensures wrote { Wrote result (text_of_fault fault) (K.held sink.old) (K.held sink.new) }
-    ensures cause { OnErr result (Rose (K.faults sink.old) (K.faults sink.new)) }
-    ensures later { K.faults sink.old ≤ K.faults sink.new }
-{
-    match fault {
-        ShellFault::Syntax(place) => put_syntax(sink, place),
-        ShellFault::LineTooLong => put_all(sink, b"error: line too long\n"),
-    }
-}
-
-/// Writes the text for want of memory.
-pub fn put_no_memory<K: Sink>(sink: &mut K) -> Result<(), PutFailed>
-    ensures wrote { Wrote result no_memory_text (K.held sink.old) (K.held sink.new) }
-    ensures cause { OnErr result (Rose (K.faults sink.old) (K.faults sink.new)) }
-    ensures later { K.faults sink.old ≤ K.faults sink.new }
-{
-    put_all(sink, b"error: out of memory\n")
 }

@@ -1,9 +1,0 @@
-use Rattle.std.proofs.Common.{◌∷◌, ◌++◌, [], codes, decimal}
-use Rattle.io_edge.proofs.WroteLemmas.{wrote_then, wrote_part_of}
-use Rattle.reply_text.proofs.writing.put_syntax.Goals as goal
-
-pub returns-in-Ok-clause-wrote : goal.returns-in-Ok-clause-wrote
-returns-in-Ok-clause-wrote g c = wrote_then _ (codes "error: syntax error at byte ") (decimal c.args.place ++ 10 ∷ []) _ _ _ c.in-Ok.ensures.wrote c.put_place.ensures.wrote
-
-pub returns-in-Err-clause-wrote : goal.returns-in-Err-clause-wrote
-returns-in-Err-clause-wrote g c = wrote_part_of (codes "error: syntax error at byte ") (decimal c.args.place ++ 10 ∷ []) _ _ c.in-Err.ensures.wrote
