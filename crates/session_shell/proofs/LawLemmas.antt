@@ -1,0 +1,318 @@
+-- What a session's door names, and that a session has one text.
+use Rattle.std.proofs.Common.{◌≡◌, ℕ, ◌+◌, List, [], ◌∷◌, ◌++◌, map, refl, sym, ap, subst, ◌∙◌, Option, None, Some, Result, inl, inr, ◌⊎◌, Bool, true, false}
+use Rattle.std.proofs.lemmas.Bool.{false≢true}
+use Rattle.std.proofs.lemmas.List.{append-nil}
+use Rattle.std.specs.List.{AllByRecursion, flat_map}
+use Rattle.cfg_base.specs.Counts.{Rose}
+use Rattle.commands.specs.declared.command.Command.{Command}
+use Rattle.commands.specs.declared.command.Command.TheVariants.{Logout}
+use Rattle.io_edge.specs.declared.lines.Line.{Line}
+use Rattle.io_edge.specs.declared.lines.Line.TheVariants.{Text, TooLong, End, Failed, InputFull as Full}
+use Rattle.io_edge.specs.Ends.{behind}
+use Rattle.io_edge.specs.Line.{TellsBoth}
+use Rattle.shell_words.specs.declared.making.Words0.{Words0}
+use Rattle.shell_words.specs.Reading.{IsReading}
+use Rattle.reply_text.specs.declared.fault.ShellFault.{ShellFault}
+use Rattle.session_shell.specs.declared.turn.How.{How}
+use Rattle.session_shell.specs.declared.turn.How.TheVariants.{Clean, InputFull}
+use Rattle.session_shell.specs.declared.turn.Turn.TheVariants.{NoMemory}
+use Rattle.session_shell.specs.declared.door.Given0.{Given0}
+use Rattle.session_shell.specs.declared.door.Given0.TheVariants as given
+use Rattle.session_shell.specs.declared.reading.Item.{Item}
+use Rattle.session_shell.specs.declared.reading.Item.TheVariants.{Ask, Wrong}
+use Rattle.session_shell.specs.declared.reading.Reading.{Reading}
+use Rattle.session_shell.specs.declared.reading.Reading.TheVariants.{Operational, Configuring, Collecting, Spoilt, Out}
+use Rattle.session_shell.specs.Exchange.{Exchange, Asked, Refused, item_of, moment_of, turn_of, text_of, after}
+use Rattle.session_shell.specs.Items.{ComesOf, GoesOn, IsRead, IsReadAs, ReadsAs, asked_by}
+use Rattle.session_shell.specs.Cut.{lines_of}
+use Rattle.session_shell.specs.Transcript.{AnswersAre, EndsBy, Following, GoesBy, IsInput, LogsOut, Naming, SessionView, TakesAnswers, Texts, Wrote}
+use Rattle.session_shell.specs.Law.{Agree, IsDetermined, IsNamed, Undisturbed, kept_place}
+use Rattle.session_shell.proofs.TurnLemmas.{flat_map_over_append}
+use Rattle.session_shell.proofs.TakeLemmas.{not_full}
+
+module _ {D : Type 0} (names : Naming D) (follows : Following D)
+    (named : (d e : D) (command : Command) (moment : ℕ) (given : Given0) → follows d command moment given e → names e command moment given)
+    (keeps : (d e : D) (command : Command) (moment : ℕ) (given : Given0) → follows d command moment given e → (asked : Command) (when : ℕ) (was : Given0) → names d asked when was → names e asked when was) where
+  kept : (exchanges : List Exchange) (d e : D) → GoesBy follows exchanges d e → (asked : Command) (when : ℕ) (was : Given0) → names d asked when was → names e asked when was
+  kept [] d e goes asked when was is = subst (λ x. names x asked when was) (sym goes) is
+  kept (Asked moment command given ∷ exchanges) d e goes asked when was is = kept exchanges goes.0 e goes.2 asked when was (keeps d goes.0 command moment given goes.1 asked when was is)
+  kept (Refused moment fault ∷ exchanges) d e goes asked when was is = kept exchanges d e goes asked when was is
+
+  pub all_named : (exchanges : List Exchange) (d e : D) → GoesBy follows exchanges d e → AllByRecursion (IsNamed names e) exchanges
+  all_named [] d e goes = tt
+  all_named (Asked moment command given ∷ exchanges) d e goes = (kept exchanges goes.0 e goes.2 command moment given (named d goes.0 command moment given goes.1), all_named exchanges goes.0 e goes.2)
+  all_named (Refused moment fault ∷ exchanges) d e goes = (tt, all_named exchanges d e goes)
+
+head_is : {A : Type 0} {x y : A} {xs ys : List A} → x ∷ xs ≡ y ∷ ys → x ≡ y
+head_is {A} {x} is = ap (λ l. elim l [ [] ↦ x | a ∷ _ ↦ a ]) is
+
+tail_is : {A : Type 0} {x y : A} {xs ys : List A} → x ∷ xs ≡ y ∷ ys → xs ≡ ys
+tail_is is = ap (λ l. elim l [ [] ↦ [] | _ ∷ more ↦ more ]) is
+
+cons_is : {A : Type 0} {x : A} {xs : List A} → x ∷ xs ≡ [] → ⊥
+cons_is is = false≢true (ap (λ l. elim l [ [] ↦ true | _ ∷ _ ↦ false ]) is)
+
+command_is : (one other : Command) → Ask one ≡ Ask other → one ≡ other
+command_is one other is = ap (λ i. elim i [ Ask r ↦ r | Wrong f ↦ one ]) is
+
+fault_is : (one other : ShellFault) → Wrong one ≡ Wrong other → one ≡ other
+fault_is one other is = ap (λ i. elim i [ Ask r ↦ one | Wrong f ↦ f ]) is
+
+ask_is : (command : Command) (fault : ShellFault) → Ask command ≡ Wrong fault → ⊥
+ask_is command fault is = false≢true (ap (λ i. elim i [ Ask r ↦ false | Wrong f ↦ true ]) is)
+
+-- a line has one reading
+abbrev pub Once : Type 0
+Once = (configuring : Bool) (line : List ℕ) (one other : Result (Option Words0) ℕ) → IsReading configuring line one → IsReading configuring line other → one ≡ other
+
+read_once : Once → (configuring : Bool) (reading : Reading) (line : List ℕ) (one other : Option Item × Reading) → IsReadAs configuring reading line one → IsReadAs configuring reading line other → one ≡ other
+read_once once configuring reading line one other first second =
+    first.is ∙ ap (asked_by reading) (once configuring line first.answer second.answer first.is_reading second.is_reading) ∙ sym second.is
+
+-- what comes of a line is one
+comes_once : Once → (reading : Reading) (line : Line) (one other : Option Item × Reading) → ComesOf reading line one → ComesOf reading line other → one ≡ other
+comes_once once Operational (Text line) one other first second = read_once once false Operational line one other first second
+comes_once once Operational TooLong one other first second = first ∙ sym second
+comes_once once Operational End one other first second = first ∙ sym second
+comes_once once Operational Failed one other first second = first ∙ sym second
+comes_once once Operational Full one other first second = first ∙ sym second
+comes_once once Configuring (Text line) one other first second = read_once once true Configuring line one other first second
+comes_once once Configuring TooLong one other first second = first ∙ sym second
+comes_once once Configuring End one other first second = first ∙ sym second
+comes_once once Configuring Failed one other first second = first ∙ sym second
+comes_once once Configuring Full one other first second = first ∙ sym second
+comes_once once (Collecting way text) (Text line) one other first second = first ∙ sym second
+comes_once once (Collecting way text) TooLong one other first second = first ∙ sym second
+comes_once once (Collecting way text) End one other first second = first ∙ sym second
+comes_once once (Collecting way text) Failed one other first second = first ∙ sym second
+comes_once once (Collecting way text) Full one other first second = first ∙ sym second
+comes_once once (Spoilt fault) (Text line) one other first second = first ∙ sym second
+comes_once once (Spoilt fault) TooLong one other first second = first ∙ sym second
+comes_once once (Spoilt fault) End one other first second = first ∙ sym second
+comes_once once (Spoilt fault) Failed one other first second = first ∙ sym second
+comes_once once (Spoilt fault) Full one other first second = first ∙ sym second
+comes_once once Out (Text line) one other first second = first ∙ sym second
+comes_once once Out TooLong one other first second = first ∙ sym second
+comes_once once Out End one other first second = first ∙ sym second
+comes_once once Out Failed one other first second = first ∙ sym second
+comes_once once Out Full one other first second = first ∙ sym second
+
+-- no fault and no want of memory ended a session
+abbrev pub IsWhole : How → Type 0
+IsWhole how = (how ≡ Clean) ⊎ (how ≡ InputFull)
+
+-- a session that stopped reads no further line
+stopped : (how : How) (reading : Reading) (line : Line) (lines : List Line) → IsWhole how → EndsBy how reading (line ∷ lines) → IsRead reading line → ⊥
+stopped how reading line lines (inl clean) ends read = by (subst (λ h. EndsBy h reading (line ∷ lines)) clean ends)
+  where
+    by : EndsBy Clean reading (line ∷ lines) → ⊥
+    by (inl out) = subst (λ r. IsRead r line) out read
+    by (inr none) = cons_is none
+stopped how reading line lines (inr full) ends read =
+    let by : EndsBy InputFull reading (line ∷ lines) = subst (λ h. EndsBy h reading (line ∷ lines)) full ends in not_full reading (subst (IsRead reading) (head_is by.1) read)
+
+-- exchanges of which none found no memory
+abbrev pub AllWere : List Exchange → Type 0
+AllWere xs = AllByRecursion (λ turn. turn ≡ NoMemory → ⊥) (map turn_of xs)
+
+-- what two sessions have in common of the exchanges to come says that the next two are one, where their items and moments are
+abbrev pub Peels : (List Exchange → List Exchange → Type 0) → Type 0
+Peels Common =
+    (x y : Exchange) (xs ys : List Exchange) → item_of x ≡ item_of y → moment_of x ≡ moment_of y → (turn_of x ≡ NoMemory → ⊥) → (turn_of y ≡ NoMemory → ⊥)
+    → Common (x ∷ xs) (y ∷ ys) → (x ≡ y) × Common xs ys
+
+module _ (Common : List Exchange → List Exchange → Type 0) (peels : Peels Common) (once : Once) where
+  -- the exchanges of two sessions took the same answers of a clock, and none found no memory
+  pub record Alike (coming : ℕ → ℕ) (xs ys : List Exchange) : Type 0 where
+    pub left : ℕ → ℕ
+    pub left' : ℕ → ℕ
+    pub answers : AnswersAre coming (map moment_of xs) left
+    pub answers' : AnswersAre coming (map moment_of ys) left'
+    pub wants : AllWere xs
+    pub wants' : AllWere ys
+    pub common : Common xs ys
+
+  first_is : (coming : ℕ → ℕ) (x y : Exchange) (xs ys : List Exchange) → item_of x ≡ item_of y → Alike coming (x ∷ xs) (y ∷ ys) → (x ≡ y) × Alike (λ k. coming (k + 1)) xs ys
+  first_is coming x y xs ys item alike =
+      let peeled : (x ≡ y) × Common xs ys = peels x y xs ys item (alike.answers.0 ∙ sym alike.answers'.0) alike.wants.0 alike.wants'.0 alike.common in
+      (peeled.0, record { left = alike.left; left' = alike.left'; answers = alike.answers.1; answers' = alike.answers'.1; wants = alike.wants.1; wants' = alike.wants'.1; common = peeled.1 })
+
+  -- the items of the same lines came to the same
+  abbrev pub Same : Reading → Reading → List Exchange → List Exchange → (xs ys : List Exchange) → Type 0
+  Same last last' more more' xs ys = (xs ≡ ys) × (last ≡ last') × ((next : ℕ → ℕ) × Alike next more more')
+
+  same_items : (how how' : How) (lines lines' rest rest' : List Line) (reading last last' : Reading) (xs ys more more' : List Exchange) (coming : ℕ → ℕ) → IsWhole how → IsWhole how' →
+      lines ++ rest ≡ lines' ++ rest' → ReadsAs lines reading xs last → ReadsAs lines' reading ys last' → EndsBy how last rest → EndsBy how' last' rest' → Alike coming (xs ++ more) (ys ++ more') → Same last last' more more' xs ys
+  same_items how how' [] [] rest rest' reading last last' xs ys more more' coming w w' is reads reads' ends ends' alike =
+      (reads.0 ∙ sym reads'.0, reads.1 ∙ sym reads'.1, (coming, subst (λ l. Alike coming more (l ++ more')) reads'.0 (subst (λ l. Alike coming (l ++ more) (ys ++ more')) reads.0 alike)))
+  same_items how how' [] (line ∷ lines') rest rest' reading last last' xs ys more more' coming w w' is reads reads' ends ends' alike =
+      absurd (stopped how reading line (lines' ++ rest') w (subst (λ r. EndsBy how r (line ∷ (lines' ++ rest'))) reads.1 (subst (EndsBy how last) is ends)) reads'.is_read)
+  same_items how how' (line ∷ lines) [] rest rest' reading last last' xs ys more more' coming w w' is reads reads' ends ends' alike =
+      absurd (stopped how' reading line (lines ++ rest) w' (subst (λ r. EndsBy how' r (line ∷ (lines ++ rest))) reads'.1 (subst (EndsBy how' last') (sym is) ends')) reads.is_read)
+  same_items how how' (line ∷ lines) (line' ∷ lines') rest rest' reading last last' xs ys more more' coming w w' is reads reads' ends ends' alike =
+      on reads.came (λ next us vs now r r' a. same_items how how' lines lines' rest rest' next last last' us vs more more' now w w' (tail_is is) r r' ends ends' a) xs ys reads.goes
+      (subst (λ came. GoesOn (λ next us. ReadsAs lines' next us last') came ys) (comes_once once reading line reads'.came reads.came (subst (λ l. ComesOf reading l reads'.came) (sym (head_is is)) reads'.comes) reads.comes) reads'.goes) coming alike
+    where
+      on : (came : Option Item × Reading) → ((next : Reading) (us vs : List Exchange) (now : ℕ → ℕ) → ReadsAs lines next us last → ReadsAs lines' next vs last' → Alike now (us ++ more) (vs ++ more') → Same last last' more more' us vs) → (us vs : List Exchange) →
+          GoesOn (λ next us. ReadsAs lines next us last) came us → GoesOn (λ next vs. ReadsAs lines' next vs last') came vs → (now : ℕ → ℕ) → Alike now (us ++ more) (vs ++ more') → Same last last' more more' us vs
+      on (None, next) again us vs goes goes' now a = again next us vs now goes goes' a
+      on (Some item, next) again [] vs goes goes' now a = absurd goes
+      on (Some item, next) again (u ∷ us) [] goes goes' now a = absurd goes'
+      on (Some item, next) again (u ∷ us) (v ∷ vs) goes goes' now a =
+          let first : (u ≡ v) × Alike (λ k. now (k + 1)) (us ++ more) (vs ++ more') = first_is now u v (us ++ more) (vs ++ more') (goes.0 ∙ sym goes'.0) a in
+          let back : Same last last' more more' us vs = again (after next u) us vs (λ k. now (k + 1)) goes.1 (subst (λ x. ReadsAs lines' (after next x) vs last') (sym first.0) goes'.1) first.1 in
+          (ap (λ x. x ∷ us) first.0 ∙ ap (λ l. v ∷ l) back.0, back.1, back.2)
+
+  -- one logout each
+  one_logout : (coming : ℕ → ℕ) (xs ys : List Exchange) → ((logout : Exchange) × (xs ≡ logout ∷ []) × (item_of logout ≡ Ask Logout)) → ((logout : Exchange) × (ys ≡ logout ∷ []) × (item_of logout ≡ Ask Logout)) → Alike coming xs ys → (xs ≡ ys) × Common [] []
+  one_logout coming xs ys is is' alike =
+      let first : (is.0 ≡ is'.0) × Alike (λ k. coming (k + 1)) [] [] = first_is coming is.0 is'.0 [] [] (is.2 ∙ sym is'.2) (subst (λ l. Alike coming (is.0 ∷ []) l) is'.1 (subst (λ l. Alike coming l ys) is.1 alike)) in
+      (is.1 ∙ ap (λ x. x ∷ []) first.0 ∙ sym is'.1, first.1.common)
+
+  -- the last logouts of two sessions came to the same
+  same_logout : (last : Reading) (coming : ℕ → ℕ) (xs ys : List Exchange) → LogsOut last xs → LogsOut last ys → Alike coming xs ys → (xs ≡ ys) × Common [] []
+  same_logout Out coming xs ys is is' alike = (is ∙ sym is', subst (λ l. Common [] l) is' (subst (λ l. Common l ys) is alike.common))
+  same_logout Operational coming xs ys is is' alike = one_logout coming xs ys is is' alike
+  same_logout Configuring coming xs ys is is' alike = one_logout coming xs ys is is' alike
+  same_logout (Collecting way text) coming xs ys is is' alike = one_logout coming xs ys is is' alike
+  same_logout (Spoilt fault) coming xs ys is is' alike = one_logout coming xs ys is is' alike
+
+-- a session whose sink never failed wrote all its texts
+all_text : (how : How) (asked final : List Exchange) (old new : SessionView) → IsWhole how → (Rose old.faults new.faults → ⊥) → Texts how asked final old new → new.held ≡ behind old.held (flat_map text_of (asked ++ final))
+all_text how asked final old new whole no_fault texts = wrote (by whole)
+  where
+    by : IsWhole how → Wrote (flat_map text_of asked) (flat_map text_of final) old new
+    by (inl is) = subst (λ h. Texts h asked final old new) is texts
+    by (inr is) = subst (λ h. Texts h asked final old new) is texts
+
+    wrote : Wrote (flat_map text_of asked) (flat_map text_of final) old new → new.held ≡ behind old.held (flat_map text_of (asked ++ final))
+    wrote w = w.held ∙ ap (λ t. behind old.held (flat_map text_of asked ++ t)) (all w.part w.rest w.is_second w.whole) ∙ ap (behind old.held) (sym (flat_map_over_append text_of asked final))
+      where
+        all : (part rest : List ℕ) → flat_map text_of final ≡ part ++ rest → (rest ≡ []) ⊎ Rose old.faults new.faults → part ≡ flat_map text_of final
+        all part rest is (inl none) = sym (is ∙ ap (λ r. part ++ r) none ∙ append-nil part)
+        all part rest is (inr rose) = absurd (no_fault rose)
+
+-- a told clock tells its answers
+took : (coming : ℕ → ℕ) (answers : List ℕ) (left : Option (ℕ → ℕ)) → TakesAnswers (Some coming) answers left → (now : ℕ → ℕ) × AnswersAre coming answers now
+took coming answers (Some left) takes = (left, takes)
+took coming answers None takes = absurd takes
+
+-- the lines of a told source
+input_is : (lines : List Line) (reading : Reading) (how : How) (limit : ℕ) (bytes : List ℕ) (source : Option (List ℕ)) → TellsBoth (IsInput lines reading how limit) (Some bytes) source → (rest : List Line) × (lines_of limit bytes ≡ lines ++ rest) × EndsBy how reading rest
+input_is lines reading how limit bytes (Some now) input = (input.rest, input.first.are, input.ends)
+input_is lines reading how limit bytes None input = absurd input
+
+module _ {D : Type 0} (follows : Following D) (once : Once) (limit : ℕ) (bytes : List ℕ) (coming : ℕ → ℕ) (d e d' e' : D) (one other : SessionView)
+    (first : Undisturbed follows limit bytes coming d e one) (second : Undisturbed follows limit bytes coming d' e' other) where
+  abbrev pub all_of : List Exchange
+  all_of = first.session.asked ++ first.session.final
+
+  abbrev pub all_of' : List Exchange
+  all_of' = second.session.asked ++ second.session.final
+
+  -- two sessions that nothing disturbs, and that have something in common that says so, came to the same
+  module _ (Common : List Exchange → List Exchange → Type 0) (peels : Peels Common) (common : Common all_of all_of') where
+    alike : Alike Common peels once coming all_of all_of'
+    alike =
+        let answers : (now : ℕ → ℕ) × AnswersAre coming (map moment_of all_of) now = took coming (map moment_of all_of) one.coming first.session.turns.moments in
+        let answers' : (now : ℕ → ℕ) × AnswersAre coming (map moment_of all_of') now = took coming (map moment_of all_of') other.coming second.session.turns.moments in
+        record {
+          left = answers.0;
+          left' = answers'.0;
+          answers = answers.1;
+          answers' = answers'.1;
+          wants = subst (AllByRecursion (λ turn. turn ≡ NoMemory → ⊥)) first.session.turns.turned first.no_want;
+          wants' = subst (AllByRecursion (λ turn. turn ≡ NoMemory → ⊥)) second.session.turns.turned second.no_want;
+          common = common;
+        }
+
+    same : Same Common peels once first.session.reading second.session.reading first.session.final second.session.final first.session.asked second.session.asked
+    same =
+        let s = first.session in
+        let s' = second.session in
+        let input : (rest : List Line) × (lines_of limit bytes ≡ s.lines ++ rest) × EndsBy first.how s.reading rest = input_is s.lines s.reading first.how limit bytes first.source s.input in
+        let input' : (rest : List Line) × (lines_of limit bytes ≡ s'.lines ++ rest) × EndsBy second.how s'.reading rest = input_is s'.lines s'.reading second.how limit bytes second.source s'.input in
+        same_items Common peels once first.how second.how s.lines s'.lines input.0 input'.0 Operational s.reading s'.reading s.asked s'.asked s.final s'.final coming first.ended second.ended
+        (sym input.1 ∙ input'.1) s.reads s'.reads input.2 input'.2 alike
+
+    last : (first.session.final ≡ second.session.final) × Common [] []
+    last = same_logout Common peels once first.session.reading same.2.0 first.session.final second.session.final first.session.logs_out
+        (subst (λ r. LogsOut r second.session.final) (sym same.1) second.session.logs_out) same.2.1
+
+    -- all their exchanges are one
+    pub all_same : (all_of ≡ all_of') × Common [] []
+    all_same = (ap (λ xs. xs ++ first.session.final) same.0 ∙ ap (λ ys. second.session.asked ++ ys) last.0, last.1)
+
+  -- and then their turns and texts are
+  pub outcome_same : all_of ≡ all_of' → (one.turns ≡ other.turns) × (one.held ≡ other.held)
+  outcome_same all =
+      (first.session.turns.turned ∙ ap (map turn_of) all ∙ sym second.session.turns.turned, text ∙ ap (λ xs. behind (Some []) (flat_map text_of xs)) all ∙ sym text')
+    where
+      text : one.held ≡ behind (Some []) (flat_map text_of all_of)
+      text = all_text first.how first.session.asked first.session.final (record { coming = Some coming; held = Some []; faults = first.faults; turns = [] }) one first.ended first.no_fault first.session.texts
+
+      text' : other.held ≡ behind (Some []) (flat_map text_of all_of')
+      text' = all_text second.how second.session.asked second.session.final (record { coming = Some coming; held = Some []; faults = second.faults; turns = [] }) other second.ended second.no_fault second.session.texts
+
+-- two doors that name the same, and events at the same places
+record AtPlaces {D : Type 0} (names : Naming D) (d e : D) (xs ys : List Exchange) : Type 0 where
+  pub places : flat_map kept_place (map turn_of xs) ≡ flat_map kept_place (map turn_of ys)
+  pub named : AllByRecursion (IsNamed names d) xs
+  pub named' : AllByRecursion (IsNamed names e) ys
+
+peels_places : {D : Type 0} (names : Naming D) (d e : D) → Agree names d e → Peels (AtPlaces names d e)
+peels_places names d e agree (Asked moment command (given.Kept place reply)) (Asked moment' command' (given.Kept place' reply')) xs ys item when want want' at = (
+  ap (λ m. Asked m command (given.Kept place reply)) when ∙ ap (λ x. Asked moment' x (given.Kept place reply)) which ∙ ap (Asked moment' command') same,
+  record { places = tail_is at.places; named = at.named.1; named' = at.named'.1 },
+)
+  where
+    which : command ≡ command'
+    which = command_is command command' item
+
+    same : given.Kept place reply ≡ given.Kept place' reply'
+    same = agree command moment (given.Kept place reply) (given.Kept place' reply') at.named.0 (subst (λ m. names e command m (given.Kept place' reply')) (sym when) (subst (λ x. names e x moment' (given.Kept place' reply')) (sym which) at.named'.0)) (ap Some (head_is at.places))
+peels_places names d e agree (Asked moment command given.NoMemory) y xs ys item when want want' at = absurd (want refl)
+peels_places names d e agree (Asked moment command (given.Kept place reply)) (Asked moment' command' given.NoMemory) xs ys item when want want' at = absurd (want' refl)
+peels_places names d e agree (Refused moment fault) (Refused moment' fault') xs ys item when want want' at =
+    (ap (λ m. Refused m fault) when ∙ ap (Refused moment') (fault_is fault fault' item), record { places = at.places; named = at.named.1; named' = at.named'.1 })
+peels_places names d e agree (Asked moment command (given.Kept place reply)) (Refused moment' fault') xs ys item when want want' at = absurd (ask_is command fault' item)
+peels_places names d e agree (Refused moment fault) (Asked moment' command' given') xs ys item when want want' at = absurd (ask_is command' fault (sym item))
+
+-- two doors that stood alike, and went on by what they were asked
+record FromOne {D : Type 0} (follows : Following D) (e e' : D) (xs ys : List Exchange) : Type 0 where
+  pub start : D
+  pub went : GoesBy follows xs start e
+  pub went' : GoesBy follows ys start e'
+
+peels_one : {D : Type 0} (follows : Following D) (e e' : D) → IsDetermined follows → Peels (FromOne follows e e')
+peels_one follows e e' determined (Asked moment command given) (Asked moment' command' given') xs ys item when want want' from =
+    let which : command ≡ command' = command_is command command' item in
+    let did : follows from.start command moment given' from.went'.0 = subst (λ m. follows from.start command m given' from.went'.0) (sym when) (subst (λ x. follows from.start x moment' given' from.went'.0) (sym which) from.went'.1) in
+    let same : (given ≡ given') × (from.went.0 ≡ from.went'.0) = determined from.start from.went.0 from.went'.0 command moment given given' from.went.1 did (λ is. want (ap (λ g. turn_of (Asked moment command g)) is)) (λ is. want' (ap (λ g. turn_of (Asked moment command g)) is)) in (
+      ap (λ m. Asked m command given) when ∙ ap (λ x. Asked moment' x given) which ∙ ap (Asked moment' command') same.0,
+      record { start = from.went'.0; went = subst (λ x. GoesBy follows xs x e) same.1 from.went.2; went' = from.went'.2 },
+    )
+peels_one follows e e' determined (Refused moment fault) (Refused moment' fault') xs ys item when want want' from =
+    (ap (λ m. Refused m fault) when ∙ ap (Refused moment') (fault_is fault fault' item), record { start = from.start; went = from.went; went' = from.went' })
+peels_one follows e e' determined (Asked moment command given) (Refused moment' fault') xs ys item when want want' from = absurd (ask_is command fault' item)
+peels_one follows e e' determined (Refused moment fault) (Asked moment' command' given') xs ys item when want want' from = absurd (ask_is command' fault (sym item))
+
+-- two sessions at the same places of doors that name the same
+pub one_text : {D : Type 0} (names : Naming D) (follows : Following D) (named : (d e : D) (command : Command) (moment : ℕ) (given : Given0) → follows d command moment given e → names e command moment given)
+    (keeps : (d e : D) (command : Command) (moment : ℕ) (given : Given0) → follows d command moment given e → (asked : Command) (when : ℕ) (was : Given0) → names d asked when was → names e asked when was) → Once →
+    (limit : ℕ) (bytes : List ℕ) (coming : ℕ → ℕ) (d e d' e' : D) (one other : SessionView) → Undisturbed follows limit bytes coming d e one → Undisturbed follows limit bytes coming d' e' other → Agree names e e' →
+    flat_map kept_place one.turns ≡ flat_map kept_place other.turns → (one.turns ≡ other.turns) × (one.held ≡ other.held)
+one_text names follows named keeps once limit bytes coming d e d' e' one other first second agree places =
+    outcome_same follows once limit bytes coming d e d' e' one other first second (all_same follows once limit bytes coming d e d' e' one other first second (AtPlaces names e e') (peels_places names e e' agree) (record {
+      places = ap (flat_map kept_place) (sym first.session.turns.turned) ∙ places ∙ ap (flat_map kept_place) second.session.turns.turned;
+      named = all_named names follows named keeps (first.session.asked ++ first.session.final) d e first.session.turns.asked;
+      named' = all_named names follows named keeps (second.session.asked ++ second.session.final) d' e' second.session.turns.asked;
+    })).0
+
+-- two sessions of one door that leaves no choice
+pub one_run : {D : Type 0} (follows : Following D) → Once → IsDetermined follows → (limit : ℕ) (bytes : List ℕ) (coming : ℕ → ℕ) (d e e' : D) (one other : SessionView) → Undisturbed follows limit bytes coming d e one → Undisturbed follows limit bytes coming d e' other →
+    (one.turns ≡ other.turns) × (one.held ≡ other.held) × (e ≡ e')
+one_run follows once determined limit bytes coming d e e' one other first second =
+    let all = all_same follows once limit bytes coming d e d e' one other first second (FromOne follows e e') (peels_one follows e e' determined) (record { start = d; went = first.session.turns.asked; went' = second.session.turns.asked }) in
+    let out = outcome_same follows once limit bytes coming d e d e' one other first second all.0 in
+    (out.0, out.1, all.1.went ∙ sym all.1.went')

@@ -1,0 +1,6 @@
+pub mod TurnLemmas
+pub mod CutLemmas
+pub mod TakeLemmas
+pub mod StepLemmas
+pub mod EndLemmas
+pub mod LawLemmas

@@ -1,0 +1,127 @@
+-- What an item and a line come to.
+use Rattle.std.proofs.Common.{◌≡◌, ℕ, ◌<◌, List, [], ◌∷◌, ◌++◌, Bool, true, false, refl, sym, ap, ◌∙◌, Option, None, Some, Result, Ok, Err, OnErr, is_ok, if◌then◌else◌, inl, inr}
+use Rattle.std.specs.List.{flat_map}
+use Rattle.std.proofs.lemmas.List.{append-nil}
+use Rattle.std.proofs.lemmas.Bool.{false≢true}
+use Rattle.commands.specs.declared.command.Command.{Command}
+use Rattle.io_edge.specs.Ends.{TakesAnswer, behind}
+use Rattle.io_edge.specs.Line.{Falls}
+use Rattle.io_edge.specs.Wrote.{Wrote as WroteAs}
+use Rattle.io_edge.specs.declared.lines.Line.{Line}
+use Rattle.io_edge.specs.declared.lines.Line.TheVariants.{Text, TooLong, End, Failed, InputFull as Full}
+use Rattle.reply_text.specs.declared.fault.ShellFault.{ShellFault}
+use Rattle.session_shell.specs.declared.turn.How.{How}
+use Rattle.session_shell.specs.declared.turn.How.TheVariants.{Clean, SinkFault}
+use Rattle.session_shell.specs.declared.turn.Turn.TheVariants.{Local}
+use Rattle.session_shell.specs.declared.door.Given0.{Given0}
+use Rattle.session_shell.specs.declared.reading.Item.{Item}
+use Rattle.session_shell.specs.declared.reading.Item.TheVariants.{Ask, Wrong}
+use Rattle.session_shell.specs.declared.reading.Reading.{Reading}
+use Rattle.session_shell.specs.declared.reading.Reading.TheVariants.{Operational, Configuring, Collecting, Spoilt, Out}
+use Rattle.session_shell.specs.Exchange.{Exchange, Asked, Refused, text_of, turn_of_given, text_of_given, after_given}
+use Rattle.session_shell.specs.Items.{ComesOf, IsRead}
+use Rattle.session_shell.specs.Transcript.{Following, SessionView}
+use Rattle.session_shell.specs.Steps.{Serves, ServesLine, Takes, is_out, is_end, how_next}
+use Rattle.session_shell.proofs.TurnLemmas.{one_answer, Turns-none}
+
+-- an item that was asked
+pub Serves-asked : {D T E : Type 0} (follows : Following D) (command : Command) (moment : ℕ) (given : Given0) (put : Result T E) (d e : D) (reading reading' : Reading) (old new : SessionView) →
+    TakesAnswer old.coming new.coming moment → new.turns ≡ old.turns ++ turn_of_given given ∷ [] → follows d command moment given e → reading' ≡ after_given reading given → WroteAs put (text_of_given given) old.held new.held →
+    Serves follows (Ask command) put d e reading reading' old new
+Serves-asked follows command moment given put d e reading reading' old new takes turned did is_reading wrote = record {
+  exchange = Asked moment command given;
+  is_item = refl;
+  is_reading = is_reading;
+  turns = record { moments = one_answer old.coming new.coming moment takes; turned = turned; asked = (e, did, refl) };
+  wrote = wrote;
+}
+
+-- an item that was refused
+pub Serves-refused : {D T E : Type 0} (follows : Following D) (moment : ℕ) (fault : ShellFault) (put : Result T E) (d : D) (reading : Reading) (old new : SessionView) →
+    TakesAnswer old.coming new.coming moment → new.turns ≡ old.turns ++ Local fault ∷ [] → WroteAs put (text_of (Refused moment fault)) old.held new.held →
+    Serves follows (Wrong fault) put d d reading reading old new
+Serves-refused follows moment fault put d reading old new takes turned wrote = record {
+  exchange = Refused moment fault;
+  is_item = refl;
+  is_reading = refl;
+  turns = record { moments = one_answer old.coming new.coming moment takes; turned = turned; asked = refl };
+  wrote = wrote;
+}
+
+-- a line whose text was written whole
+takes_whole : {D : Type 0} (follows : Following D) (line : Line) (exchanges : List Exchange) (d e : D) (reading reading' : Reading) (old new : SessionView) (out end : Bool) → is_out reading' ≡ out → is_end line ≡ end →
+    ServesLine follows line exchanges d e reading reading' old new → new.held ≡ behind old.held (flat_map text_of exchanges) →
+    Takes follows line (if out then Some Clean else (if end then Some Clean else None)) d e reading reading' old new
+takes_whole follows line exchanges d e reading reading' old new true end o f serves held = (exchanges, serves, held, inl o)
+takes_whole follows line exchanges d e reading reading' old new false true o f serves held = (exchanges, serves, held, inr f)
+takes_whole follows line exchanges d e reading reading' old new false false o f serves held = (exchanges, serves, held, o, f)
+
+pub behind-none : (held : Option (List ℕ)) → held ≡ behind held []
+behind-none None = refl
+behind-none (Some held) = ap Some (sym (append-nil held))
+
+-- a line that came to nothing
+pub Takes-none : {D : Type 0} (follows : Following D) (line : Line) (d : D) (reading reading' : Reading) (view : SessionView) → IsRead reading line → ComesOf reading line (None, reading') →
+    Takes follows line (how_next line reading' true) d d reading reading' view view
+Takes-none follows line d reading reading' view read came =
+    takes_whole follows line [] d d reading reading' view view (is_out reading') (is_end line) refl refl
+    (record { reads = record { came = (None, reading'); is_read = read; comes = came; goes = (refl, refl) }; turns = Turns-none follows d view })
+    (behind-none view.held)
+
+-- a line that ended an item
+pub Takes-item : {D T E : Type 0} (follows : Following D) (line : Line) (item : Item) (put : Result T E) (d e : D) (reading mid reading' : Reading) (old new : SessionView) → IsRead reading line → ComesOf reading line (Some item, mid) →
+    Serves follows item put d e mid reading' old new → Takes follows line (how_next line reading' (is_ok put)) d e reading reading' old new
+Takes-item {D} {T} {E} follows line item put d e reading mid reading' old new read came serves = by put serves.wrote
+  where
+    exchange : Exchange
+    exchange = serves.exchange
+
+    came_to : ServesLine follows line (exchange ∷ []) d e reading reading' old new
+    came_to = record { reads = record { came = (Some item, mid); is_read = read; comes = came; goes = (serves.is_item, (refl, serves.is_reading)) }; turns = serves.turns }
+
+    by : (put : Result T E) → WroteAs put (text_of exchange) old.held new.held → Takes follows line (how_next line reading' (is_ok put)) d e reading reading' old new
+    by (Ok done) wrote = takes_whole follows line (exchange ∷ []) d e reading reading' old new (is_out reading') (is_end line) refl refl came_to (wrote ∙ ap (behind old.held) (sym (append-nil (text_of exchange))))
+    by (Err failed) wrote = (exchange, came_to, wrote)
+
+pub not_failed : (reading : Reading) → IsRead reading Failed → ⊥
+not_failed Operational read = read
+not_failed Configuring read = read
+not_failed (Collecting way text) read = read
+not_failed (Spoilt fault) read = read
+not_failed Out read = read
+
+pub not_full : (reading : Reading) → IsRead reading Full → ⊥
+not_full Operational read = read
+not_full Configuring read = read
+not_full (Collecting way text) read = read
+not_full (Spoilt fault) read = read
+not_full Out read = read
+
+pub out_is : (reading : Reading) → is_out reading ≡ true → reading ≡ Out
+out_is Out is = refl
+out_is Operational is = absurd (false≢true is)
+out_is Configuring is = absurd (false≢true is)
+out_is (Collecting way text) is = absurd (false≢true is)
+out_is (Spoilt fault) is = absurd (false≢true is)
+
+-- a session ends by its sink only where a text was not written
+pub cause_of : {T E : Type 0} (put : Result T E) (line : Line) (reading : Reading) (P : Type 0) → OnErr put P → how_next line reading (is_ok put) ≡ Some SinkFault → P
+cause_of (Err failed) line reading P cause is = cause
+cause_of (Ok done) line reading P cause is = absurd (never (is_out reading) (is_end line) is)
+  where
+    sink : Option How → Bool
+    sink (Some SinkFault) = true
+    sink how = false
+
+    never : (out end : Bool) → (if out then Some Clean else (if end then Some Clean else None)) ≡ Some SinkFault → ⊥
+    never true end is = false≢true (ap sink is)
+    never false true is = false≢true (ap sink is)
+    never false false is = false≢true (ap sink is)
+
+-- a line takes some of what may be read
+pub falls_of : (reading : Reading) (line : Line) (room room' : ℕ) → IsRead reading line → is_end line ≡ false → Falls line room room' → room' < room
+falls_of reading (Text text) room room' read end falls = falls
+falls_of reading TooLong room room' read end falls = falls
+falls_of reading End room room' read end falls = absurd (false≢true (sym end))
+falls_of reading Failed room room' read end falls = absurd (not_failed reading read)
+falls_of reading Full room room' read end falls = absurd (not_full reading read)

@@ -1,0 +1,78 @@
+-- What a session's items came to, one by one. The rules are this project's own.
+use Rattle.std.specs.Prelude.{ℕ, List, if◌then◌else◌, Option, None, Some}
+use Rattle.commands.specs.declared.command.Command.{Command}
+use Rattle.config_core.specs.declared.reply.Reply.{Reply}
+use Rattle.config_core.specs.declared.reply.Reply.TheVariants.{Done, LoggedOut, Text, Entered, Left, Loaded, Checked, Committed, Refused as Denied}
+use Rattle.reply_text.specs.declared.fault.ShellFault.{ShellFault}
+use Rattle.reply_text.specs.Texts.{text_of_reply, text_of_fault, no_memory_text}
+use Rattle.session_shell.specs.declared.door.Given0.{Given0}
+use Rattle.session_shell.specs.declared.door.Given0.TheVariants.{Kept, NoMemory}
+use Rattle.session_shell.specs.declared.reading.Item.{Item}
+use Rattle.session_shell.specs.declared.reading.Item.TheVariants.{Ask, Wrong}
+use Rattle.session_shell.specs.declared.reading.Reading.{Reading}
+use Rattle.session_shell.specs.declared.reading.Reading.TheVariants.{Operational, Configuring, Out}
+use Rattle.session_shell.specs.declared.turn.Turn.{Turn}
+use Rattle.session_shell.specs.declared.turn.Turn.TheVariants as turn
+
+-- the place of what was given
+abbrev pub place_of : Given0 → Option ℕ
+place_of (Kept place reply) = Some place
+place_of NoMemory = None
+
+-- an item with the clock's answer that it took: the command and what the door gave for it, or the fault for which it was
+-- refused
+pub data Exchange : Type 0 where
+  Asked : (moment : ℕ) (command : Command) (given : Given0) → Exchange
+  Refused : (moment : ℕ) (fault : ShellFault) → Exchange
+
+-- the answer of the clock that an item took
+abbrev pub moment_of : Exchange → ℕ
+moment_of (Asked moment command given) = moment
+moment_of (Refused moment fault) = moment
+
+-- the item itself
+abbrev pub item_of : Exchange → Item
+item_of (Asked moment command given) = Ask command
+item_of (Refused moment fault) = Wrong fault
+
+-- the turn that stands for what was given
+abbrev pub turn_of_given : Given0 → Turn
+turn_of_given (Kept place reply) = turn.Kept place
+turn_of_given NoMemory = turn.NoMemory
+
+-- the turn that stands for an item
+abbrev pub turn_of : Exchange → Turn
+turn_of (Asked moment command given) = turn_of_given given
+turn_of (Refused moment fault) = turn.Local fault
+
+-- the text of what was given
+abbrev pub text_of_given : Given0 → List ℕ
+text_of_given (Kept place reply) = text_of_reply reply
+text_of_given NoMemory = no_memory_text
+
+-- the text that answers an item
+abbrev pub text_of : Exchange → List ℕ
+text_of (Asked moment command given) = text_of_given given
+text_of (Refused moment fault) = text_of_fault fault
+
+-- how a session reads on after a reply
+abbrev pub after_reply : Reading → Reply → Reading
+after_reply reading Done = reading
+after_reply reading LoggedOut = Out
+after_reply reading (Text bytes) = reading
+after_reply reading (Entered mode) = Configuring
+after_reply reading Left = Operational
+after_reply reading Loaded = reading
+after_reply reading Checked = reading
+after_reply reading (Committed minutes quit) = if quit then Operational else reading
+after_reply reading (Denied refusal) = reading
+
+-- how a session reads on after what was given
+abbrev pub after_given : Reading → Given0 → Reading
+after_given reading (Kept place reply) = after_reply reading reply
+after_given reading NoMemory = reading
+
+-- how a session reads on after an item
+abbrev pub after : Reading → Exchange → Reading
+after reading (Asked moment command given) = after_given reading given
+after reading (Refused moment fault) = reading

@@ -1,0 +1,101 @@
+-- The items of an input: what its lines ask, each read as the replies before it leave the session.
+-- A `load` line, the lines of its text and the line 0x04 that ends them are one item. Junos OS CLI User Guide, on load and its
+-- `terminal`, which a ^D ends; the limits and which fault decides are this project's own.
+use Rattle.std.specs.Prelude.{◌≡◌, ℕ, List, [], ◌∷◌, ◌++◌, length, Bool, true, false, if◌then◌else◌, nat_eq, nat_lt, Option, None, Some, Result, Ok, Err}
+use Rattle.std.specs.Cmp.Lexicographic.{pointwise}
+use Rattle.commands.specs.Sound.{IsSound}
+use Rattle.commands.specs.declared.command.Command.TheVariants.{Load}
+use Rattle.commands.specs.declared.command.LoadWay.{LoadWay}
+use Rattle.io_edge.specs.declared.lines.Line.{Line}
+use Rattle.io_edge.specs.declared.lines.Line.TheVariants.{Text, TooLong, End, Failed, InputFull}
+use Rattle.shell_words.specs.declared.making.Words0.{Words0}
+use Rattle.shell_words.specs.declared.making.Words0.TheVariants.{Whole, NeedsText}
+use Rattle.shell_words.specs.Reading.{IsReading}
+use Rattle.reply_text.specs.declared.fault.ShellFault.TheVariants.{Syntax, LineTooLong, TextTooLong}
+use Rattle.session_shell.specs.declared.reading.TheConstants.{TEXT_LIMIT}
+use Rattle.session_shell.specs.declared.reading.Item.{Item}
+use Rattle.session_shell.specs.declared.reading.Item.TheVariants.{Ask, Wrong}
+use Rattle.session_shell.specs.declared.reading.Reading.{Reading}
+use Rattle.session_shell.specs.declared.reading.Reading.TheVariants.{Operational, Configuring, Collecting, Spoilt, Out}
+use Rattle.session_shell.specs.Exchange.{Exchange, item_of, after}
+
+-- a command that an item asks is sound
+abbrev pub AsksSound : Option Item → Type 0
+AsksSound None = Unit {0}
+AsksSound (Some (Ask command)) = IsSound command
+AsksSound (Some (Wrong fault)) = Unit {0}
+
+-- what a line asks that was read: an item, the text of a load, which is collected from then on, or nothing
+abbrev pub asked_by : Reading → Result (Option Words0) ℕ → Option Item × Reading
+asked_by reading (Ok None) = (None, reading)
+asked_by reading (Ok (Some (Whole command))) = (Some (Ask command), reading)
+asked_by reading (Ok (Some (NeedsText way))) = (None, Collecting way [])
+asked_by reading (Err place) = (Some (Wrong (Syntax place)), reading)
+
+-- the line is a command line of that mode, and this comes of it
+pub record IsReadAs (configuring : Bool) (reading : Reading) (line : List ℕ) (came : Option Item × Reading) : Type 0 where
+  pub answer : Result (Option Words0) ℕ
+  pub is_reading : IsReading configuring line answer
+  pub is : came ≡ asked_by reading answer
+
+-- the line holds the byte 0x04 alone
+abbrev pub is_end_of_text : List ℕ → Bool
+is_end_of_text line = pointwise nat_eq line (4 ∷ [])
+
+-- a text goes on to be collected, unless it is too long
+abbrev pub within_limit : LoadWay → List ℕ → Reading
+within_limit way text = if nat_lt TEXT_LIMIT (length text) then Spoilt TextTooLong else Collecting way text
+
+-- a text with one more line, which is followed by an LF
+abbrev pub gathered : Reading → List ℕ → Reading
+gathered (Collecting way text) line = within_limit way (text ++ (line ++ 10 ∷ []))
+gathered reading line = reading
+
+-- what comes of a line of a text: its load, where the line ends it
+abbrev pub text_line : LoadWay → List ℕ → List ℕ → Option Item × Reading
+text_line way text line =
+    if is_end_of_text line then (Some (Ask (Load way text)), Configuring) else (None, gathered (Collecting way text) line)
+
+-- what comes of a line of a text that had a fault: the fault, where the line ends the text
+abbrev pub spoilt_line : Reading → Item → List ℕ → Option Item × Reading
+spoilt_line reading item line = if is_end_of_text line then (Some item, Configuring) else (None, reading)
+
+-- what comes of a line: the item that it ends, if it does, and how the session reads on before any reply
+abbrev pub ComesOf : Reading → Line → Option Item × Reading → Type 0
+ComesOf Operational (Text line) came = IsReadAs false Operational line came
+ComesOf Operational TooLong came = came ≡ (Some (Wrong LineTooLong), Operational)
+ComesOf Configuring (Text line) came = IsReadAs true Configuring line came
+ComesOf Configuring TooLong came = came ≡ (Some (Wrong LineTooLong), Configuring)
+ComesOf (Collecting way text) (Text line) came = came ≡ text_line way text line
+ComesOf (Collecting way text) TooLong came = came ≡ (None, Spoilt LineTooLong)
+ComesOf (Collecting way text) End came = came ≡ (Some (Ask (Load way text)), Configuring)
+ComesOf (Spoilt fault) (Text line) came = came ≡ spoilt_line (Spoilt fault) (Wrong fault) line
+ComesOf (Spoilt fault) TooLong came = came ≡ (None, Spoilt fault)
+ComesOf (Spoilt fault) End came = came ≡ (Some (Wrong fault), Configuring)
+ComesOf reading line came = came ≡ (None, reading)
+
+-- a session that is logged out reads no line, and none is read where no line came
+abbrev pub IsRead : Reading → Line → Type 0
+IsRead Out line = ⊥
+IsRead reading Failed = ⊥
+IsRead reading InputFull = ⊥
+IsRead reading line = Unit {0}
+
+-- the item that a line ended came to the first of the exchanges; a line that ends none came to nothing
+abbrev pub GoesOn : (Reading → List Exchange → Type 0) → Option Item × Reading → List Exchange → Type 0
+GoesOn Rest (None, next) exchanges = Rest next exchanges
+GoesOn Rest (Some item, next) [] = ⊥
+GoesOn Rest (Some item, next) (first ∷ exchanges) = (item_of first ≡ item) × Rest (after next first) exchanges
+
+-- a line was read, and the exchanges begin with what came of it
+pub record BeginsWith (Rest : Reading → List Exchange → Type 0) (reading : Reading) (line : Line)
+    (exchanges : List Exchange) : Type 0 where
+  pub came : Option Item × Reading
+  pub is_read : IsRead reading line
+  pub comes : ComesOf reading line came
+  pub goes : GoesOn Rest came exchanges
+
+-- the items of these lines came to the exchanges, in order, and they lead from the one reading to the other
+abbrev pub ReadsAs : List Line → Reading → List Exchange → Reading → Type 0
+ReadsAs [] reading exchanges last = (exchanges ≡ []) × (last ≡ reading)
+ReadsAs (line ∷ lines) reading exchanges last = BeginsWith (λ next rest. ReadsAs lines next rest last) reading line exchanges

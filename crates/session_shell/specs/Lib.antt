@@ -1,0 +1,7 @@
+pub mod Exchange
+pub mod Items
+pub mod Cut
+pub mod Transcript
+pub mod Opened
+pub mod Steps
+pub mod Law

@@ -1,0 +1,119 @@
+-- A session's transcript, from the bytes read to the bytes written. The rules are this project's own.
+use Rattle.std.specs.Prelude.{◌≡◌, ◌<◌, ◌+◌, ◌↔◌, ℕ, List, [], ◌∷◌, ◌++◌, length, map, Option, None, Some, ◌⊎◌}
+use Rattle.std.specs.List.{flat_map}
+use Rattle.cfg_base.specs.Counts.{Rose}
+use Rattle.commands.specs.declared.command.Command.{Command}
+use Rattle.commands.specs.declared.command.Command.TheVariants.{Logout}
+use Rattle.io_edge.specs.declared.lines.Line.{Line}
+use Rattle.io_edge.specs.declared.lines.Line.TheVariants.{InputFull as Full}
+use Rattle.io_edge.specs.Ends.{behind}
+use Rattle.io_edge.specs.Line.{TellsBoth}
+use Rattle.session_shell.specs.declared.turn.How.{How}
+use Rattle.session_shell.specs.declared.turn.How.TheVariants.{Clean, SourceFault, SinkFault, InputFull, NoMemory}
+use Rattle.session_shell.specs.declared.turn.Turn.{Turn}
+use Rattle.session_shell.specs.declared.door.Given0.{Given0}
+use Rattle.session_shell.specs.declared.reading.Reading.{Reading}
+use Rattle.session_shell.specs.declared.reading.Reading.TheVariants.{Operational, Out}
+use Rattle.session_shell.specs.declared.reading.Item.TheVariants.{Ask}
+use Rattle.session_shell.specs.Exchange.{Exchange, Asked, Refused, moment_of, item_of, turn_of, text_of}
+use Rattle.session_shell.specs.Items.{ReadsAs}
+use Rattle.session_shell.specs.Cut.{AreFirst}
+
+-- how a door may stand after one command at a moment, for which that was given
+abbrev pub Following : Type 0 → Type 1
+Following D = D → Command → ℕ → Given0 → D → Type 0
+
+-- what a door may give for a command at a moment
+abbrev pub Naming : Type 0 → Type 1
+Naming D = D → Command → ℕ → Given0 → Type 0
+
+-- what a session's turns change: the answers that its clock has to come, what its sink holds, its sink's count of faults, and
+-- its turns
+pub record SessionView : Type 0 where
+  pub coming : Option (ℕ → ℕ)
+  pub held : Option (List ℕ)
+  pub faults : ℕ
+  pub turns : List Turn
+
+-- these answers are a clock's next ones, in order, and leave those
+abbrev pub AnswersAre : (ℕ → ℕ) → List ℕ → (ℕ → ℕ) → Type 0
+AnswersAre coming [] left = (k : ℕ) → left k ≡ coming k
+AnswersAre coming (answer ∷ answers) left = (answer ≡ coming 0) × AnswersAre (λ k. coming (k + 1)) answers left
+
+-- the same, of a clock that tells its answers or doesn't
+abbrev pub TakesAnswers : Option (ℕ → ℕ) → List ℕ → Option (ℕ → ℕ) → Type 0
+TakesAnswers None answers None = Unit {0}
+TakesAnswers (Some coming) answers (Some left) = AnswersAre coming answers left
+TakesAnswers None answers (Some left) = ⊥
+TakesAnswers (Some coming) answers None = ⊥
+
+-- the door went from one state to another by the commands of the exchanges alone, in order, each asked once
+abbrev pub GoesBy : {D : Type 0} → Following D → List Exchange → D → D → Type 0
+GoesBy follows [] d e = e ≡ d
+GoesBy {D} follows (Asked moment command given ∷ exchanges) d e =
+    (next : D) × follows d command moment given next × GoesBy follows exchanges next e
+GoesBy follows (Refused moment fault ∷ exchanges) d e = GoesBy follows exchanges d e
+
+-- the exchanges took their turns: one answer of the clock each, one turn each, and the commands of the door
+pub record Turns {D : Type 0} (follows : Following D) (exchanges : List Exchange) (d e : D)
+    (old new : SessionView) : Type 0 where
+  pub moments : TakesAnswers old.coming (map moment_of exchanges) new.coming
+  pub turned : new.turns ≡ old.turns ++ map turn_of exchanges
+  pub asked : GoesBy follows exchanges d e
+
+-- the first text was written whole, and of the second a part from its beginning: less than the whole only where the sink's
+-- count of faults rose
+pub record Wrote (first second : List ℕ) (old new : SessionView) : Type 0 where
+  pub part : List ℕ
+  pub rest : List ℕ
+  pub is_second : second ≡ part ++ rest
+  pub held : new.held ≡ behind old.held (first ++ part)
+  pub whole : (rest ≡ []) ⊎ Rose old.faults new.faults
+
+-- the texts of a session: those of all its items, and of its last logout; where its sink failed, none behind the text that
+-- failed
+abbrev pub Texts : How → List Exchange → List Exchange → SessionView → SessionView → Type 0
+Texts SinkFault asked final old new =
+    (heard : List Exchange) × (last : Exchange) × (asked ≡ heard ++ last ∷ [])
+    × Wrote (flat_map text_of heard) (text_of last) old new
+Texts how asked final old new = Wrote (flat_map text_of asked) (flat_map text_of final) old new
+
+-- a session that isn't logged out asks for it once, at its end
+abbrev pub LogsOut : Reading → List Exchange → Type 0
+LogsOut Out final = final ≡ []
+LogsOut reading final = (logout : Exchange) × (final ≡ logout ∷ []) × (item_of logout ≡ Ask Logout)
+
+-- which lines were not read says how a session ended: clean when it was logged out or nothing is left
+abbrev pub EndsBy : How → Reading → List Line → Type 0
+EndsBy Clean reading rest = (reading ≡ Out) ⊎ (rest ≡ [])
+EndsBy InputFull reading rest = (reading ≡ Out → ⊥) × (rest ≡ Full ∷ [])
+EndsBy SourceFault reading rest = reading ≡ Out → ⊥
+EndsBy NoMemory reading rest = reading ≡ Out → ⊥
+EndsBy SinkFault reading rest = Unit {0}
+
+-- the lines that were read of the bytes that a source had before, of which it has those now, and how that ended
+pub record IsInput (lines : List Line) (reading : Reading) (how : How) (limit : ℕ) (before now : List ℕ) : Type 0 where
+  pub rest : List Line
+  pub room : ℕ
+  pub left : List ℕ
+  pub first : AreFirst lines rest limit before room left
+  pub ends : EndsBy how reading rest
+  -- what was read behind these lines
+  pub ahead : List ℕ
+  pub is_left : left ≡ ahead ++ now
+  -- the input is full exactly where more bytes were read than the limit
+  pub full : (how ≡ InputFull) ↔ (limit < length first.taken + length ahead)
+
+-- one session: its items are those of the lines that it read, and one last logout where it needs one; they took its turns,
+-- and their texts were written
+pub record IsSession {D : Type 0} (follows : Following D) (limit : ℕ) (how : How) (source source' : Option (List ℕ))
+    (d e : D) (old new : SessionView) : Type 0 where
+  pub lines : List Line
+  pub asked : List Exchange
+  pub final : List Exchange
+  pub reading : Reading
+  pub reads : ReadsAs lines Operational asked reading
+  pub input : TellsBoth (IsInput lines reading how limit) source source'
+  pub logs_out : LogsOut reading final
+  pub turns : Turns follows (asked ++ final) d e old new
+  pub texts : Texts how asked final old new

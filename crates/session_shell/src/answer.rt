@@ -1,0 +1,107 @@
+//! What a door gave: its turn, its text, and how the session reads on after it.
+
+ghost use Rattle.std.specs.Prelude.{◌≡◌, ◌≤◌, OnErr, is_ok};
+ghost use Rattle.cfg_base.specs.Counts.{Rose};
+ghost use Rattle.io_edge.specs.Wrote.{Wrote};
+ghost use Rattle.session_shell.specs.Exchange.{after_given, after_reply, text_of_given, turn_of_given};
+ghost use Rattle.session_shell.specs.Steps.{how_next, is_end, is_out};
+
+use crate::door::Given0;
+use crate::reading::Reading;
+use crate::turn::{How, Turn};
+use config_core::Reply;
+use io_edge::{Line, PutFailed, Sink};
+use reply_text::{put_no_memory, put_reply};
+
+pub(crate) fn turn_of(given: &Given0) -> Turn
+    ensures { result ≡ turn_of_given given.now }
+{
+    match given {
+        Given0::Kept { place, reply: _ } => Turn::Kept(*place),
+        Given0::NoMemory => Turn::NoMemory,
+    }
+}
+
+fn follow_reply(reading: &mut Reading, reply: &Reply)
+    ensures { reading.new ≡ after_reply reading.old reply.now }
+{
+    match reply {
+        Reply::LoggedOut => *reading = Reading::Out,
+        Reply::Entered(_) => *reading = Reading::Configuring,
+        Reply::Left
+        | Reply::Committed {
+            minutes: _,
+            quit: true,
+        } => *reading = Reading::Operational,
+        Reply::Done
+        | Reply::Text(_)
+        | Reply::Loaded
+        | Reply::Checked
+        | Reply::Committed {
+            minutes: _,
+            quit: false,
+        }
+        | Reply::Refused(_) => {}
+    }
+}
+
+fn follow(reading: &mut Reading, given: &Given0)
+    ensures { reading.new ≡ after_given reading.old given.now }
+{
+    match given {
+        Given0::Kept { place: _, reply } => follow_reply(reading, reply),
+        Given0::NoMemory => {}
+    }
+}
+
+fn put_given<K: Sink>(sink: &mut K, given: &Given0) -> Result<(), PutFailed>
+    ensures wrote { Wrote result (text_of_given given.now) (K.held sink.old) (K.held sink.new) }
+    ensures cause { OnErr result (Rose (K.faults sink.old) (K.faults sink.new)) }
+    ensures later { K.faults sink.old ≤ K.faults sink.new }
+{
+    match given {
+        Given0::Kept { place: _, reply } => put_reply(sink, reply),
+        Given0::NoMemory => put_no_memory(sink),
+    }
+}
+
+/// Writes what was given, and reads on after it.
+pub(crate) fn answer<K: Sink>(
+    sink: &mut K,
+    reading: &mut Reading,
+    given: Given0,
+) -> Result<(), PutFailed>
+    ensures reading { reading.new ≡ after_given reading.old given }
+    ensures wrote { Wrote result (text_of_given given) (K.held sink.old) (K.held sink.new) }
+    ensures cause { OnErr result (Rose (K.faults sink.old) (K.faults sink.new)) }
+    ensures later { K.faults sink.old ≤ K.faults sink.new }
+{
+    follow(reading, &given);
+    put_given(sink, &given)
+}
+
+/// Lets go of what was given without writing it.
+pub(crate) fn let_go(_given: Given0) {}
+
+pub(crate) fn is_out(reading: &Reading) -> bool
+    ensures { result ≡ is_out reading.now }
+{
+    matches!(reading, Reading::Out)
+}
+
+fn is_end(line: &Line) -> bool
+    ensures { result ≡ is_end line.now }
+{
+    matches!(line, Line::End)
+}
+
+/// How a session ends by a line, after its text was written or not.
+pub(crate) fn how_next(line: &Line, reading: &Reading, put: Result<(), PutFailed>) -> Option<How>
+    ensures { result ≡ how_next line.now reading.now (is_ok put) }
+{
+    match put {
+        Err(PutFailed) => Some(How::SinkFault),
+        Ok(()) if is_out(reading) || is_end(line) => Some(How::Clean),
+        Ok(()) => None,
+    }
+}

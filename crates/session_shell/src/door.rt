@@ -1,0 +1,42 @@
+//! What a session asks its commands of.
+
+ghost use Rattle.std.specs.Prelude.{ℕ};
+ghost use Rattle.commands.specs.Sound.{IsSound};
+ghost use Rattle.commands.specs.declared.command.Command.{Command};
+ghost use Rattle.session_shell.specs.declared.door.Given0.{Given0};
+
+use cfg_base::Moment;
+use commands::Command;
+use config_core::Reply;
+use std::sync::Wait;
+
+/// What a door gave for a command.
+#[derive(Debug, Drop)]
+pub enum Given0 {
+    /// The event of the command stands at that place of the history, counted from 0, and that is its reply.
+    Kept { place: u64, reply: Reply },
+    /// Memory was wanting.
+    NoMemory,
+}
+
+/// What a session asks its commands of: the machine, as one caller sees it.
+pub trait Door {
+    // what belongs to a command at a moment: the event at its place, with its reply
+    ghost names: { Self → Command → ℕ → Given0 → Type 0 };
+
+    // how the door may stand after one command at a moment, for which that was given
+    ghost follows: { Self → Command → ℕ → Given0 → Self → Type 0 };
+
+    /// Asks a command at a moment.
+    fn ask<R: Wait>(&mut self, rt: &R, moment: Moment, command: Command) -> Given0
+        requires { IsSound command }
+        ensures { follows self.old command moment result self.new };
+
+    // what was given is what the door names
+    ghost named: { (d e : Self) (command : Command) (moment : ℕ) (given : Given0) → follows d command moment given e
+        → names e command moment given };
+
+    // what was named stays
+    ghost keeps: { (d e : Self) (command : Command) (moment : ℕ) (given : Given0) → follows d command moment given e
+        → (asked : Command) (when : ℕ) (was : Given0) → names d asked when was → names e asked when was };
+}

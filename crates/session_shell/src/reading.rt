@@ -1,0 +1,181 @@
+//! How a session reads its lines: the items that they end, and the text of a load.
+
+ghost use Rattle.std.specs.Prelude.{◌≡◌, ◌∷◌, ◌++◌, [], IfOk, OnOk, OnErr};
+ghost use Rattle.io_edge.specs.declared.lines.Line.TheVariants.{Text, TooLong, End};
+ghost use Rattle.session_shell.specs.Items.{AsksSound, ComesOf, IsReadAs, gathered};
+
+use cfg_base::{Bytes, NoMemory};
+use commands::{Command, LoadWay};
+use io_edge::Line;
+use reply_text::ShellFault;
+use shell_words::{ReadFault, Words0, read_line};
+use std::alloc::Global;
+
+/// The most bytes of a loaded text, the LF of each of its lines counted.
+pub const TEXT_LIMIT: usize = 2_097_152;
+
+/// The limit of a loaded text, by its number.
+pub fn limits_are_stated()
+    ensures text { TEXT_LIMIT ≡ 2097152 }
+{}
+
+/// The line that ends a loaded text.
+const END_OF_TEXT: [u8; 1] = [4];
+
+/// What a session takes one turn for.
+#[derive(Debug, Drop)]
+pub enum Item {
+    Ask(Command),
+    /// A line that is no command, or a load whose text has a fault.
+    Wrong(ShellFault),
+}
+
+/// How a session reads its next line.
+#[derive(Debug, Drop)]
+pub enum Reading {
+    Operational,
+    Configuring,
+    /// The text of a load is collected, up to the line that ends it.
+    Collecting { way: LoadWay, text: Bytes },
+    /// A text that had that fault is skipped up to the line that ends it.
+    Spoilt(ShellFault),
+    /// Logged out: no line is read.
+    Out,
+}
+
+/// What a line asks: an item, a text that is to be collected, or nothing.
+fn read_item(
+    alloc: Global,
+    configuring: bool,
+    reading: &mut Reading,
+    line: &[u8],
+) -> Result<Option<Item>, NoMemory>
+    ensures ok { IfOk result (λ item. IsReadAs configuring reading.old line.now (item, reading.new)) }
+    ensures sound { IfOk result AsksSound }
+    ensures err { OnErr result (reading.new ≡ reading.old) }
+{
+    match read_line(alloc, configuring, line) {
+        Ok(None) => Ok(None),
+        Ok(Some(Words0::Whole(command))) => Ok(Some(Item::Ask(command))),
+        Ok(Some(Words0::NeedsText(way))) => {
+            *reading = Reading::Collecting {
+                way,
+                text: Bytes::empty(alloc),
+            };
+            Ok(None)
+        }
+        Err(ReadFault::Syntax(place)) => Ok(Some(Item::Wrong(ShellFault::Syntax(place)))),
+        Err(ReadFault::NoMemory) => Err(NoMemory),
+    }
+}
+
+/// The end of a text: the item of its load.
+fn finish_text(reading: &mut Reading) -> Option<Item>
+    ensures ends { ComesOf reading.old End (result, reading.new) }
+    ensures sound { AsksSound result }
+{
+    match std::mem::replace(reading, Reading::Configuring) {
+        Reading::Collecting { way, text } => Some(Item::Ask(Command::Load { way, text })),
+        Reading::Spoilt(fault) => Some(Item::Wrong(fault)),
+        other => {
+            *reading = other;
+            None
+        }
+    }
+}
+
+/// Puts a line and its LF behind a text, which stays as it was where memory is wanting.
+fn put_line(text: &mut Vec<u8>, line: &[u8]) -> Result<(), NoMemory>
+    ensures ok { OnOk result (text.new.items ≡ text.old.items ++ (line.now ++ 10 ∷ [])) }
+    ensures err { OnErr result (text.new.items ≡ text.old.items) }
+{
+    let size = text.len();
+    if text.extend_from_slice(line).is_ok() && text.push(b'\n').is_ok() {
+        Ok(())
+    } else {
+        text.truncate(size);
+        Err(NoMemory)
+    }
+}
+
+/// Puts a line behind a text that is collected. Past the limit nothing of the text is kept.
+fn gather(reading: &mut Reading, line: &[u8]) -> Result<(), NoMemory>
+    ensures ok { OnOk result (reading.new ≡ gathered reading.old line.now) }
+    ensures err { OnErr result (reading.new ≡ reading.old) }
+{
+    match std::mem::replace(reading, Reading::Spoilt(ShellFault::TextTooLong)) {
+        Reading::Collecting { way, text } => {
+            if line.len() >= TEXT_LIMIT.saturating_sub(text.as_slice().len()) {
+                return Ok(());
+            }
+            let mut bytes = text.into_vec();
+            let put = put_line(&mut bytes, line);
+            *reading = Reading::Collecting {
+                way,
+                text: Bytes::from(bytes),
+            };
+            put
+        }
+        other => {
+            *reading = other;
+            Ok(())
+        }
+    }
+}
+
+/// What comes of a line of text.
+fn comes_of_text(
+    alloc: Global,
+    reading: &mut Reading,
+    line: &[u8],
+) -> Result<Option<Item>, NoMemory>
+    ensures ok { IfOk result (λ item. ComesOf reading.old (Text line.now) (item, reading.new)) }
+    ensures sound { IfOk result AsksSound }
+    ensures err { OnErr result (reading.new ≡ reading.old) }
+{
+    match reading {
+        Reading::Operational => read_item(alloc, false, reading, line),
+        Reading::Configuring => read_item(alloc, true, reading, line),
+        Reading::Collecting { .. } | Reading::Spoilt(_) if line == END_OF_TEXT.as_slice() => {
+            Ok(finish_text(reading))
+        }
+        Reading::Collecting { .. } => {
+            gather(reading, line)?;
+            Ok(None)
+        }
+        Reading::Spoilt(_) | Reading::Out => Ok(None),
+    }
+}
+
+/// What comes of a line that is too long.
+fn comes_of_long(reading: &mut Reading) -> Option<Item>
+    ensures long { ComesOf reading.old TooLong (result, reading.new) }
+    ensures sound { AsksSound result }
+{
+    match reading {
+        Reading::Operational | Reading::Configuring => Some(Item::Wrong(ShellFault::LineTooLong)),
+        Reading::Collecting { .. } => {
+            *reading = Reading::Spoilt(ShellFault::LineTooLong);
+            None
+        }
+        Reading::Spoilt(_) | Reading::Out => None,
+    }
+}
+
+/// What comes of a line: the item that it ends, if it ends one. The reading is the next line's, before any reply.
+pub(crate) fn comes_of(
+    alloc: Global,
+    reading: &mut Reading,
+    line: &Line,
+) -> Result<Option<Item>, NoMemory>
+    ensures ok { IfOk result (λ item. ComesOf reading.old line.now (item, reading.new)) }
+    ensures sound { IfOk result AsksSound }
+    ensures err { OnErr result (reading.new ≡ reading.old) }
+{
+    match line {
+        Line::Text(text) => comes_of_text(alloc, reading, text.as_slice()),
+        Line::TooLong => Ok(comes_of_long(reading)),
+        Line::End => Ok(finish_text(reading)),
+        Line::Failed | Line::InputFull => Ok(None),
+    }
+}

@@ -1,0 +1,261 @@
+//! A session while it is served: one line after another, and the last logout.
+
+ghost use Rattle.std.specs.Prelude.{◌≡◌, ◌<◌, ◌≤◌, ◌+◌, List, ℕ, length, OnErr, Some, None, [], ◌++◌, false, vec_len, vec_capacity};
+ghost use Rattle.cfg_base.specs.Counts.{Rose};
+ghost use Rattle.commands.specs.declared.command.Command.TheVariants.{Logout};
+ghost use Rattle.io_edge.specs.Ends.{onto};
+ghost use Rattle.session_shell.specs.declared.reading.Item.TheVariants.{Ask};
+ghost use Rattle.session_shell.specs.declared.reading.Reading.TheVariants.{Operational};
+ghost use Rattle.session_shell.specs.declared.turn.How.TheVariants.{SinkFault, SourceFault};
+ghost use Rattle.session_shell.specs.Items.{AsksSound, IsRead};
+ghost use Rattle.session_shell.specs.Steps.{AsksOnly, Ends, Finishes, Serves, Steps, Takes, is_end, is_out, view_of};
+
+use crate::answer::{answer, how_next, is_out, let_go, turn_of};
+use crate::door::Door;
+use crate::reading::{Item, Reading, comes_of};
+use crate::turn::{How, Turn};
+use cfg_base::{Limits, NoMemory};
+use commands::Command;
+use io_edge::{Clock, Line, Lines, PutFailed, Sink, Source};
+use reply_text::put_fault;
+use std::alloc::Global;
+use std::marker::Model;
+use std::sync::Wait;
+
+/// What a session reads, what it writes to, what tells it the time, its turns, and how it reads its next line.
+pub(crate) struct Serving<S: Source, K: Sink, C: Clock> {
+    alloc: Global,
+    lines: Lines<S>,
+    sink: K,
+    clock: C,
+    turns: Vec<Turn>,
+    reading: Reading,
+}
+
+/// What is left of a session that was served.
+pub(crate) struct Parts<S, K, C> {
+    pub source: S,
+    pub sink: K,
+    pub clock: C,
+    pub turns: Vec<Turn>,
+}
+
+impl<S: Source, K: Sink, C: Clock> Model for Serving<S, K, C> {
+    ghost use Rattle.std.specs.Prelude.{◌-◌, vec_len, vec_capacity};
+    ghost use Rattle.session_shell.specs.Steps.{Held};
+
+    ghost Value = { Held K C };
+
+    ghost view = { λ s. record {
+      feed = s.lines;
+      sink = s.sink;
+      clock = s.clock;
+      turns = s.turns.items;
+      spare = vec_capacity s.turns - vec_len s.turns;
+      reading = s.reading;
+    } };
+}
+
+impl<S: Source, K: Sink, C: Clock> Serving<S, K, C> {
+    /// A session that has served nothing yet, with room for turns.
+    pub(crate) fn new(
+        alloc: Global,
+        source: S,
+        sink: K,
+        clock: C,
+        turns: Vec<Turn>,
+        limits: Limits,
+    ) -> Serving<S, K, C>
+        requires { turns.items ≡ [] }
+        ensures input { (result.feed.left ≡ S.left source) × (result.feed.room ≡ limits.input) × (result.feed.ahead ≡ 0)
+            × (result.feed.faults ≡ S.faults source) }
+        ensures ends { (result.sink ≡ sink) × (result.clock ≡ clock) × (result.turns ≡ []) }
+        ensures room { result.spare ≡ vec_capacity turns }
+        ensures first { result.reading ≡ Operational }
+    {
+        Serving {
+            alloc,
+            lines: Lines::new(alloc, source, limits),
+            sink,
+            clock,
+            turns,
+            reading: Reading::Operational,
+        }
+    }
+
+    /// Its parts. What was read ahead is gone.
+    pub(crate) fn into_parts(self) -> Parts<S, K, C>
+        ensures left { (ahead : List ℕ) × (length ahead ≡ self.feed.ahead) × (self.feed.left ≡ onto ahead (S.left result.source)) }
+        ensures faults { S.faults result.source ≡ self.feed.faults }
+        ensures rest { (result.sink ≡ self.sink) × (result.clock ≡ self.clock) × (result.turns.items ≡ self.turns) }
+    {
+        let Serving {
+            alloc: _,
+            lines,
+            sink,
+            clock,
+            turns,
+            reading: _,
+        } = self;
+        Parts {
+            source: lines.into_source(),
+            sink,
+            clock,
+            turns,
+        }
+    }
+
+    /// Serves an item: takes the moment, asks the door or refuses, and writes the text.
+    fn serve_item<D: Door, R: Wait>(
+        &mut self,
+        rt: &R,
+        door: &mut D,
+        item: Item,
+    ) -> Result<(), PutFailed>
+        requires room { 0 < self.old.spare }
+        requires sound { AsksSound (Some item) }
+        ensures serves { Serves D.follows item result door.old door.new self.old.reading self.new.reading
+            (view_of C.coming K.held K.faults self.old) (view_of C.coming K.held K.faults self.new) }
+        ensures feed { self.new.feed ≡ self.old.feed }
+        ensures spare { self.old.spare ≡ self.new.spare + 1 }
+        ensures cause { OnErr result (Rose (K.faults self.old.sink) (K.faults self.new.sink)) }
+        ensures later { K.faults self.old.sink ≤ K.faults self.new.sink }
+    {
+        let moment = self.clock.now();
+        match item {
+            Item::Ask(command) => {
+                let given = door.ask(rt, moment, command);
+                self.turns.push_reserved(turn_of(&given));
+                answer(&mut self.sink, &mut self.reading, given)
+            }
+            Item::Wrong(fault) => {
+                self.turns.push_reserved(Turn::Local(fault));
+                put_fault(&mut self.sink, fault)
+            }
+        }
+    }
+
+    /// Serves a line.
+    fn take<D: Door, R: Wait>(&mut self, rt: &R, door: &mut D, line: &Line) -> Option<How>
+        requires room { 0 < self.old.spare }
+        requires reads { IsRead self.old.reading line.now }
+        ensures takes { Takes D.follows line.now result door.old door.new self.old.reading self.new.reading
+            (view_of C.coming K.held K.faults self.old) (view_of C.coming K.held K.faults self.new) }
+        ensures feed { self.new.feed ≡ self.old.feed }
+        ensures spare { self.old.spare ≤ self.new.spare + 1 }
+        ensures end { result ≡ None → is_end line.now ≡ false }
+        ensures cause { result ≡ Some SinkFault → Rose (K.faults self.old.sink) (K.faults self.new.sink) }
+        ensures later { K.faults self.old.sink ≤ K.faults self.new.sink }
+    {
+        match comes_of(self.alloc, &mut self.reading, line) {
+            Ok(None) => how_next(line, &self.reading, Ok(())),
+            Ok(Some(item)) => {
+                let put = self.serve_item(rt, door, item);
+                how_next(line, &self.reading, put)
+            }
+            Err(NoMemory) => Some(How::NoMemory),
+        }
+    }
+
+    /// Reads the next line, and serves it.
+    fn read_next<D: Door, R: Wait>(&mut self, rt: &R, door: &mut D) -> Option<How>
+        requires room { 0 < self.old.spare }
+        requires going { is_out self.old.reading ≡ false }
+        ensures steps { Steps D.follows result door.old door.new self.old.feed self.new.feed self.old.reading self.new.reading
+            (view_of C.coming K.held K.faults self.old) (view_of C.coming K.held K.faults self.new) }
+        ensures spare { self.old.spare ≤ self.new.spare + 1 }
+        ensures falls { result ≡ None → self.new.feed.room < self.old.feed.room }
+        ensures source_cause { result ≡ Some SourceFault → Rose self.old.feed.faults self.new.feed.faults }
+        ensures sink_cause { result ≡ Some SinkFault → Rose (K.faults self.old.sink) (K.faults self.new.sink) }
+        ensures later_source { self.old.feed.faults ≤ self.new.feed.faults }
+        ensures later_sink { K.faults self.old.sink ≤ K.faults self.new.sink }
+    {
+        match self.lines.next() {
+            Ok(Line::Failed) => Some(How::SourceFault),
+            Ok(Line::InputFull) => Some(How::InputFull),
+            Ok(line) => self.take(rt, door, &line),
+            Err(NoMemory) => Some(How::NoMemory),
+        }
+    }
+
+    /// Makes room for two turns, and reads the next line: room is left for the last logout.
+    fn step<D: Door, R: Wait>(&mut self, rt: &R, door: &mut D) -> Option<How>
+        requires room { 0 < self.old.spare }
+        requires going { is_out self.old.reading ≡ false }
+        ensures steps { Steps D.follows result door.old door.new self.old.feed self.new.feed self.old.reading self.new.reading
+            (view_of C.coming K.held K.faults self.old) (view_of C.coming K.held K.faults self.new) }
+        ensures room { 0 < self.new.spare }
+        ensures falls { result ≡ None → self.new.feed.room < self.old.feed.room }
+        ensures source_cause { result ≡ Some SourceFault → Rose self.old.feed.faults self.new.feed.faults }
+        ensures sink_cause { result ≡ Some SinkFault → Rose (K.faults self.old.sink) (K.faults self.new.sink) }
+        ensures later_source { self.old.feed.faults ≤ self.new.feed.faults }
+        ensures later_sink { K.faults self.old.sink ≤ K.faults self.new.sink }
+    {
+        match self.turns.reserve(2) {
+            Ok(()) => self.read_next(rt, door),
+            Err(_) => Some(How::NoMemory),
+        }
+    }
+
+    /// Serves the lines, one after another, until the session ends.
+    pub(crate) fn serve<D: Door, R: Wait>(&mut self, rt: &R, door: &mut D) -> How
+        requires room { 0 < self.old.spare }
+        requires first { self.old.reading ≡ Operational }
+        requires none_ahead { self.old.feed.ahead ≡ 0 }
+        ensures ends { Ends D.follows self.old.feed.room result self.old.feed.left door.old door.new self.new.feed self.new.reading
+            (view_of C.coming K.held K.faults self.old) (view_of C.coming K.held K.faults self.new) }
+        ensures room { 0 < self.new.spare }
+        ensures source_cause { result ≡ SourceFault → Rose self.old.feed.faults self.new.feed.faults }
+        ensures sink_cause { result ≡ SinkFault → Rose (K.faults self.old.sink) (K.faults self.new.sink) }
+        ensures later_source { self.old.feed.faults ≤ self.new.feed.faults }
+        ensures later_sink { K.faults self.old.sink ≤ K.faults self.new.sink }
+    {
+        'lines: loop {
+            if let Some(how) = self.step(rt, door) {
+                return how;
+            }
+        }
+    }
+
+    /// Asks the last logout, and writes no answer.
+    fn ask_unheard<D: Door, R: Wait>(&mut self, rt: &R, door: &mut D)
+        requires room { 0 < self.old.spare }
+        ensures asks { AsksOnly D.follows (Ask Logout) door.old door.new
+            (view_of C.coming K.held K.faults self.old) (view_of C.coming K.held K.faults self.new) }
+        ensures feed { self.new.feed ≡ self.old.feed }
+        ensures same { K.faults self.new.sink ≡ K.faults self.old.sink }
+    {
+        let moment = self.clock.now();
+        let given = door.ask(rt, moment, Command::Logout);
+        self.turns.push_reserved(turn_of(&given));
+        let_go(given);
+    }
+
+    /// Asks the last logout, and writes its answer, unless the sink failed.
+    fn log_out<D: Door, R: Wait>(&mut self, rt: &R, door: &mut D, how: How)
+        requires room { 0 < self.old.spare }
+        requires going { is_out self.old.reading ≡ false }
+        ensures finishes { Finishes D.follows how door.old door.new self.old.reading
+            (view_of C.coming K.held K.faults self.old) (view_of C.coming K.held K.faults self.new) }
+        ensures feed { self.new.feed ≡ self.old.feed }
+    {
+        match how {
+            How::SinkFault => self.ask_unheard(rt, door),
+            How::Clean | How::SourceFault | How::InputFull | How::NoMemory => {
+                let _put = self.serve_item(rt, door, Item::Ask(Command::Logout));
+            }
+        }
+    }
+
+    /// Logs a session out, if it isn't.
+    pub(crate) fn finish<D: Door, R: Wait>(&mut self, rt: &R, door: &mut D, how: How)
+        requires room { 0 < self.old.spare }
+        ensures finishes { Finishes D.follows how door.old door.new self.old.reading
+            (view_of C.coming K.held K.faults self.old) (view_of C.coming K.held K.faults self.new) }
+        ensures feed { self.new.feed ≡ self.old.feed }
+    {
+        if !is_out(&self.reading) {
+            self.log_out(rt, door, how);
+        }
+    }
+}
