@@ -1,147 +1,108 @@
--- A log that grows by one event.
-use Rattle.std.proofs.Common.{◌≡◌, ℕ, ◌-◌, ◌<◌, ◌≤◌, ◌⊎◌, List, [], ◌∷◌, ◌++◌, length, map, take, max, Bool, true, false, cond, refl, sym, ap, subst, ◌∙◌, arith, suc, nat_lt, Option, None, Some, inl, inr, slice_get}
-use Rattle.std.proofs.lemmas.List.{length-append}
+-- A log that follows after one ask.
+use Rattle.std.proofs.Common.{◌≡◌, ℕ, ◌+◌, List, [], ◌∷◌, ◌++◌, length, take, max, refl, sym, ap, subst, ◌∙◌, append_assoc, arith, slice_get}
+use Rattle.std.specs.List.{AllByRecursion}
+use Rattle.std.proofs.lemmas.List.{append-nil, length-append}
 use Rattle.std.proofs.Math.Seq.{take-append_seam}
-use Rattle.std.proofs.Math.ListN.{length-set}
-use Rattle.commands.specs.declared.command.Mode.{Mode}
 use Rattle.commands.specs.declared.command.Command.{Command}
-use Rattle.commands.specs.declared.command.Command.TheVariants.{Configure, ShowActive, Logout, Edit, Up, Top, Exit, ExitAll, Show, Change, CheckOnly, Commit}
-use Rattle.cfg_base.specs.declared.path.Step.{Step}
-use Rattle.config_core.specs.declared.event.Event.{Event}
 use Rattle.config_core.specs.declared.event.Event.TheVariants.{Command as CommandOf}
 use Rattle.config_core.specs.declared.reply.Reply.{Reply}
-use Rattle.config_core.specs.declared.ledger.TheConstants.{MAX_ENTRIES}
-use Rattle.config_core.specs.Kept.{active_of}
-use Rattle.config_core.specs.State.{State, opening_of, operational}
-use Rattle.config_core.specs.Levels.{Position, is_level_at}
-use Rattle.config_core.specs.Machine.{Fits, Turned, is_configuring, later, with_caller, committed, exited, edited, Moves, IsLost, Changes, IsUnchanged, Checks, level_of, Serves, Steps}
-use Rattle.config_core.proofs.StepLemmas.{by_mode, shows_stay}
+use Rattle.config_core.specs.State.{State}
 use Rattle.session_history.specs.declared.history.Happened.{Happened}
-use Rattle.session_history.specs.Events.{Leads, IsAt, asked_event}
-use Rattle.session_history.proofs.EventLemmas.{Leads-push, at_seam}
-use Rattle.service.specs.Log.{Log, IsLog, Adds, opened}
+use Rattle.session_history.specs.Events.{IsAsked, IsAt, Leads, places_from, places_of}
+use Rattle.session_history.proofs.EventLemmas.{Leads-append, at_seam, no_places, one_place, places_from-append, places_of-append}
+use Rattle.session_shell.specs.declared.door.Given0.{Given0}
+use Rattle.session_shell.specs.declared.door.Given0.TheVariants.{Kept, NoMemory}
+use Rattle.service.specs.Asking.{Asks, IsAnswered, IsGiven, done_event}
+use Rattle.service.specs.History.{IsMade, IsTurn, Names, places_given}
+use Rattle.service.specs.Log.{FollowsIn, IsLog, Log, opened}
+use Rattle.service.proofs.AskingLemmas.{All-append}
 
--- there are as many callers after a step as before it
-abbrev Keeps : State → Turned → Type 0
-Keeps s turned = length turned.state.callers ≡ length s.callers
-
-kept_by : (s : State) (turned to : Turned) → turned ≡ to → Keeps s to → Keeps s turned
-kept_by s turned to is same = ap (λ t. length t.state.callers) is ∙ same
-
-either : (s : State) (b : Bool) (x y : Turned) → Keeps s x → Keeps s y → Keeps s (cond b x y)
-either s true x y first second = first
-either s false x y first second = second
-
-moved : (s : State) (caller : ℕ) (mode : Option Mode) (place : Position) → length (with_caller s caller mode place).callers ≡ length s.callers
-moved s caller mode place = length-set s.callers (caller - 1) _
-
-exited_keeps : (s : State) (caller : ℕ) (back : Option Position) → Keeps s (exited s caller back)
-exited_keeps s caller None = moved s caller _ _
-exited_keeps s caller (Some place) = moved s caller _ place
-
-edited_keeps : (s : State) (caller : ℕ) (path : List Step) → Keeps s (edited s caller path)
-edited_keeps s caller path = either s (is_level_at path) _ _ (moved s caller _ _) refl
-
-checked_keeps : (s : State) (turned after : Turned) → Keeps s after → Checks s turned after → Keeps s turned
-checked_keeps s turned after keeps (inl checked) = kept_by s turned after checked.1 keeps
-checked_keeps s turned after keeps (inr broken) = kept_by s turned _ broken.is refl
-
-committed_keeps : (s : State) (caller : ℕ) → Keeps s (committed s caller)
-committed_keeps s caller = either s (nat_lt s.kept.count MAX_ENTRIES) _ _ refl refl
-
--- no command changes how many callers there are
-serves_keeps : (s : State) (caller : ℕ) (command : Command) (turned : Turned) → Serves s caller command turned → Keeps s turned
-serves_keeps s caller (Configure mode) turned serves =
-    by_mode (is_configuring s caller) _ _ _ (λ is. kept_by s turned _ is refl) (λ is. kept_by s turned _ is (moved s caller _ _)) serves
-serves_keeps s caller (ShowActive asked form) turned serves =
-    by_mode (is_configuring s caller) _ _ _ (λ is. kept_by s turned _ is refl)
-    (λ shows. ap (λ x. length x.callers) (shows_stay s (active_of s.kept) [] asked form turned shows)) serves
-serves_keeps s caller Logout turned serves = kept_by s turned _ serves (moved s caller _ _)
-serves_keeps s caller (Edit asked) turned serves =
-    by_mode (is_configuring s caller) _ _ _ either_way (λ is. kept_by s turned _ is refl) serves
-  where
-    either_way : Moves s caller asked turned ⊎ IsLost s (level_of s caller) asked turned → Keeps s turned
-    either_way (inl moves) = kept_by s turned _ moves.is (edited_keeps s caller moves.target.path)
-    either_way (inr lost) = kept_by s turned _ lost.is refl
-serves_keeps s caller (Up count) turned serves =
-    by_mode (is_configuring s caller) _ _ _ (λ is. kept_by s turned _ is (moved s caller _ _)) (λ is. kept_by s turned _ is refl) serves
-serves_keeps s caller Top turned serves =
-    by_mode (is_configuring s caller) _ _ _ (λ is. kept_by s turned _ is (moved s caller _ _)) (λ is. kept_by s turned _ is refl) serves
-serves_keeps s caller Exit turned serves =
-    by_mode (is_configuring s caller) _ _ _ (λ is. kept_by s turned _ is (exited_keeps s caller _)) (λ is. kept_by s turned _ is refl) serves
-serves_keeps s caller ExitAll turned serves =
-    by_mode (is_configuring s caller) _ _ _ (λ is. kept_by s turned _ is (moved s caller _ _)) (λ is. kept_by s turned _ is refl) serves
-serves_keeps s caller (Show asked form) turned serves =
-    by_mode (is_configuring s caller) _ _ _ (λ shows. ap (λ x. length x.callers) (shows_stay s s.candidate (level_of s caller) asked form turned shows))
-    (λ is. kept_by s turned _ is refl) serves
-serves_keeps s caller (Change op) turned serves =
-    by_mode (is_configuring s caller) _ _ _ either_way (λ is. kept_by s turned _ is refl) serves
-  where
-    either_way : Changes s caller op turned ⊎ IsUnchanged s caller op turned → Keeps s turned
-    either_way (inl changes) = kept_by s turned _ changes.is refl
-    either_way (inr same) = kept_by s turned _ same.is refl
-serves_keeps s caller CheckOnly turned serves =
-    by_mode (is_configuring s caller) _ _ _ (λ checks. checked_keeps s turned _ refl checks) (λ is. kept_by s turned _ is refl) serves
-serves_keeps s caller Commit turned serves =
-    by_mode (is_configuring s caller) _ _ _ (λ checks. checked_keeps s turned _ (committed_keeps s caller) checks) (λ is. kept_by s turned _ is refl) serves
-
-steps_keep : (s : State) (caller moment : ℕ) (event : Event) (turned : Turned) → Steps s caller moment event turned → Keeps s turned
-steps_keep s caller moment (CommandOf command) turned steps = serves_keeps (later s moment) caller command turned steps
-
-events_keep : (s : State) (events : List Happened) (last : State) → Leads s events last → length last.callers ≡ length s.callers
-events_keep s [] last leads = ap (λ x. length x.callers) leads
-events_keep s (event ∷ events) last leads =
-    events_keep leads.1.state events last leads.3 ∙ steps_keep s event.caller event.moment event.event leads.1 leads.2
-
--- there are as many callers as users
-pub callers_of_log : (core : State) (log : Log) → IsLog core log → length core.callers ≡ length log.users
-callers_of_log core log is = events_keep (opened log) log.events core is ∙ mapped log.users
-  where
-    mapped : (users : List (List ℕ)) → length (map operational users) ≡ length users
-    mapped [] = refl
-    mapped (user ∷ users) = ap suc (mapped users)
-
--- a command of a caller fits the state, at no earlier moment than the greatest
-pub fits_of : (core : State) (log old : Log) (caller moment : ℕ) (command : Command) → IsLog core log → log ≡ old → (0 < caller) × (caller ≤ length old.users) → core.greatest ≤ moment → Fits core caller moment (CommandOf command)
-fits_of core log old caller moment command is same caller_is late = record {
-  is_caller = (caller_is.0, omega (arith, caller_is.1, ap (λ l. length l.users) same, callers_of_log core log is));
-  no_earlier = late;
-}
-
--- the log with one more event
-abbrev pub with_event : Log → Happened → Log
-with_event log event = record log { events = log.events ++ event ∷ [] }
-
--- one more event that fits leads on
-pub IsLog-more : (core next : State) (log : Log) (caller moment : ℕ) (command : Command) (turned : Turned) → IsLog core log → Fits core caller moment (CommandOf command) → Steps core caller moment (CommandOf command) turned → next ≡ turned.state → IsLog next (with_event log (asked_event caller moment command))
-IsLog-more core next log caller moment command turned is fits steps stepped =
-    let event : Happened = asked_event caller moment command in
-    subst (λ s. Leads (opened log) (log.events ++ event ∷ []) s) (sym stepped) (Leads-push (opened log) log.events event core turned is fits steps)
-
--- what a caller is told of one more event
-pub Adds-more : (core : State) (log : Log) (caller answer moment : ℕ) (command : Command) (turned : Turned) (place : ℕ) (reply : Reply) → IsLog core log → moment ≡ max answer core.greatest → Steps core caller moment (CommandOf command) turned → reply ≡ turned.reply → place ≡ length log.events → Adds caller answer command place reply log (with_event log (asked_event caller moment command))
-Adds-more core log caller answer moment command turned place reply is late steps replied at_end =
-    let event : Happened = asked_event caller moment command in
-    let events : List Happened = log.events ++ event ∷ [] in
-    let there : IsAt (opened log) events place core event reply = record {
-      within = omega (arith, at_end, length-append log.events (event ∷ []));
-      is = ap (λ p. slice_get events p) at_end ∙ at_seam log.events [] event;
-      leads = subst (λ front. Leads (opened log) front core) (sym (ap (λ p. take p events) at_end ∙ take-append_seam log.events (event ∷ []))) is;
-      turned = turned;
-      steps = steps;
-      replied = replied;
-    } in
+-- the command stands at its place of the grown history
+is_asked : (opening s : State) (caller answer moment : ℕ) (command : Command) (place : ℕ) (reply : Reply) (events own : List Happened) → Leads opening events s → moment ≡ max answer s.greatest → IsAnswered caller moment command place reply s events own →
+    IsAsked opening (events ++ own) place caller answer command reply
+is_asked opening s caller answer moment command place reply events own leads is_moment given =
+    let event : Happened = done_event caller moment (CommandOf command) in
+    let ahead : List Happened = events ++ given.front in
+    let whole : events ++ own ≡ ahead ++ event ∷ [] = ap (λ l. events ++ l) given.is_own ∙ sym (append_assoc events given.front (event ∷ [])) in
     record {
+      before = given.before;
       event = event;
-      grown = refl;
+      is_at = subst (λ l. IsAt opening l place given.before event reply) (sym whole) (record {
+        within = omega (arith, given.at_end, length-append ahead (event ∷ []));
+        is = ap (λ p. slice_get (ahead ++ event ∷ []) p) given.at_end ∙ at_seam ahead [] event;
+        leads = subst (λ front. Leads opening front given.before) (sym (ap (λ p. take p (ahead ++ event ∷ [])) given.at_end ∙ take-append_seam ahead (event ∷ []))) (Leads-append opening events given.front s given.before leads given.leads);
+        turned = given.turned;
+        steps = given.steps;
+        replied = given.replied;
+      });
       own = refl;
-      at_end = at_end;
-      added = record {
-        before = core;
-        is_at = subst (λ m. IsAt (opened log) events place core (asked_event caller m command) reply) late there;
-      };
+      when = omega (arith, is_moment, given.since, given.no_earlier);
+      asks = refl;
     }
 
--- a log over the same list and users opened alike
-pub same_opening : (a b : Log) → a.kept ≡ b.kept → a.users ≡ b.users → opened a ≡ opened b
-same_opening a b kept users = ap (λ k. opening_of k a.users) kept ∙ ap (opening_of b.kept) users
+named : (opening s : State) (caller answer moment : ℕ) (command : Command) (given : Given0) (events own : List Happened) → Leads opening events s → moment ≡ max answer s.greatest → IsGiven caller moment command given s events own → Names opening caller (events ++ own) command answer given
+named opening s caller answer moment command (Kept place reply) events own leads is_moment given = is_asked opening s caller answer moment command place reply events own leads is_moment given
+named opening s caller answer moment command NoMemory events own leads is_moment given = tt
+
+-- the places of a caller's own events
+places : (s : State) (caller moment : ℕ) (command : Command) (given : Given0) (events own : List Happened) → IsGiven caller moment command given s events own → places_of caller (events ++ own) ≡ places_of caller events ++ places_given given
+places s caller moment command (Kept place reply) events own given =
+    let event : Happened = done_event caller moment (CommandOf command) in
+    let at_end : length events + length given.front ≡ place = omega (arith, given.at_end, length-append events given.front) in
+    places_of-append caller events own
+    ∙ ap (λ l. places_of caller events ++ places_from (length events) caller l) given.is_own
+    ∙ ap (λ l. places_of caller events ++ l) (places_from-append (length events) caller given.front (event ∷ [])
+    ∙ ap (λ l. l ++ places_from (length events + length given.front) caller (event ∷ [])) (no_places (length events) caller given.front given.no_command)
+    ∙ one_place (length events + length given.front) caller event refl refl
+    ∙ ap (λ p. p ∷ []) at_end)
+places s caller moment command NoMemory events own given =
+    places_of-append caller events own ∙ ap (λ l. places_of caller events ++ l) (no_places (length events) caller own given)
+
+-- what a turn's own events are
+turned : (s : State) (caller moment : ℕ) (command : Command) (given : Given0) (events own events' : List Happened) → events' ≡ events ++ own → IsGiven caller moment command given s events own → IsTurn given own events'
+turned s caller moment command (Kept place reply) events own events' grown given =
+    let event : Happened = done_event caller moment (CommandOf command) in
+    record {
+      front = given.front;
+      last = event;
+      is_own = given.is_own;
+      no_command = given.no_command;
+      at_end = omega (arith, ap length grown, length-append events own, ap length given.is_own, length-append given.front (event ∷ []), given.at_end, length-append events given.front);
+    }
+turned s caller moment command NoMemory events own events' grown given = given
+
+-- the log after one ask
+pub FollowsIn-of : (core core' : State) (log log' : Log) (moment answer : ℕ) (command : Command) (given : Given0) → IsLog core log → moment ≡ max answer core.greatest → Asks log.caller moment command given core core' log.events log'.events → log'.kept ≡ log.kept → log'.users ≡ log.users → log'.caller ≡ log.caller →
+    FollowsIn log command answer given log'
+FollowsIn-of core core' log log' moment answer command given is is_moment asks kept users caller = record {
+  kept = kept;
+  users = users;
+  caller = caller;
+  events = record {
+    grows = record {
+      others = [];
+      own = asks.own;
+      grown = asks.on.grown;
+      not_own = tt;
+      before = core;
+      leads = subst (λ l. Leads (opened log) l core) (sym (append-nil log.events)) is.leads;
+      made = subst (λ m. AllByRecursion (IsMade log.caller m) asks.own) is_moment asks.on.made;
+    };
+    named = subst (λ l. Names (opened log) log.caller l command answer given) (sym asks.on.grown) (named (opened log) core log.caller answer moment command given log.events asks.own is.leads is_moment asks.answer);
+    turn = turned core log.caller moment command given log.events asks.own log'.events asks.on.grown asks.answer;
+    places = ap (places_of log.caller) asks.on.grown ∙ places core log.caller moment command given log.events asks.own asks.answer;
+  };
+  alone = refl;
+  legal = (core', subst (λ l. Leads (opened log) l core') (sym asks.on.grown) (Leads-append (opened log) log.events asks.own core core' is.leads asks.on.leads));
+  in_memory = asks.on.in_memory;
+}
+
+-- the machine with its log after one ask
+pub IsLog-of : (core core' : State) (log : Log) (events' : List Happened) (moment : ℕ) (command : Command) (given : Given0) → IsLog core log → Asks log.caller moment command given core core' log.events events' → IsLog core' (record log { events = events' })
+IsLog-of core core' log events' moment command given is asks = record {
+  leads = subst (λ l. Leads (opened log) l core') (sym asks.on.grown) (Leads-append (opened log) log.events asks.own core core' is.leads asks.on.leads);
+  in_memory = subst (AllByRecursion _) (sym asks.on.grown) (All-append _ log.events asks.own is.in_memory asks.on.in_memory);
+  free = asks.on.free;
+  callers = asks.on.callers ∙ is.callers;
+  caller = is.caller;
+}

@@ -1,109 +1,115 @@
--- What a session's steps add to its sides.
-use Rattle.std.proofs.Common.{◌≡◌, ℕ, List, [], ◌∷◌, ◌++◌, length, Bool, refl, sym, ap, subst, ◌∙◌, zero-add, Option, None, Some, Result, Ok, Err, is_ok}
-use Rattle.std.proofs.lemmas.List.{append-nil}
-use Rattle.commands.specs.declared.command.Command.{Command}
+-- One event of the machine in memory, where nothing is in flight.
+use Rattle.std.proofs.Common.{◌≡◌, ℕ, ◌-◌, List, [], ◌∷◌, ◌++◌, length, Bool, true, false, refl, sym, ap, subst, ◌∙◌, Option, None, Some}
+use Rattle.config_core.specs.declared.event.Event.{Event}
+use Rattle.config_core.specs.declared.event.Event.TheVariants.{Settle, Revert, Command as CommandOf}
+use Rattle.config_core.specs.declared.event.Need.{Need}
+use Rattle.config_core.specs.declared.event.Need.TheVariants as need
+use Rattle.config_core.specs.declared.event.Outcome.TheVariants.{Done}
+use Rattle.config_core.specs.declared.effect.Effect.{Effect}
+use Rattle.config_core.specs.declared.effect.Effect.TheVariants as effect
+use Rattle.config_core.specs.Callers.{caller_of, with_caller}
+use Rattle.config_core.specs.Entries.{committed_by, taken}
+use Rattle.config_core.specs.Levels.{Position, at_top}
 use Rattle.config_core.specs.declared.reply.Reply.{Reply}
-use Rattle.config_core.specs.State.{State}
-use Rattle.io_edge.specs.Ends.{TakesAnswer}
-use Rattle.io_edge.specs.Wrote.{Wrote}
+use Rattle.commit_ledger.specs.Kept.{is_revert_due}
+use Rattle.config_core.specs.State.{State, Made}
+use Rattle.config_core.specs.Plan.{Plan, made_in, made_of}
+use Rattle.config_core.specs.Serving.{Turned, left_if}
+use Rattle.commands.specs.declared.command.Mode.{Mode}
+use Rattle.commit_ledger.specs.declared.entry.Entry.{Entry}
+use Rattle.commit_ledger.specs.declared.entry.Entry.TheVariants.{Commit as CommitOf, Confirm as ConfirmOf}
+use Rattle.std.proofs.Math.ListN.{length-set}
+use Rattle.config_core.specs.Machine.{Fits, FitsIn, Free, InFlight, Missed, Steps, StepsFrom, Waiting, later, reverted, waiting_for, waiting_of}
+use Rattle.config_core.specs.Prepared.{CanEnd, IsPrepared, applied, effected, ended, need_in, replied, settled_in}
 use Rattle.session_history.specs.declared.history.Happened.{Happened}
-use Rattle.reply_text.specs.declared.fault.ShellFault.{ShellFault}
-use Rattle.session_history.specs.declared.turn.Stance.{Stance}
-use Rattle.service.specs.declared.session.Next.{Next}
-use Rattle.session_history.specs.declared.turn.Turn.{Turn}
-use Rattle.session_history.specs.declared.turn.Turn.TheVariants.{Kept, Local, NoMemory}
-use Rattle.session_history.specs.Events.{places_of}
-use Rattle.session_history.specs.Told.{Told, Item, item_of, stance_after, Answered, Refuses, Unanswered, text_of, answer_of, turn_of, places_told, IsTrueOf}
-use Rattle.session_history.specs.Session.{Served, Delivers, TakesAnswers}
-use Rattle.session_history.proofs.EventLemmas.{places_from-push}
-use Rattle.service.specs.Log.{Log, Adds, opened}
-use Rattle.service.specs.Steps.{Asks, TakesTurn, ServesItem, how_next}
+use Rattle.service.specs.Asking.{Happens, done_event}
 
--- a command that was answered
-pub asks_reply : (caller answer : ℕ) (command : Command) (place : ℕ) (reply : Reply) (old new : Log) (coming coming' : Option (ℕ → ℕ)) (turns turns' : List Turn) → Adds caller answer command place reply old new → TakesAnswer coming coming' answer → turns' ≡ turns ++ Kept place ∷ [] → Asks (opened old) caller command (Some reply) coming coming' turns turns' old.events new.events
-asks_reply caller answer command place reply old new coming coming' turns turns' adds takes turned =
-    let grown : new.events ≡ old.events ++ adds.event ∷ [] = ap (λ l. l.events) adds.grown in
-    record {
-      told = Answered place answer command reply;
-      item = refl;
-      text = refl;
-      stance = λ s. refl;
-      takes = record {
-        answer = takes;
-        turned = turned;
-        is_true = adds.added;
-        more = adds.event ∷ [];
-        grown = grown;
-        own = (adds.own, tt);
-        places = ap (places_of caller) grown ∙ places_from-push 0 caller old.events adds.event adds.own ∙ ap (λ p. places_of caller old.events ++ p ∷ []) (zero-add (length old.events) ∙ sym adds.at_end);
-      };
-    }
+-- with nothing in flight, what stands before a command is a missed deadline or nothing
+waits : (s : State) (moment : ℕ) → s.flight ≡ None → waiting_of s moment ≡ waiting_for None (is_revert_due s.kept moment)
+waits s moment free = ap (λ flight. waiting_for flight (is_revert_due s.kept moment)) free
 
--- the turn of an item that made no event
-no_event : (opening : State) (caller : ℕ) (told : Told) (coming coming' : Option (ℕ → ℕ)) (turns turns' : List Turn) (events : List Happened) → TakesAnswer coming coming' (answer_of told) → turns' ≡ turns ++ turn_of told ∷ [] → IsTrueOf opening caller events told → places_told told ≡ [] → TakesTurn opening caller told coming coming' turns turns' events events
-no_event opening caller told coming coming' turns turns' events takes turned so none = record {
-  answer = takes;
-  turned = turned;
-  is_true = so;
-  more = [];
-  grown = sym (append-nil events);
-  own = tt;
-  places = sym (append-nil (places_of caller events)) ∙ ap (λ p. places_of caller events ++ p) (sym none);
+can_end : (missed : Bool) (event : Event) (made : Option Made) → FitsIn (waiting_for None missed) event → CanEnd (waiting_for None missed) event made Done
+can_end true (Settle is_kept) made fits = absurd fits
+can_end true Revert made fits = tt
+can_end true (CommandOf command) made fits = absurd fits
+can_end false (Settle is_kept) made fits = absurd fits
+can_end false Revert made fits = absurd fits
+can_end false (CommandOf command) made fits = tt
+
+-- an event that fits may be done
+can_be_done : (s : State) (moment : ℕ) (event : Event) (made : Option Made) → s.flight ≡ None → FitsIn (waiting_of s moment) event → CanEnd (waiting_of s moment) event made Done
+can_be_done s moment event made free fits =
+    let same : waiting_of s moment ≡ waiting_for None (is_revert_due s.kept moment) = waits s moment free in
+    subst (λ w. CanEnd w event made Done) (sym same) (can_end (is_revert_due s.kept moment) event made (subst (λ w. FitsIn w event) same fits))
+
+-- an entry leaves the callers as they were
+same_callers : (maker : Option ℕ) (entry : Entry) (s : State) → (committed_by maker entry s).callers ≡ s.callers
+same_callers maker (CommitOf commit) s = refl
+same_callers maker (ConfirmOf confirm) s = refl
+
+moved : (s : State) (caller : ℕ) (mode : Option Mode) (position : Position) → length (with_caller s caller mode position).callers ≡ length s.callers
+moved s caller mode position = length-set s.callers (caller - 1) _
+
+-- leaving the mode or not
+left : (quit : Bool) (caller : ℕ) (s : State) → s.flight ≡ None → ((left_if quit caller s).flight ≡ None) × (length (left_if quit caller s).callers ≡ length s.callers)
+left true caller s free = (free, moved s caller None at_top)
+left false caller s free = (free, refl)
+
+-- what is done leaves nothing in flight, and as many callers
+keeps : (e : Effect) (caller : ℕ) (s : State) → s.flight ≡ None → ((effected e caller Done s).flight ≡ None) × (length (effected e caller Done s).callers ≡ length s.callers)
+keeps effect.Stay caller s free = (free, refl)
+keeps effect.Leave caller s free = (free, moved s caller None at_top)
+keeps (effect.Enter mode) caller s free = (free, moved s caller (Some mode) at_top)
+keeps (effect.Move position) caller s free = (free, moved s caller (caller_of s caller).mode position)
+keeps (effect.Edit tree is_modified) caller s free = (free, refl)
+keeps (effect.Settle is_kept) caller s free =
+    (ap (λ flight. (settled_in flight is_kept s).flight) free ∙ free, ap (λ flight. length (settled_in flight is_kept s).callers) free)
+keeps (effect.Append a) caller s free =
+    let after = left a.quit caller (taken s (made_of a)) refl in
+    (after.0, after.1 ∙ ap length (same_callers (made_of a).maker (made_of a).entry s))
+
+-- a step that was prepared and carried out
+pub Happens-of : (caller moment : ℕ) (event : Event) (reply : Reply) (plan : Plan) (s s' : State) (events events' : List Happened) → Fits s caller moment event → s.flight ≡ None → IsPrepared s caller moment event plan →
+    s' ≡ applied plan Done s → reply ≡ replied plan.effect plan.reply Done → events' ≡ events ++ done_event caller moment event ∷ [] → Happens caller moment event reply s s' events events'
+Happens-of caller moment event reply plan s s' events events' fits free prepared is replies grown = record {
+  turned = ended plan Done s;
+  fits = fits;
+  steps = prepared.steps Done (can_be_done s moment event (made_in plan.effect) free fits.fits);
+  state = is;
+  replied = replies;
+  grown = grown;
+  free = ap (λ x. x.flight) is ∙ (keeps plan.effect plan.caller (later s plan.moment) free).0;
+  callers = ap (λ x. length x.callers) is ∙ (keeps plan.effect plan.caller (later s plan.moment) free).1;
 }
 
--- a command for which memory was wanting
-pub asks_none : (opening : State) (caller answer : ℕ) (command : Command) (events events' : List Happened) (coming coming' : Option (ℕ → ℕ)) (turns turns' : List Turn) → events' ≡ events → TakesAnswer coming coming' answer → turns' ≡ turns ++ NoMemory ∷ [] → Asks opening caller command None coming coming' turns turns' events events'
-asks_none opening caller answer command events events' coming coming' turns turns' same takes turned = record {
-  told = Unanswered answer command;
-  item = refl;
-  text = refl;
-  stance = λ s. refl;
-  takes = subst (λ e. TakesTurn opening caller (Unanswered answer command) coming coming' turns turns' events e) (sym same) (no_event opening caller (Unanswered answer command) coming coming' turns turns' events takes turned tt refl);
-}
+missed_in : (w : Waiting) → need.Revert ≡ need_in w → w ≡ Missed
+missed_in (InFlight made) is = cc
+missed_in Missed is = refl
+missed_in Free is = cc
 
--- a line that was refused
-pub takes_refusal : (opening : State) (caller answer : ℕ) (fault : ShellFault) (events : List Happened) (coming coming' : Option (ℕ → ℕ)) (turns turns' : List Turn) → TakesAnswer coming coming' answer → turns' ≡ turns ++ Local fault ∷ [] → TakesTurn opening caller (Refuses answer fault) coming coming' turns turns' events events
-takes_refusal opening caller answer fault events coming coming' turns turns' takes turned =
-    no_event opening caller (Refuses answer fault) coming coming' turns turns' events takes turned tt refl
+-- a deadline was missed
+pub missed_of : (s : State) (moment : ℕ) → need.Revert ≡ need_in (waiting_of s moment) → waiting_of s moment ≡ Missed
+missed_of s moment is = missed_in (waiting_of s moment) is
 
--- one answer of a clock
-one_answer : (coming coming' : Option (ℕ → ℕ)) (answer : ℕ) → TakesAnswer coming coming' answer → TakesAnswers coming (answer ∷ []) coming'
-one_answer None None answer takes = tt
-one_answer (Some coming) (Some left) answer takes = takes
-one_answer None (Some left) answer takes = absurd takes
-one_answer (Some coming) None answer takes = absurd takes
+free_in : (missed : Bool) (n : Need) → n ≡ need_in (waiting_for None missed) → (n ≡ need.Revert → ⊥) → waiting_for None missed ≡ Free
+free_in true n is other = absurd (other is)
+free_in false n is other = refl
 
--- one item with its text
-pub Served-one : (opening : State) (caller : ℕ) (whole : Bool) (told : Told) (coming coming' : Option (ℕ → ℕ)) (held held' : Option (List ℕ)) (turns turns' : List Turn) (events events' : List Happened) →
-    TakesTurn opening caller told coming coming' turns turns' events events' → Delivers whole (text_of told) held held' →
-    Served opening caller whole (told ∷ []) (record { coming = coming; held = held; turns = turns; events = events }) (record { coming = coming'; held = held'; turns = turns'; events = events' })
-Served-one opening caller whole told coming coming' held held' turns turns' events events' takes text = record {
-  answers = one_answer coming coming' _ takes.answer;
-  turned = takes.turned;
-  true_all = (takes.is_true, tt);
-  more = takes.more;
-  grown = takes.grown;
-  own = takes.own;
-  places = takes.places ∙ ap (λ p. places_of caller events ++ p) (sym (append-nil _));
-  text = subst (λ t. Delivers whole t held held') (sym (append-nil (text_of told))) text;
-}
+-- nothing comes before a command
+pub free_of : (s : State) (moment : ℕ) (n : Need) → s.flight ≡ None → n ≡ need_in (waiting_of s moment) → (n ≡ need.Revert → ⊥) → waiting_of s moment ≡ Free
+free_of s moment n free is other =
+    let same : waiting_of s moment ≡ waiting_for None (is_revert_due s.kept moment) = waits s moment free in
+    same ∙ free_in (is_revert_due s.kept moment) n (is ∙ ap need_in same) other
 
--- a text that was written, or a part of it
-pub delivers_of : {T E : Type 0} → (put : Result T E) (text : List ℕ) (old now : Option (List ℕ)) → Wrote put text old now → Delivers (is_ok put) text old now
-delivers_of (Ok done) text old now wrote = wrote
-delivers_of (Err failed) text old now wrote = wrote
+-- a revert ends the run of commits, so that nothing comes before the next command
+pub after_revert : (s : State) (caller moment : ℕ) (turned : Turned) → waiting_of s moment ≡ Missed → Steps s caller moment Revert Done turned → (waiting_of turned.state moment ≡ Free) × (turned.state.greatest ≡ moment)
+after_revert s caller moment turned missed steps =
+    let is : turned ≡ reverted (later s moment) = subst (λ w. StepsFrom w (later s moment) caller Revert Done turned) missed steps in
+    (ap (λ t. waiting_of t.state moment) is, ap (λ t. t.state.greatest) is)
 
--- an item that took its turn and whose text was written
-pub ServesItem-of : {T E : Type 0} → (opening : State) (caller : ℕ) (stance : Stance) (item : Item) (next : Next) (told : Told) (put : Result T E) (text : List ℕ) (coming coming' : Option (ℕ → ℕ)) (held held' : Option (List ℕ)) (turns turns' : List Turn) (events events' : List Happened) →
-    item_of told ≡ item → next.stance ≡ stance_after stance told → next.how ≡ how_next next.stance (is_ok put) → text_of told ≡ text →
-    TakesTurn opening caller told coming coming' turns turns' events events' → Wrote put text held held' →
-    ServesItem opening caller stance item next (record { coming = coming; held = held; turns = turns; events = events }) (record { coming = coming'; held = held'; turns = turns'; events = events' })
-ServesItem-of opening caller stance item next told put text coming coming' held held' turns turns' events events' is_item is_stance is_how is_text takes wrote = record {
-  told = told;
-  whole = is_ok put;
-  is_item = is_item;
-  is_stance = is_stance;
-  is_how = is_how;
-  served = Served-one opening caller (is_ok put) told coming coming' held held' turns turns' events events' takes
-      (subst (λ t. Delivers (is_ok put) t held held') (sym is_text) (delivers_of put text held held' wrote));
-}
+-- a command fits where nothing comes before it
+pub FitsIn-free : (s : State) (moment : ℕ) (event : Event) → waiting_of s moment ≡ Free → FitsIn Free event → FitsIn (waiting_of s moment) event
+FitsIn-free s moment event free fits = subst (λ w. FitsIn w event) (sym free) fits
+
+pub FitsIn-missed : (s : State) (moment : ℕ) → waiting_of s moment ≡ Missed → FitsIn (waiting_of s moment) Revert
+FitsIn-missed s moment missed = subst (λ w. FitsIn w Revert) (sym missed) tt

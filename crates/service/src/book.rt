@@ -1,25 +1,32 @@
-//! The machine with what happened to it.
+//! The machine with what happened to it: the door of each session in memory.
 
-ghost use Rattle.std.specs.Prelude.{◌≡◌, ◌<◌, ◌≤◌, [], ◌∷◌, ◌++◌, length, IfOk, OnErr, Some, Option};
-ghost use Rattle.config_core.specs.Kept.{factory};
+ghost use Rattle.std.specs.Prelude.{◌≡◌, ◌<◌, ◌≤◌, [], ◌∷◌, length, IfOk, Some, None};
+ghost use Rattle.std.specs.List.{AllByRecursion};
+ghost use Rattle.commit_ledger.specs.Kept.{factory};
 ghost use Rattle.session_history.specs.Events.{IsLegal};
-ghost use Rattle.service.specs.Log.{Adds, opened};
+ghost use Rattle.service.specs.History.{IsInMemory};
+ghost use Rattle.service.specs.Log.{FollowsIn, NamesIn, opened};
+ghost use Rattle.service.specs.Naming.{keeps_names, names_given};
 
-use cfg_base::{Calls, Moment, NoMemory, UserName, Users};
+use crate::asking::{NO_CALLS, ask};
+use cfg_base::{Moment, NoMemory, UserName, Users};
 use commands::Command;
-use config_core::{Core, Event, Ledger, Outcome, Reply};
+use commit_ledger::Ledger;
+use config_core::Core;
 use session_history::{Happened, History};
+use session_shell::{Door, Given0};
 use std::alloc::Global;
 use std::marker::Model;
+use std::sync::Wait;
 
-const NO_CALLS: Calls = Calls { a: 0, b: 0 };
-
-/// The machine, the list of entries over which it began, and its events.
+/// The machine, the list of entries over which it began, its events, and the caller that asks.
+#[derive(Drop)]
 pub(crate) struct Book {
     core: Core,
     opening: Ledger,
     users: Users,
     events: Vec<Happened>,
+    caller: u32,
 }
 
 impl Model for Book {
@@ -31,9 +38,31 @@ impl Model for Book {
 
     ghost coded = { Prim.hlevel (codes, statements_code) };
 
-    ghost view = { λ b. record { kept = b.opening; users = b.users; events = b.events.items } };
+    ghost view = { λ b. record { kept = b.opening; users = b.users; events = b.events.items; caller = b.caller } };
 
-    ghost invariant = { λ b. IsLog b.core (record { kept = b.opening; users = b.users; events = b.events.items }) };
+    ghost invariant = { λ b. IsLog b.core
+        (record { kept = b.opening; users = b.users; events = b.events.items; caller = b.caller }) };
+}
+
+impl Door for Book {
+    ghost names = { NamesIn };
+
+    ghost follows = { FollowsIn };
+
+    fn ask<R: Wait>(&mut self, _rt: &R, moment: Moment, command: Command) -> Given0 {
+        let moment = moment.later(self.core.greatest());
+        ask(
+            &mut self.core,
+            &mut self.events,
+            self.caller,
+            moment,
+            command,
+        )
+    }
+
+    ghost named = { names_given };
+
+    ghost keeps = { keeps_names };
 }
 
 fn users_of(alloc: Global, user: &UserName) -> Result<Users, NoMemory>
@@ -45,9 +74,9 @@ fn users_of(alloc: Global, user: &UserName) -> Result<Users, NoMemory>
 }
 
 impl Book {
-    /// The service over the factory commit, for one user.
+    /// The service over the factory commit, for one user, who asks.
     pub(crate) fn new(alloc: Global, user: &UserName) -> Result<Book, NoMemory>
-        ensures { IfOk result (λ log. log ≡ record { kept = factory; users = user.now ∷ []; events = [] }) }
+        ensures { IfOk result (λ log. log ≡ record { kept = factory; users = user.now ∷ []; events = []; caller = 1 }) }
     {
         let users = users_of(alloc, user)?;
         let core = Core::new(alloc, Ledger::factory(alloc)?, &users)?;
@@ -56,34 +85,8 @@ impl Book {
             opening: Ledger::factory(alloc)?,
             users,
             events: Vec::new(alloc),
+            caller: 1,
         })
-    }
-
-    /// Asks a command: its event is made at the greater of the moment and the greatest so far. Gives the event's place and reply.
-    pub(crate) fn ask(
-        &mut self,
-        caller: u32,
-        moment: Moment,
-        command: Command,
-    ) -> Result<(u64, Reply), NoMemory>
-        requires caller { (0 < caller) × (caller ≤ length self.old.users) }
-        ensures adds { IfOk result (λ answer. Adds caller moment command answer.0 answer.1 self.old self.new) }
-        ensures unchanged { OnErr result (self.new ≡ self.old) }
-    {
-        let moment = moment.later(self.core.greatest());
-        let event = Event::Command(command);
-        let prepared = self.core.prepare(caller, moment, &event)?;
-        self.events.reserve(1)?;
-        let place = self.events.len() as u64;
-        let reply = self.core.accept(prepared, Outcome::Done);
-        self.events.push_reserved(Happened {
-            caller,
-            moment,
-            event,
-            outcome: Outcome::Done,
-            calls: NO_CALLS,
-        });
-        Ok((place, reply))
     }
 
     /// All that happened.
@@ -92,6 +95,7 @@ impl Book {
         ensures users { result.users ≡ self.users }
         ensures events { result.events.items ≡ self.events }
         ensures legal { IsLegal (opened self) self.events }
+        ensures in_memory { AllByRecursion IsInMemory self.events }
         ensures made { result.made ≡ record { a = 0; b = 0 } }
     {
         let Book {
@@ -99,6 +103,7 @@ impl Book {
             opening,
             users,
             events,
+            caller: _,
         } = self;
         History {
             opening: Some(opening),

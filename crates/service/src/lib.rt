@@ -2,15 +2,16 @@
 //!
 //! Guarantees: `run` serves its session as the machine of one event at a time would, and hands everything back
 //! (specs/Run.antt).
-//! Leaves to others: what the machine does (`config_core`), what a line asks (`shell_words`), what the ends of a
-//! session are (`io_edge`), and the program round it (`confd`).
+//! Leaves to others: what the machine does (`config_core`), what a session is (`session_shell`), what a history says
+//! (`session_history`), and the program round it (`confd`).
 #![tactic(auto)]
 
+mod asking;
 mod book;
+mod laws;
 mod serving;
-mod session;
 
+pub use laws::sessions_have_one_text;
 pub use serving::{
     Closed, INPUT_LIMIT, JOURNAL_LIMIT, StartWhy0, Ticker, is_serve, limits_are_stated, run,
 };
-pub use session::End;

@@ -1,19 +1,19 @@
 //! The top call: it serves the session of its ends, and hands everything back.
 
-ghost use Rattle.std.specs.Prelude.{◌≡◌, ◌≤◌, ◌∷◌, ◌⊎◌, ◌↔◌, ◌<◌, [], List, length, IsTrue, IfOk, None, Some, vec_len, vec_capacity};
-ghost use Rattle.config_core.specs.Kept.{factory};
+ghost use Rattle.std.specs.Prelude.{◌≡◌, ◌∷◌, ◌⊎◌, ◌↔◌, ◌<◌, [], List, length, IsTrue, IfOk, None, vec_capacity};
 ghost use Rattle.cfg_base.specs.Counts.{Rose};
-ghost use Rattle.session_history.specs.declared.turn.Turn.{Turn};
-ghost use Rattle.session_history.specs.Session.{status_of};
-ghost use Rattle.service.specs.Run.{IsServe, IsIdle, IsServed, Fits};
+ghost use Rattle.commit_ledger.specs.Kept.{factory};
+ghost use Rattle.session_shell.specs.declared.turn.Turn.{Turn};
+ghost use Rattle.service.specs.Run.{Fits, IsIdle, IsServe, IsServed, status_of};
 
+use crate::asking::NO_CALLS;
 use crate::book::Book;
-use crate::session::{End, Ended, run_session};
-use cfg_base::{Calls, Limits, NoMemory, UserName, Users, Words};
+use cfg_base::{Limits, NoMemory, UserName, Users, Words};
 use config_core::active_configuration_stays_accepted;
 use disk_model::Disk;
 use io_edge::{Beat, Clock, Sink, Source};
-use session_history::{History, How, Turn, TurnList, histories_stay_accepted};
+use session_history::{History, histories_stay_accepted};
+use session_shell::{End, Ended, How, NoSession, Session, TurnList};
 use std::alloc::Global;
 use std::sync::Wait;
 use std::thread::Threads;
@@ -66,7 +66,6 @@ pub struct Closed<S, K, C, B, D> {
 /// The room of a run's answer, taken before a session begins.
 struct Room {
     lists: Vec<TurnList>,
-    turns: Vec<Turn>,
     book: Book,
 }
 
@@ -87,20 +86,18 @@ fn no_history(alloc: Global) -> History
     History {
         opening: None,
         users: Users::new(alloc),
-        made: Calls { a: 0, b: 0 },
+        made: NO_CALLS,
         events: Vec::new(alloc),
     }
 }
 
 fn prepare(alloc: Global, user: &UserName) -> Result<Room, NoMemory>
     ensures lists { IfOk result (λ room. (room.lists.items ≡ []) × (0 < vec_capacity room.lists)) }
-    ensures turns { IfOk result (λ room. (room.turns.items ≡ []) × (0 < vec_capacity room.turns)) }
     ensures book { IfOk result
-        (λ room. room.book ≡ record { kept = factory; users = user.now ∷ []; events = [] }) }
+        (λ room. room.book ≡ record { kept = factory; users = user.now ∷ []; events = []; caller = 1 }) }
 {
     Ok(Room {
         lists: Vec::with_capacity(alloc, 1)?,
-        turns: Vec::with_capacity(alloc, 1)?,
         book: Book::new(alloc, user)?,
     })
 }
@@ -143,8 +140,36 @@ fn idle<S, K, C, B, D>(
     }
 }
 
+/// A session that was served, with the history that it made.
+struct Served<S, K, C> {
+    ended: Ended<S, K, C>,
+    history: History,
+}
+
+/// Serves a session over the factory commit.
+fn serve_session<R: Wait, S: Source, K: Sink, C: Clock>(
+    rt: &R,
+    book: Book,
+    session: Session<S, K, C>,
+) -> Served<S, K, C>
+    requires book { book ≡ record { kept = factory; users = session.end.user ∷ []; events = []; caller = 1 } }
+    requires limit { session.limit ≡ INPUT_LIMIT }
+    ensures { IsServed S.left S.faults K.held K.faults C.coming INPUT_LIMIT session.end result.ended.end
+        result.ended.turns result.history (status_of result.ended.how) }
+{
+    active_configuration_stays_accepted();
+    histories_stay_accepted();
+    let mut book = book;
+    let ended = session.run(rt, &mut book);
+    Served {
+        ended,
+        history: book.into_history(),
+    }
+}
+
 /// Serves the one session.
-fn serve_one<S: Source, K: Sink, C: Clock, B, D>(
+fn serve_one<R: Wait, S: Source, K: Sink, C: Clock, B, D>(
+    rt: &R,
     alloc: Global,
     room: Room,
     ends: Vec<End<S, K, C>>,
@@ -154,34 +179,45 @@ fn serve_one<S: Source, K: Sink, C: Clock, B, D>(
 ) -> Closed<S, K, C, B, D>
     requires one_end { length ends.items ≡ 1 }
     requires lists { (room.lists.items ≡ []) × (0 < vec_capacity room.lists) }
-    requires turns { (room.turns.items ≡ []) × (0 < vec_capacity room.turns) }
     requires book { (old : _) → ends.items ≡ old ∷ []
-        → room.book ≡ record { kept = factory; users = old.user ∷ []; events = [] } }
-    ensures served { (old : _) → ends.items ≡ old ∷ [] → (new : _) × (turns : List Turn)
-        × (result.ends.items ≡ new ∷ []) × (result.turns.items ≡ turns ∷ [])
-        × IsServed S.left S.faults K.held K.faults C.coming INPUT_LIMIT old new turns result.history result.status }
+        → room.book ≡ record { kept = factory; users = old.user ∷ []; events = []; caller = 1 } }
+    ensures served { (old : _) → ends.items ≡ old ∷ []
+        → ((result.status ≡ 9) × IsIdle ends.items result.ends.items result.turns.items result.history)
+        ⊎ ((new : _) × (turns : List Turn) × (result.ends.items ≡ new ∷ []) × (result.turns.items ≡ turns ∷ [])
+        × IsServed S.left S.faults K.held K.faults C.coming INPUT_LIMIT old new turns result.history result.status) }
     ensures ticker { result.ticker ≡ ticker }
     ensures disks { (result.disk_a ≡ disk_a) × (result.disk_b ≡ disk_b) }
 {
-    active_configuration_stays_accepted();
-    histories_stay_accepted();
-    let Room { lists, turns, book } = room;
+    let Room { lists, book } = room;
     let mut lists = lists;
-    let mut book = book;
     let mut ends = ends;
     let end = ends.remove(0);
-    let Ended { how, end, turns } = run_session(alloc, &mut book, 1, end, turns, LIMITS);
-    ends.push_reserved(end);
-    lists.push_reserved(TurnList::from(turns));
-    Closed {
-        status: status_of(how),
-        why: StartWhy0::None,
-        ends,
-        ticker,
-        turns: lists,
-        history: book.into_history(),
-        disk_a,
-        disk_b,
+    match Session::new(alloc, 1, end, LIMITS) {
+        Ok(session) => {
+            let Served { ended, history } = serve_session(rt, book, session);
+            let Ended {
+                number: _,
+                how,
+                end,
+                turns,
+            } = ended;
+            ends.push_reserved(end);
+            lists.push_reserved(turns);
+            Closed {
+                status: status_of(how),
+                why: StartWhy0::None,
+                ends,
+                ticker,
+                turns: lists,
+                history,
+                disk_a,
+                disk_b,
+            }
+        }
+        Err(NoSession { end }) => {
+            ends.push_reserved(end);
+            idle(alloc, 9, ends, ticker, disk_a, disk_b)
+        }
     }
 }
 
@@ -216,12 +252,11 @@ where
     ensures ticker { result.ticker ≡ ticker }
     ensures disks { (result.disk_a ≡ disk_a) × (result.disk_b ≡ disk_b) }
 {
-    let _ = rt;
     if !is_serve(words) {
         return idle(alloc, 1, ends, ticker, disk_a, disk_b);
     }
     match prepare(alloc, &ends[0].user) {
-        Ok(room) => serve_one(alloc, room, ends, ticker, disk_a, disk_b),
+        Ok(room) => serve_one(rt, alloc, room, ends, ticker, disk_a, disk_b),
         Err(NoMemory) => idle(alloc, 9, ends, ticker, disk_a, disk_b),
     }
 }

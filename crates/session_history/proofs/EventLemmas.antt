@@ -1,20 +1,23 @@
 -- A history that grows at its end.
-use Rattle.std.proofs.Common.{◌≡◌, ℕ, ◌+◌, ◌<◌, List, [], ◌∷◌, ◌++◌, length, true, false, cond, eqb, refl, sym, ap, subst, ◌∙◌, zero, suc, add-zero, eq-eqb, arith, slice_get, Some}
+use Rattle.std.proofs.Common.{◌≡◌, ℕ, ◌+◌, ◌<◌, ◌&&◌, List, [], ◌∷◌, ◌++◌, length, Bool, true, false, cond, eqb, refl, sym, ap, subst, ◌∙◌, zero, suc, add-zero, eq-eqb, arith, slice_get, Some}
 use Rattle.std.specs.List.{AllByRecursion}
 use Rattle.std.proofs.lemmas.List.{take-append-le, length-append}
 use Rattle.config_core.specs.declared.reply.Reply.{Reply}
 use Rattle.config_core.specs.State.{State}
-use Rattle.config_core.specs.Machine.{Fits, Steps, Turned}
+use Rattle.config_core.specs.Serving.{Turned}
+use Rattle.config_core.specs.Machine.{Fits, Steps}
 use Rattle.session_history.specs.declared.history.Happened.{Happened}
-use Rattle.session_history.specs.Events.{Leads, IsAt, places_from}
-use Rattle.session_history.specs.Told.{Told, Answered, Refuses, Unanswered, IsTrueOf}
+use Rattle.session_history.specs.Events.{Leads, IsAt, IsAsked, is_asked_by, is_command, places_from, places_of}
+use Rattle.commands.specs.declared.command.Command.{Command}
 
--- one more event that fits, and its step
-pub Leads-push : (s : State) (events : List Happened) (event : Happened) (last : State) (turned : Turned) → Leads s events last → Fits last event.caller event.moment event.event → Steps last event.caller event.moment event.event turned → Leads s (events ++ event ∷ []) turned.state
-Leads-push s [] event last turned leads fits steps =
-    (subst (λ x. Fits x event.caller event.moment event.event) leads fits, turned, subst (λ x. Steps x event.caller event.moment event.event turned) leads steps, refl)
-Leads-push s (first ∷ events) event last turned leads fits steps =
-    (leads.0, leads.1, leads.2, Leads-push leads.1.state events event last turned leads.3 fits steps)
+-- events that lead on
+pub Leads-append : (s : State) (events more : List Happened) (mid last : State) → Leads s events mid → Leads mid more last → Leads s (events ++ more) last
+Leads-append s [] more mid last front back = subst (λ x. Leads x more last) front back
+Leads-append s (event ∷ events) more mid last front back = (front.0, front.1, front.2, Leads-append front.1.state events more mid last front.3 back)
+
+-- one event that fits, and its step
+pub Leads-one : (s : State) (event : Happened) (turned : Turned) → Fits s event.caller event.moment event.event → Steps s event.caller event.moment event.event event.outcome turned → Leads s (event ∷ []) turned.state
+Leads-one s event turned fits steps = (fits, turned, steps, refl)
 
 -- an element that is there stays there
 slice_get-append : {A : Type 0} → (xs ys : List A) (place : ℕ) → place < length xs → slice_get (xs ++ ys) place ≡ slice_get xs place
@@ -38,28 +41,38 @@ IsAt-append s events more place before event reply there = record {
   replied = there.replied;
 }
 
--- what is told stays so
-pub IsTrueOf-append : (s : State) (caller : ℕ) (events more : List Happened) (told : Told) → IsTrueOf s caller events told → IsTrueOf s caller (events ++ more) told
-IsTrueOf-append s caller events more (Answered place answer command reply) so =
-    record { before = so.before; is_at = IsAt-append s events more place so.before _ reply so.is_at }
-IsTrueOf-append s caller events more (Refuses answer fault) so = tt
-IsTrueOf-append s caller events more (Unanswered answer command) so = tt
+-- what was asked stays so
+pub IsAsked-append : (s : State) (events more : List Happened) (place caller answer : ℕ) (command : Command) (reply : Reply) → IsAsked s events place caller answer command reply → IsAsked s (events ++ more) place caller answer command reply
+IsAsked-append s events more place caller answer command reply asked =
+    record { before = asked.before; event = asked.event; is_at = IsAt-append s events more place asked.before asked.event reply asked.is_at; own = asked.own; when = asked.when; asks = asked.asks }
 
-pub all_true-append : (s : State) (caller : ℕ) (events more : List Happened) (told : List Told) → AllByRecursion (IsTrueOf s caller events) told → AllByRecursion (IsTrueOf s caller (events ++ more)) told
-all_true-append s caller events more [] so = tt
-all_true-append s caller events more (first ∷ told) so = (IsTrueOf-append s caller events more first so.0, all_true-append s caller events more told so.1)
+either : (b : Bool) (place : ℕ) (xs ys places : List ℕ) → xs ≡ ys ++ places → cond b (place ∷ xs) xs ≡ cond b (place ∷ ys) ys ++ places
+either true place xs ys places same = ap (λ l. place ∷ l) same
+either false place xs ys places same = same
 
--- the places of one more event: its own place, where it is the caller's
-pub places_from-push : (place caller : ℕ) (events : List Happened) (event : Happened) → event.caller ≡ caller → places_from place caller (events ++ event ∷ []) ≡ places_from place caller events ++ (place + length events) ∷ []
-places_from-push place caller [] event own =
-    let same : eqb event.caller caller ≡ true = eq-eqb _ _ own in
-    rw same (ap (λ here. here ∷ []) (sym (add-zero place)))
-places_from-push place caller (first ∷ events) event own =
-    let next : ℕ = (place + 1) + length events in
-    let here : next ≡ place + suc (length events) = omega arith in
-    let rest : places_from (place + 1) caller (events ++ event ∷ []) ≡ places_from (place + 1) caller events ++ (place + suc (length events)) ∷ [] =
-    places_from-push (place + 1) caller events event own ∙ ap (λ at_end. places_from (place + 1) caller events ++ at_end ∷ []) here in
-    elim (eqb first.caller caller) as (λ t. cond t (place ∷ places_from (place + 1) caller (events ++ event ∷ [])) (places_from (place + 1) caller (events ++ event ∷ [])) ≡ cond t (place ∷ places_from (place + 1) caller events) (places_from (place + 1) caller events) ++ (place + suc (length events)) ∷ []) [
-      | true ↦ ap (λ places. place ∷ places) rest
-      | false ↦ rest
-    ]
+-- the places of events, and then those of more
+pub places_from-append : (place caller : ℕ) (events more : List Happened) → places_from place caller (events ++ more) ≡ places_from place caller events ++ places_from (place + length events) caller more
+places_from-append place caller [] more = ap (λ p. places_from p caller more) (sym (add-zero place))
+places_from-append place caller (event ∷ events) more =
+    let here : (place + 1) + length events ≡ place + suc (length events) = omega arith in
+    either (is_asked_by caller event) place (places_from (place + 1) caller (events ++ more)) (places_from (place + 1) caller events) (places_from (place + suc (length events)) caller more)
+    (places_from-append (place + 1) caller events more ∙ ap (λ p. places_from (place + 1) caller events ++ places_from p caller more) here)
+
+pub places_of-append : (caller : ℕ) (events more : List Happened) → places_of caller (events ++ more) ≡ places_of caller events ++ places_from (length events) caller more
+places_of-append caller events more = places_from-append 0 caller events more ∙ ap (λ p. places_of caller events ++ places_from p caller more) (omega arith)
+
+none : (b : Bool) (place : ℕ) (xs : List ℕ) → b ≡ false → xs ≡ [] → cond b (place ∷ xs) xs ≡ []
+none b place xs isn't is = ap (λ c. cond c (place ∷ xs) xs) isn't ∙ is
+
+no_and : (a b : Bool) → a ≡ false → a && b ≡ false
+no_and a b isn't = ap (λ c. c && b) isn't
+
+-- events of which none is a command have no places
+pub no_places : (place caller : ℕ) (events : List Happened) → AllByRecursion (λ event. is_command event.event ≡ false) events → places_from place caller events ≡ []
+no_places place caller [] all = refl
+no_places place caller (event ∷ events) all =
+    none (is_asked_by caller event) place (places_from (place + 1) caller events) (no_and (is_command event.event) (eqb event.caller caller) all.0) (no_places (place + 1) caller events all.1)
+
+-- the place of one command
+pub one_place : (place caller : ℕ) (event : Happened) → is_command event.event ≡ true → event.caller ≡ caller → places_from place caller (event ∷ []) ≡ place ∷ []
+one_place place caller event asked own = ap (λ b. cond b (place ∷ []) []) (ap (λ a. a && eqb event.caller caller) asked ∙ eq-eqb event.caller caller own)

@@ -1,27 +1,35 @@
 -- A history that begins with every session at a level leads to one state, with one reply at each place.
-use Rattle.std.proofs.Common.{◌≡◌, ℕ, ◌-◌, ◌⊎◌, List, [], ◌∷◌, length, map, take, Bool, true, false, cond, refl, sym, ap, subst, ◌∙◌, zero, suc, nat_lt, Option, Some, inl, inr, slice_get, slice_set}
+use Rattle.std.proofs.Common.{◌≡◌, ℕ, ◌-◌, ◌==◌, ◌⊎◌, List, [], ◌∷◌, length, map, take, Bool, true, false, cond, refl, sym, ap, subst, ◌∙◌, zero, suc, nat_lt, Option, None, Some, inl, inr, slice_get, slice_set}
 use Rattle.std.specs.List.{All, AllByRecursion}
 use Rattle.std.proofs.lemmas.List.Elements.{All-nil, All-cons, All-head, All-tail}
 use Rattle.commands.specs.declared.command.Form.{Form}
 use Rattle.commands.specs.declared.command.Mode.{Mode}
 use Rattle.commands.specs.declared.command.Command.{Command}
-use Rattle.commands.specs.declared.command.Command.TheVariants.{Configure, ShowActive, Logout, Edit, Up, Top, Exit, ExitAll, Show, Change, CheckOnly, Commit}
+use Rattle.commands.specs.declared.command.Command.TheVariants.{Configure, ShowActive, ShowCommits, Logout, Edit, Up, Top, Exit, ExitAll, Show, Change, Load, Rollback, CheckOnly, Commit}
 use Rattle.cfg_base.specs.declared.path.Step.{Step}
 use Rattle.cfg_tree.specs.Statements.{Statements}
 use Rattle.cfg_tree.specs.Typed.{IsTypedPath}
 use Rattle.cfg_tree.specs.Resolve.{IsLevelPath}
 use Rattle.cfg_tree.proofs.TargetLemmas.{resolved_target}
+use Rattle.commit_ledger.specs.declared.entry.Commit.{Commit as CommitMade}
+use Rattle.commit_ledger.specs.declared.entry.Entry.{Entry}
+use Rattle.commit_ledger.specs.declared.entry.Entry.TheVariants.{Commit as CommitOf, Confirm as ConfirmOf}
+use Rattle.commit_ledger.specs.declared.limit.TheConstants.{MAX_ENTRIES}
+use Rattle.commit_ledger.specs.Kept.{Unconfirmed, active_of, nth_last}
 use Rattle.config_core.specs.declared.caller.Caller.{Caller}
 use Rattle.config_core.specs.declared.event.Event.{Event}
-use Rattle.config_core.specs.declared.event.Event.TheVariants.{Command as CommandOf}
-use Rattle.config_core.specs.declared.ledger.TheConstants.{MAX_ENTRIES}
+use Rattle.config_core.specs.declared.event.Event.TheVariants.{Settle, Revert, Command as CommandOf}
+use Rattle.config_core.specs.declared.event.Outcome.{Outcome}
+use Rattle.config_core.specs.declared.event.Outcome.TheVariants.{Done as IsDone, Fault}
 use Rattle.config_core.specs.declared.reply.Refusal.TheVariants.{NotALevel, Exhausted}
 use Rattle.config_core.specs.declared.reply.Reply.{Reply}
-use Rattle.config_core.specs.declared.reply.Reply.TheVariants.{Done, Committed}
-use Rattle.config_core.specs.Kept.{active_of, append_entry}
+use Rattle.config_core.specs.declared.reply.Reply.TheVariants.{Done}
 use Rattle.config_core.specs.Levels.{Position, AreLevels, at_top, is_level_place, is_level_at, moved_to, to_last}
-use Rattle.config_core.specs.State.{State, operational}
-use Rattle.config_core.specs.Machine.{Turned, answered, refused, caller_in, position_of, level_of, with_caller, with_position, is_configuring, commit_of, committed, exited, edited, Moves, IsLost, Changes, IsUnchanged, Shows, Checks, later, Serves, Steps}
+use Rattle.config_core.specs.State.{State, Made, operational}
+use Rattle.config_core.specs.Callers.{caller_in, position_of, level_of, with_caller, with_position, without_mode, is_configuring}
+use Rattle.config_core.specs.Entries.{commit_of, committed_by, confirm_of, made_by, revert_made, taken}
+use Rattle.config_core.specs.Serving.{Turned, answered, refused, exited, edited, Moves, IsLost, Lists, Changes, IsUnchanged, Loads, IsNotLoaded, Replaces, RollsTo, Shows, Checks, checked, left_if, makes, Serves}
+use Rattle.config_core.specs.Machine.{Waiting, InFlight, Missed, Free, Ends, Steps, StepsFrom, is_logout, later, left_by, reverted, settled, waiting_of}
 use Rattle.config_core.proofs.LevelLemmas.{top_alone, level_front}
 use Rattle.config_core.proofs.StepLemmas.{by_mode, shows_stay}
 use Rattle.session_history.specs.declared.history.Happened.{Happened}
@@ -58,6 +66,9 @@ stands_by turned to is stand = subst Stands (sym is) stand
 placed : (s : State) (caller : ℕ) (mode : Option Mode) (position : Position) → Stand s.callers → AreLevels position → Stand (with_caller s caller mode position).callers
 placed s caller mode position stand is = stand_set s.callers (caller - 1) _ stand is
 
+left_stands : (s : State) (caller : ℕ) → Stand s.callers → Stand (without_mode s caller).callers
+left_stands s caller stand = placed s caller _ _ stand top_levels
+
 levels_of : (s : State) (caller : ℕ) → Stand s.callers → AreLevels (position_of s caller)
 levels_of s caller stand = stands_there s.callers (caller - 1) stand
 
@@ -74,21 +85,47 @@ edited_stands s caller path stand typed = by_level (is_level_at path) refl
     by_level false is = stand
 
 back_stands : (s : State) (caller : ℕ) (level : List Step) (remembered : List (List Step)) → Stand s.callers → All IsLevelPath remembered → Stands (exited s caller (to_last level remembered))
-back_stands s caller [] [] stand before = placed s caller _ _ stand top_levels
+back_stands s caller [] [] stand before = left_stands s caller stand
 back_stands s caller (step ∷ level) [] stand before = placed s caller _ _ stand top_levels
 back_stands s caller level (last ∷ more) stand before =
     placed s caller _ _ stand (record { here = All-head IsLevelPath last more before; before = All-tail IsLevelPath last more before })
 
-committed_stands : (s : State) (caller : ℕ) → Stand s.callers → Stands (committed s caller)
-committed_stands s caller stand = by_room (nat_lt s.kept.count MAX_ENTRIES)
+-- an entry leaves the sessions where they stand
+same_callers : (maker : Option ℕ) (entry : Entry) (s : State) → (committed_by maker entry s).callers ≡ s.callers
+same_callers maker (CommitOf commit) s = refl
+same_callers maker (ConfirmOf confirm) s = refl
+
+taken_stands : (s : State) (made : Made) → Stand s.callers → Stand (taken s made).callers
+taken_stands s made stand = subst Stand (sym (same_callers made.maker made.entry s)) stand
+
+makes_stands : (s : State) (caller : ℕ) (entry : Entry) (quit : Bool) (reply : Reply) → Stand s.callers → Stands (makes s caller entry quit reply)
+makes_stands s caller entry quit reply stand = by_room (nat_lt s.kept.count MAX_ENTRIES)
   where
-    by_room : (b : Bool) → Stands (cond b (answered (record s { kept = append_entry s.kept (commit_of s caller) }) Committed) (refused s Exhausted))
-    by_room true = stand
+    after : State
+    after = taken s (made_by caller entry)
+
+    by_quit : (q : Bool) → Stand (left_if q caller after).callers
+    by_quit true = left_stands after caller (taken_stands s (made_by caller entry) stand)
+    by_quit false = taken_stands s (made_by caller entry) stand
+
+    by_room : (b : Bool) → Stands (cond b (record { state = left_if quit caller after; reply = reply; made = Some (made_by caller entry) }) (refused s Exhausted))
+    by_room true = by_quit quit
     by_room false = stand
 
-checked_stands : (s : State) (turned after : Turned) → Stand s.callers → Stands after → Checks s turned after → Stands turned
-checked_stands s turned after stand more (inl checked) = stands_by turned after checked.1 more
-checked_stands s turned after stand more (inr broken) = stands_by turned _ broken.is stand
+checks_stand : (s : State) (turned after : Turned) → Stand s.callers → Stands after → Checks s turned after → Stands turned
+checks_stand s turned after stand more (inl checked) = stands_by turned after checked.1 more
+checks_stand s turned after stand more (inr broken) = stands_by turned _ broken.is stand
+
+checked_stands : (s : State) (caller : ℕ) (run : Option Unconfirmed) → Stand s.callers → Stands (checked s caller run)
+checked_stands s caller None stand = stand
+checked_stands s caller (Some run) stand = makes_stands s caller (ConfirmOf (confirm_of s caller)) false _ stand
+
+rolls_stand : (s : State) (n : ℕ) (commit : Option CommitMade) (turned : Turned) → Stand s.callers → RollsTo s n commit turned → Stands turned
+rolls_stand s n None turned stand rolls = stands_by turned _ rolls stand
+rolls_stand s n (Some commit) turned stand rolls = by_mode (n == 0) _ _ _ (λ is. stands_by turned _ is stand) replaced rolls
+  where
+    replaced : Replaces s commit.tree turned → Stands turned
+    replaced replaces = stands_by turned _ replaces.is stand
 
 shows_stand : (s : State) (m : Statements) (level : List Step) (asked : List (List ℕ)) (form : Form) (turned : Turned) → Stand s.callers → Shows s m level asked form turned → Stands turned
 shows_stand s m level asked form turned stand shows = subst (λ x. Stand x.callers) (sym (shows_stay s m level asked form turned shows)) stand
@@ -98,7 +135,11 @@ serves_stands s caller (Configure mode) turned stand serves =
     by_mode (is_configuring s caller) _ _ _ (λ is. stands_by turned _ is stand) (λ is. stands_by turned _ is (placed s caller _ _ stand top_levels)) serves
 serves_stands s caller (ShowActive asked form) turned stand serves =
     by_mode (is_configuring s caller) _ _ _ (λ is. stands_by turned _ is stand) (λ shows. shows_stand s (active_of s.kept) [] asked form turned stand shows) serves
-serves_stands s caller Logout turned stand serves = stands_by turned _ serves (placed s caller _ _ stand top_levels)
+serves_stands s caller ShowCommits turned stand serves = by_mode (is_configuring s caller) _ _ _ (λ is. stands_by turned _ is stand) listed serves
+  where
+    listed : Lists s turned → Stands turned
+    listed lists = stands_by turned _ lists.is stand
+serves_stands s caller Logout turned stand serves = stands_by turned _ serves (left_stands s caller stand)
 serves_stands s caller (Edit asked) turned stand serves =
     by_mode (is_configuring s caller) _ _ _ either_way (λ is. stands_by turned _ is stand) serves
   where
@@ -121,7 +162,7 @@ serves_stands s caller Exit turned stand serves =
     (λ is. stands_by turned _ is (back_stands s caller (position_of s caller).level (position_of s caller).remembered stand (levels_of s caller stand).before))
     (λ is. stands_by turned _ is stand) serves
 serves_stands s caller ExitAll turned stand serves =
-    by_mode (is_configuring s caller) _ _ _ (λ is. stands_by turned _ is (placed s caller _ _ stand top_levels)) (λ is. stands_by turned _ is stand) serves
+    by_mode (is_configuring s caller) _ _ _ (λ is. stands_by turned _ is (left_stands s caller stand)) (λ is. stands_by turned _ is stand) serves
 serves_stands s caller (Show asked form) turned stand serves =
     by_mode (is_configuring s caller) _ _ _ (λ shows. shows_stand s s.candidate (level_of s caller) asked form turned stand shows) (λ is. stands_by turned _ is stand) serves
 serves_stands s caller (Change op) turned stand serves =
@@ -130,35 +171,73 @@ serves_stands s caller (Change op) turned stand serves =
     either_way : Changes s caller op turned ⊎ IsUnchanged s caller op turned → Stands turned
     either_way (inl changes) = stands_by turned _ changes.is stand
     either_way (inr same) = stands_by turned _ same.is stand
+serves_stands s caller (Load way text) turned stand serves =
+    by_mode (is_configuring s caller) _ _ _ either_way (λ is. stands_by turned _ is stand) serves
+  where
+    either_way : Loads s way text turned ⊎ IsNotLoaded s way text turned → Stands turned
+    either_way (inl loads) = stands_by turned _ loads.is stand
+    either_way (inr same) = stands_by turned _ same.is stand
+serves_stands s caller (Rollback n) turned stand serves =
+    by_mode (is_configuring s caller) _ _ _ (λ rolls. rolls_stand s n (nth_last s.kept n) turned stand rolls) (λ is. stands_by turned _ is stand) serves
 serves_stands s caller CheckOnly turned stand serves =
-    by_mode (is_configuring s caller) _ _ _ (λ checks. checked_stands s turned _ stand stand checks) (λ is. stands_by turned _ is stand) serves
-serves_stands s caller Commit turned stand serves =
-    by_mode (is_configuring s caller) _ _ _ (λ checks. checked_stands s turned _ stand (committed_stands s caller stand) checks)
+    by_mode (is_configuring s caller) _ _ _ (λ checks. checks_stand s turned _ stand (checked_stands s caller s.kept.pending stand) checks) (λ is. stands_by turned _ is stand) serves
+serves_stands s caller (Commit minutes comment quit) turned stand serves =
+    by_mode (is_configuring s caller) _ _ _
+    (λ checks. checks_stand s turned _ stand (makes_stands s caller (CommitOf (commit_of s caller minutes comment)) quit _ stand) checks)
     (λ is. stands_by turned _ is stand) serves
 
-steps_stand : (s : State) (caller moment : ℕ) (event : Event) (turned : Turned) → Stand s.callers → Steps s caller moment event turned → Stands turned
-steps_stand s caller moment (CommandOf command) turned stand steps = serves_stands (later s moment) caller command turned stand steps
+-- what is left of what was to be done
+ends_stand : (outcome : Outcome) (s : State) (done turned : Turned) → Stand s.callers → Stands done → Ends outcome s done turned → Stands turned
+ends_stand IsDone s done turned stand more ends = stands_by turned _ ends more
+ends_stand Fault s done turned stand more ends = stands_by turned _ ends.is stand
+
+settled_stands : (s : State) (made : Made) (is_kept : Bool) → Stand s.callers → Stand (settled s made is_kept).callers
+settled_stands s made true stand = taken_stands s made stand
+settled_stands s made false stand = stand
+
+left_by_stands : (s : State) (caller : ℕ) (command : Command) → Stand s.callers → Stand (left_by s caller command).callers
+left_by_stands s caller command stand = by_logout (is_logout command)
+  where
+    by_logout : (b : Bool) → Stand (cond b (without_mode s caller) s).callers
+    by_logout true = left_stands s caller stand
+    by_logout false = stand
+
+from_stands : (waiting : Waiting) (s : State) (caller : ℕ) (event : Event) (outcome : Outcome) (turned : Turned) → Stand s.callers → StepsFrom waiting s caller event outcome turned → Stands turned
+from_stands (InFlight made) s caller (Settle is_kept) IsDone turned stand steps = stands_by turned _ steps (settled_stands s made is_kept stand)
+from_stands (InFlight made) s caller (Settle is_kept) Fault turned stand steps = absurd steps
+from_stands (InFlight made) s caller Revert outcome turned stand steps = absurd steps
+from_stands (InFlight made) s caller (CommandOf command) IsDone turned stand steps = absurd steps
+from_stands (InFlight made) s caller (CommandOf command) Fault turned stand steps = stands_by turned _ steps (left_by_stands s caller command stand)
+from_stands Missed s caller (Settle is_kept) outcome turned stand steps = absurd steps
+from_stands Missed s caller Revert outcome turned stand steps = ends_stand outcome s (reverted s) turned stand (taken_stands s (revert_made s) stand) steps
+from_stands Missed s caller (CommandOf command) outcome turned stand steps = absurd steps
+from_stands Free s caller (Settle is_kept) outcome turned stand steps = absurd steps
+from_stands Free s caller Revert outcome turned stand steps = absurd steps
+from_stands Free s caller (CommandOf command) outcome turned stand steps = ends_stand outcome s steps.done turned stand (serves_stands s caller command steps.done stand steps.serves) steps.ends
+
+steps_stand : (s : State) (caller moment : ℕ) (event : Event) (outcome : Outcome) (turned : Turned) → Stand s.callers → Steps s caller moment event outcome turned → Stands turned
+steps_stand s caller moment event outcome turned stand steps = from_stands (waiting_of s moment) (later s moment) caller event outcome turned stand steps
 
 leads_stand : (s : State) (events : List Happened) (last : State) → Stand s.callers → Leads s events last → Stand last.callers
 leads_stand s [] last stand leads = subst (λ x. Stand x.callers) (sym leads) stand
 leads_stand s (event ∷ events) last stand leads =
-    leads_stand leads.1.state events last (steps_stand s event.caller event.moment event.event leads.1 stand leads.2) leads.3
+    leads_stand leads.1.state events last (steps_stand s event.caller event.moment event.event event.outcome leads.1 stand leads.2) leads.3
 
 pub same_some : {A : Type 0} (a b : A) → Some a ≡ Some b → a ≡ b
 same_some a b e = cc
 
-module _ (step_once : (s : State) (caller moment : ℕ) (event : Event) (one other : Turned) → IsLevelPath (level_of s caller)
-    → Steps s caller moment event one → Steps s caller moment event other → one ≡ other) where
-  event_once : (s : State) (event : Happened) (one other : Turned) → Stand s.callers → Steps s event.caller event.moment event.event one
-      → Steps s event.caller event.moment event.event other → one ≡ other
-  event_once s event one other stand = step_once s event.caller event.moment event.event one other (levels_of s event.caller stand).here
+module _ (step_once : (s : State) (caller moment : ℕ) (event : Event) (outcome : Outcome) (one other : Turned) → IsLevelPath (level_of s caller)
+    → Steps s caller moment event outcome one → Steps s caller moment event outcome other → one ≡ other) where
+  event_once : (s : State) (event : Happened) (one other : Turned) → Stand s.callers → Steps s event.caller event.moment event.event event.outcome one
+      → Steps s event.caller event.moment event.event event.outcome other → one ≡ other
+  event_once s event one other stand = step_once s event.caller event.moment event.event event.outcome one other (levels_of s event.caller stand).here
 
   -- the events lead to one state
   pub leads_once : (s : State) (events : List Happened) (one other : State) → Stand s.callers → Leads s events one → Leads s events other → one ≡ other
   leads_once s [] one other stand a b = a ∙ sym b
   leads_once s (event ∷ events) one other stand a b =
       let same : a.1 ≡ b.1 = event_once s event a.1 b.1 stand a.2 b.2 in
-      leads_once b.1.state events one other (steps_stand s event.caller event.moment event.event b.1 stand b.2)
+      leads_once b.1.state events one other (steps_stand s event.caller event.moment event.event event.outcome b.1 stand b.2)
       (subst (λ t. Leads t.state events one) same a.3) b.3
 
   -- at a place there is one event, after one state, with one reply
@@ -167,8 +246,8 @@ module _ (step_once : (s : State) (caller moment : ℕ) (event : Event) (one oth
   at_once s events place before again event same one other stand a b =
       let is_event : event ≡ same = same_some event same (sym a.is ∙ b.is) in
       let is_before : before ≡ again = leads_once s (take place events) before again stand a.leads b.leads in
-      let steps : Steps again same.caller same.moment same.event a.turned =
-      subst (λ e. Steps again e.caller e.moment e.event a.turned) is_event
-      (subst (λ x. Steps x event.caller event.moment event.event a.turned) is_before a.steps) in
+      let steps : Steps again same.caller same.moment same.event same.outcome a.turned =
+      subst (λ e. Steps again e.caller e.moment e.event e.outcome a.turned) is_event
+      (subst (λ x. Steps x event.caller event.moment event.event event.outcome a.turned) is_before a.steps) in
       let is_turned : a.turned ≡ b.turned = event_once again same a.turned b.turned (leads_stand s (take place events) again stand b.leads) steps b.steps in
       (is_event, is_before, a.replied ∙ ap (λ t. t.reply) is_turned ∙ sym b.replied)

@@ -1,5 +1,1 @@
 pub mod Events
-pub mod Told
-pub mod Items
-pub mod Session
-pub mod Undisturbed

@@ -1,5 +1,6 @@
 use cfg_base::{Calls, Moment, Users};
-use config_core::{Event, Ledger, Outcome};
+use commit_ledger::Ledger;
+use config_core::{Event, Outcome};
 
 /// One event as the machine took it.
 #[derive(Clone, Debug, Drop, PartialEq, Eq)]

@@ -1,16 +1,14 @@
-//! A history has one outcome and keeps the active configuration accepted, and a session has one text.
+//! A history has one outcome, and keeps the active configuration accepted.
 
-ghost use Rattle.std.specs.Prelude.{◌≡◌, ℕ, List, []};
-ghost use Rattle.config_core.specs.Kept.{Kept};
-ghost use Rattle.config_core.specs.State.{State, IsActiveAccepted, opening_of};
+ghost use Rattle.std.specs.Prelude.{◌≡◌, ℕ, List};
+ghost use Rattle.commit_ledger.specs.Kept.{Kept};
+ghost use Rattle.config_core.specs.Soundness.{IsSoundState};
+ghost use Rattle.config_core.specs.State.{State, opening_of};
 ghost use Rattle.config_core.specs.declared.reply.Reply.{Reply};
 ghost use Rattle.session_history.specs.declared.history.Happened.{Happened};
-ghost use Rattle.session_history.specs.Events.{Leads, IsLegal, IsAt, StaysAccepted, places_of};
-ghost use Rattle.session_history.specs.Session.{Sides};
-ghost use Rattle.session_history.specs.Undisturbed.{Undisturbed, RepliesAgree};
+ghost use Rattle.session_history.specs.Events.{IsAt, IsLegal, Leads, StaysAccepted};
 
 use config_core::{active_configuration_stays_accepted, steps_have_one_outcome};
-use shell_words::lines_are_read_in_one_way;
 
 /// The events of a run lead to one state, and what happened at a place of them is one event, with one reply.
 pub fn histories_have_one_outcome()
@@ -23,28 +21,9 @@ pub fn histories_have_one_outcome()
     steps_have_one_outcome();
 }
 
-/// Where events lead on from an accepted active configuration, it is accepted at the opening and after every one of them.
+/// Where events lead on from a sound state, the active configuration is accepted at the opening and after every one of them.
 pub fn histories_stay_accepted()
-    ensures { (s : State) (events : List Happened) → IsActiveAccepted s → IsLegal s events → StaysAccepted s events }
+    ensures { (s : State) (events : List Happened) → IsSoundState s → IsLegal s events → StaysAccepted s events }
 {
     active_configuration_stays_accepted();
-}
-
-/// Two sessions over the same bytes and the same clock that nothing disturbs have the same turns and the same text, where their
-/// events stand at the same places and the histories reply alike there, which those of one history do. Where each made all the
-/// events of its history, nothing more is asked, and the histories are one too.
-pub fn sessions_have_one_text()
-    ensures text { (opening : State) (caller limit : ℕ) (bytes : List ℕ) (coming : ℕ → ℕ) (one other : Sides)
-        → Undisturbed opening caller limit bytes coming one → Undisturbed opening caller limit bytes coming other
-        → places_of caller one.events ≡ places_of caller other.events → RepliesAgree opening caller one.events other.events
-        → (one.turns ≡ other.turns) × (one.held ≡ other.held) }
-    ensures replies { (kept : Kept) (users : List (List ℕ)) (caller : ℕ) (events : List Happened)
-        → RepliesAgree (opening_of kept users) caller events events }
-    ensures alone { (kept : Kept) (users : List (List ℕ)) (caller limit : ℕ) (bytes : List ℕ) (coming : ℕ → ℕ) (one other : Sides)
-        → (first : Undisturbed (opening_of kept users) caller limit bytes coming one)
-        → (second : Undisturbed (opening_of kept users) caller limit bytes coming other) → first.before ≡ [] → second.before ≡ []
-        → (one.turns ≡ other.turns) × (one.held ≡ other.held) × (one.events ≡ other.events) }
-{
-    histories_have_one_outcome();
-    lines_are_read_in_one_way();
 }

@@ -4,4 +4,4 @@ use Rattle.service.specs.Log.{opened}
 use Rattle.service.proofs.book.Book.into_history.Goals as goal
 
 pub returns-clause-legal : goal.returns-clause-legal
-returns-clause-legal c = subst (λ log. IsLegal (opened log) log.events) c.self.view_is (c.self.inside.core, c.self.invariant)
+returns-clause-legal c = subst (λ log. IsLegal (opened log) log.events) c.self.view_is (c.self.inside.core, c.self.invariant.leads)
