@@ -1,9 +1,9 @@
 //! Commands by their words.
 
-use crate::answers::{say, say_number, say_words};
+use crate::answers::{put_bytes, say, say_number, say_words};
 use crate::fault::Fault;
-use cfg_base::Words;
-use commands::{Command, Form, Mode, Op};
+use cfg_base::{Bytes, Word, Words};
+use commands::{Command, Form, LoadWay, Mode, Op};
 
 fn mark_of(before: bool) -> &'static str {
     if before { "before" } else { "after" }
@@ -55,12 +55,66 @@ fn show_as(form: Form) -> &'static str {
     }
 }
 
+/// A load, without its text.
+pub(crate) fn load_as(way: LoadWay) -> &'static str {
+    match way {
+        LoadWay::Merge => "load merge",
+        LoadWay::Override => "load override",
+        LoadWay::Replace => "load replace",
+        LoadWay::SetLines => "load set",
+    }
+}
+
+/// A load with its text's number of bytes.
+fn say_load(out: &mut String, way: LoadWay, text: &Bytes) -> Result<(), Fault> {
+    let name = load_as(way);
+    let count = text.as_slice().len();
+    writeln!(out, "= {name} of {count}")?;
+    Ok(())
+}
+
+/// The minutes of a commit that is to be confirmed.
+pub(crate) fn put_minutes(out: &mut String, minutes: u32) -> Result<(), Fault> {
+    if minutes > 0 {
+        write!(out, " confirmed {minutes}")?;
+    }
+    Ok(())
+}
+
+/// The end of a commit's line, which says whether it leaves configuration mode.
+pub(crate) fn put_quit(out: &mut String, quit: bool) -> Result<(), Fault> {
+    out.push_str(if quit { " and-quit\n" } else { "\n" })?;
+    Ok(())
+}
+
+fn put_comment(out: &mut String, comment: &Word) -> Result<(), Fault> {
+    if !comment.as_bytes().is_empty() {
+        out.push_str(" comment")?;
+        put_bytes(out, comment.as_bytes())?;
+    }
+    Ok(())
+}
+
+/// A commit with the options that it has.
+fn say_commit(out: &mut String, minutes: u32, comment: &Word, quit: bool) -> Result<(), Fault> {
+    out.push_str("= commit")?;
+    put_minutes(out, minutes)?;
+    put_comment(out, comment)?;
+    put_quit(out, quit)
+}
+
+fn say_rollback(out: &mut String, n: u32) -> Result<(), Fault> {
+    writeln!(out, "= rollback {n}")?;
+    Ok(())
+}
+
 pub(crate) fn say_command(out: &mut String, command: &Command) -> Result<(), Fault> {
     match command {
         Command::Configure(Mode::Shared) => say(out, "configure"),
         Command::ShowActive { words, form } => {
             say_words(out, show_active_as(*form), words.as_slice())
         }
+        Command::ShowCommits => say(out, "show commits"),
         Command::Logout => say(out, "log out"),
         Command::Edit(words) => say_words(out, "edit", words.as_slice()),
         Command::Up(levels) => {
@@ -72,7 +126,13 @@ pub(crate) fn say_command(out: &mut String, command: &Command) -> Result<(), Fau
         Command::ExitAll => say(out, "exit all"),
         Command::Show { words, form } => say_words(out, show_as(*form), words.as_slice()),
         Command::Change(op) => say_change(out, op),
+        Command::Load { way, text } => say_load(out, *way, text),
+        Command::Rollback(n) => say_rollback(out, *n),
         Command::CheckOnly => say(out, "commit check"),
-        Command::Commit => say(out, "commit"),
+        Command::Commit {
+            minutes,
+            comment,
+            quit,
+        } => say_commit(out, *minutes, comment, *quit),
     }
 }

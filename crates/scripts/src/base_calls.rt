@@ -97,7 +97,7 @@ fn copy_words(alloc: Global, args: &[Arg], out: &mut String) -> Result<(), Fault
 fn copy_set(alloc: Global, args: &[Arg], out: &mut String) -> Result<(), Fault> {
     let command = Command::Change(Op::Set(words_of(alloc, args)?));
     say_flag(out, command.clone()? == command)?;
-    say_flag(out, command == Command::Commit)
+    say_flag(out, command == Command::CheckOnly)
 }
 
 /// copy_bytes BYTES

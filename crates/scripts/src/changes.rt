@@ -52,7 +52,7 @@ pub(crate) fn op_of(alloc: Global, call: &str, args: &[Arg]) -> Result<Option<Op
     }
 }
 
-fn say_fault(out: &mut String, fault: &EditFault) -> Result<(), Fault> {
+pub(crate) fn say_fault(out: &mut String, fault: &EditFault) -> Result<(), Fault> {
     match fault {
         EditFault::Unknown(path) => say_path(out, "unknown", path),
         EditFault::BadValue(path) => say_path(out, "bad value", path),

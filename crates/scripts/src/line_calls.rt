@@ -1,11 +1,11 @@
 //! Calls that read a line of a session. What stands behind the mode and a blank is the line, blanks and all.
 
 use crate::answers::{say, say_flag};
-use crate::asking::say_command;
+use crate::asking::{load_as, say_command};
 use crate::fault::Fault;
 use crate::words::{Arg, bytes_of, first_and_rest};
 use cfg_lex::is_plain;
-use shell_words::{ReadFault, read_line};
+use shell_words::{ReadFault, Words0, read_line};
 use std::alloc::Global;
 
 /// Whether the mode is configuration mode.
@@ -23,7 +23,8 @@ pub(crate) fn ask_line(alloc: Global, text: &str, out: &mut String) -> Result<()
     let line = bytes_of(alloc, line)?;
     match read_line(alloc, is_configuration(mode)?, &line) {
         Ok(None) => say(out, "nothing"),
-        Ok(Some(command)) => say_command(out, &command),
+        Ok(Some(Words0::Whole(command))) => say_command(out, &command),
+        Ok(Some(Words0::NeedsText(way))) => say(out, load_as(way)),
         Err(ReadFault::Syntax(place)) => {
             writeln!(out, "= syntax error at byte {place}")?;
             Ok(())

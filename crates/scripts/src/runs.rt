@@ -7,12 +7,13 @@ use crate::fault::Fault;
 use crate::stage::Stage;
 use crate::words::{Arg, words_of};
 use cfg_base::{NoMemory, UserName};
-use config_core::Event;
+use config_core::{Event, Outcome};
 use disk_model::MemDisk;
 use io_edge::{ListBeat, ListClock, ListSource, VecSink};
 use reply_text::ShellFault;
-use service::{Closed, End, Ticker, run};
-use session_history::{Happened, History, Turn};
+use service::{Closed, Ticker, run};
+use session_history::{Happened, History};
+use session_shell::{End, Turn};
 use std::alloc::Global;
 use std::sync::Wait;
 use std::thread::Threads;
@@ -69,6 +70,7 @@ fn say_turn(out: &mut String, turn: &Turn) -> Result<(), Fault> {
             "= turn syntax error at byte {place}"
         )?,
         Turn::Local(ShellFault::LineTooLong) => say(out, "turn line too long")?,
+        Turn::Local(ShellFault::TextTooLong) => say(out, "turn text too long")?,
         Turn::NoMemory => say(out, "turn no memory")?,
     }
     Ok(())
@@ -81,7 +83,14 @@ fn say_event(out: &mut String, happened: &Happened) -> Result<(), Fault> {
     let b = happened.calls.b;
     writeln!(out, "= event of {caller} at {moment} calls {a} {b}")?;
     match &happened.event {
-        Event::Command(command) => say_command(out, command),
+        Event::Settle(true) => say(out, "settle kept")?,
+        Event::Settle(false) => say(out, "settle lost")?,
+        Event::Revert => say(out, "revert")?,
+        Event::Command(command) => say_command(out, command)?,
+    }
+    match happened.outcome {
+        Outcome::Done => Ok(()),
+        Outcome::Fault => say(out, "failing"),
     }
 }
 

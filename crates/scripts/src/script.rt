@@ -3,8 +3,10 @@
 use crate::answers::say_flag;
 use crate::changes::{change, look, op_of};
 use crate::fault::Fault;
+use crate::ledger_calls::{add_record, ask_ledger, ask_payload};
 use crate::level::{ask_resolve, level_of};
 use crate::line_calls::{ask_line, ask_plain};
+use crate::load_calls::{ask_load, way_of};
 use crate::runs::{ask_output, ask_run};
 use crate::stage::Stage;
 use crate::steps::{Machine, ask_step};
@@ -14,6 +16,8 @@ use crate::{
     text_calls, value_calls,
 };
 use cfg_tree::Tree;
+use commands::LoadWay;
+use record_code::Payloads;
 use std::alloc::{AllocError, Global};
 use std::mem;
 use std::sync::Wait;
@@ -31,6 +35,8 @@ pub(crate) struct Script {
     level: Vec<Arg>,
     /// The text that is read by calls that have none.
     text: Vec<u8>,
+    /// The records that are read as a list of commits.
+    records: Payloads,
     stage: Stage,
     machine: Machine,
 }
@@ -65,6 +71,7 @@ impl Script {
             kept: Vec::new(alloc),
             level: Vec::new(alloc),
             text: Vec::new(alloc),
+            records: Payloads::new(alloc),
             stage: Stage::new(alloc),
             machine: Machine::new(alloc).map_err(|_| AllocError)?,
         })
@@ -113,7 +120,7 @@ impl Script {
                 || look(self.alloc, &self.tree, name, args, out)?
                 || group_calls::ask(self.alloc, &self.tree, name, args, out)?
                 || check_calls::ask(self.alloc, &self.tree, name, out)?
-                || self.machine.look(name, args, out)?,
+                || self.machine.answer(name, args, out)?,
         )
     }
 
@@ -127,7 +134,13 @@ impl Script {
         self.tree = mem::replace(&mut self.other, tree);
     }
 
-    /// Takes a line that answers nothing, compares the two trees or keeps one, and tells whether it is one.
+    /// What the records that are kept read as; none is kept then.
+    fn read_records(&mut self, out: &mut String) -> Result<(), Fault> {
+        let records = mem::replace(&mut self.records, Payloads::new(self.alloc));
+        ask_ledger(self.alloc, &records, out)
+    }
+
+    /// Takes a line of something that is kept, and tells whether it is one.
     fn keep(&mut self, name: &str, args: &[Arg], out: &mut String) -> Result<bool, Fault> {
         match (name, args) {
             ("clear", []) => self.clear(),
@@ -136,6 +149,9 @@ impl Script {
             ("keep", []) => kept::keep(self.alloc, &mut self.kept, &self.tree, out)?,
             ("same", []) => say_flag(out, self.tree.same(&self.other))?,
             ("machine", []) => self.machine = Machine::new(self.alloc)?,
+            ("record", _) => add_record(self.alloc, &mut self.records, args)?,
+            ("ledger_of", []) => self.read_records(out)?,
+            ("payload", _) => ask_payload(self.alloc, &self.tree, args, out)?,
             _ => return self.stage.take(self.alloc, name, args),
         }
         Ok(true)
@@ -181,14 +197,29 @@ impl Script {
         Ok(())
     }
 
-    /// A call that reads a text: the one behind it, or the one that is kept, in whose place stands none.
+    /// The text that is kept, in whose place stands none.
+    fn taken_text(&mut self) -> Vec<u8> {
+        mem::replace(&mut self.text, Vec::new(self.alloc))
+    }
+
+    /// The text behind a call, or the one that is kept.
+    fn text_behind(&mut self, rest: &str) -> Result<Vec<u8>, Fault> {
+        if rest.is_empty() {
+            return Ok(self.taken_text());
+        }
+        bytes_of(self.alloc, rest)
+    }
+
+    /// A call that reads a text.
     fn read_text(&mut self, name: &str, rest: &str, out: &mut String) -> Result<(), Fault> {
-        let text = if rest.is_empty() {
-            mem::replace(&mut self.text, Vec::new(self.alloc))
-        } else {
-            bytes_of(self.alloc, rest)?
-        };
+        let text = self.text_behind(rest)?;
         text_calls::ask(self.alloc, &mut self.tree, name, &text, out)
+    }
+
+    /// A call that loads a text.
+    fn load_text(&mut self, way: LoadWay, rest: &str, out: &mut String) -> Result<(), Fault> {
+        let text = self.text_behind(rest)?;
+        ask_load(self.alloc, &mut self.tree, way, &text, out)
     }
 
     /// What a line answers that is no `each`.
@@ -207,8 +238,21 @@ impl Script {
             "tokens" | "parse" | "parse_lines" => self.read_text(name, rest, &mut out)?,
             "read_line" => ask_line(self.alloc, rest, &mut out)?,
             "run" | "run_output" => self.run(rt, name, rest, &mut out)?,
-            "step" => ask_step(self.alloc, &mut self.machine, rest, &mut out)?,
-            _ => self.answer_words(name, args_of(self.alloc, rest)?, &mut out)?,
+            "step" | "failing_step" => {
+                let failing = name == "failing_step";
+                ask_step(
+                    self.alloc,
+                    &mut self.machine,
+                    &mut self.text,
+                    failing,
+                    rest,
+                    &mut out,
+                )?
+            }
+            _ => match way_of(name) {
+                Some(way) => self.load_text(way, rest, &mut out)?,
+                None => self.answer_words(name, args_of(self.alloc, rest)?, &mut out)?,
+            },
         }
         Ok(out)
     }

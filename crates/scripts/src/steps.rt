@@ -1,18 +1,24 @@
-//! Steps of four callers on one machine.
+//! Steps of four callers on one machine, with faults of its disk.
 
 ghost use Rattle.std.specs.Prelude.{◌≡◌, ◌<◌, ◌≤◌, length, IfOk};
+ghost use Rattle.commands.specs.Sound.{IsSound};
+ghost use Rattle.config_core.specs.Machine.{Fits};
+ghost use Rattle.config_core.specs.Prepared.{Follows};
 
-use crate::answers::{say, say_bytes, say_number, say_path, say_text};
+use crate::answers::{say, say_bytes, say_path};
 use crate::base_calls::user_of;
-use crate::check_calls::say_broken;
 use crate::fault::Fault;
+use crate::ledger_calls::say_pending;
 use crate::line_calls::is_configuration;
+use crate::replies::say_reply;
 use crate::words::{Arg, bytes_of, first_and_rest, number, small_number};
-use cfg_base::{Moment, Users};
-use commands::{Command, Mode};
-use config_core::{Core, Event, Ledger, Outcome, Refusal, Reply, Via};
-use shell_words::read_line;
+use cfg_base::{Bytes, Moment, Users};
+use commands::Command;
+use commit_ledger::{Ledger, Via};
+use config_core::{Core, Event, Need, Outcome, Prepared, Reply};
+use shell_words::{Words0, read_line};
 use std::alloc::Global;
+use std::mem;
 
 /// The machine over the factory commit, for `alice`, `bob`, `carol` and `dave`.
 #[derive(Drop)]
@@ -32,6 +38,13 @@ fn caller_of(number: &[u8]) -> Result<u32, Fault>
     Ok(caller)
 }
 
+/// That moment, or the last event's where that is later.
+fn later(core: &Core, moment: Moment) -> Moment
+    ensures { core.now.greatest ≤ result }
+{
+    core.greatest().later(moment)
+}
+
 impl Machine {
     pub(crate) fn new(alloc: Global) -> Result<Machine, Fault> {
         let mut users = Users::new(alloc);
@@ -44,13 +57,140 @@ impl Machine {
         })
     }
 
-    /// The reply to a caller's command, at that moment or at the last one where that is later.
-    fn step(&mut self, caller: u32, moment: Moment, command: Command) -> Result<Reply, Fault>
-        requires { (0 < caller) × (caller ≤ 4) }
+    fn accept(&mut self, prepared: Prepared, outcome: Outcome) -> Reply
+        requires { Follows prepared self.old.core }
     {
-        let moment = self.core.greatest().later(moment);
-        let prepared = self.core.prepare(caller, moment, &Event::Command(command))?;
-        Ok(self.core.accept(prepared, Outcome::Done))
+        self.core.accept(prepared, outcome)
+    }
+
+    /// An event that is carried out.
+    fn done(&mut self, caller: u32, moment: Moment, event: &Event) -> Result<Reply, Fault>
+        requires { Fits self.old.core caller moment event.now }
+    {
+        let prepared = self.core.prepare(caller, moment, event)?;
+        Ok(self.accept(prepared, Outcome::Done))
+    }
+
+    /// An event with which the disk fails.
+    fn failed(&mut self, caller: u32, moment: Moment, event: &Event) -> Result<Reply, Fault>
+        requires { Fits self.old.core caller moment event.now }
+    {
+        let prepared = self.core.prepare(caller, moment, event)?;
+        Ok(self.accept(prepared, Outcome::Fault))
+    }
+
+    /// A command of which the entry fails.
+    fn failed_entry(&mut self, caller: u32, moment: Moment, event: &Event) -> Result<Reply, Fault>
+        requires { Fits self.old.core caller moment event.now }
+    {
+        let prepared = self.core.prepare(caller, moment, event)?;
+        if prepared.entry().is_none() {
+            return Err(Fault::Script("the command makes an entry"));
+        }
+        Ok(self.accept(prepared, Outcome::Fault))
+    }
+
+    /// The reply to a command that nothing comes before.
+    fn ask(&mut self, caller: u32, moment: Moment, command: Command) -> Result<Reply, Fault>
+        requires caller { (0 < caller) × (caller ≤ 4) }
+        requires sound { IsSound command }
+    {
+        let moment = later(&self.core, moment);
+        match self.core.next(moment) {
+            Need::Nothing => self.done(caller, moment, &Event::Command(command)),
+            Need::Settle => Err(Fault::Script("no entry is in flight")),
+            Need::Revert => Err(Fault::Script("no deadline is due")),
+        }
+    }
+
+    /// The reply to a command while the disk fails.
+    fn ask_failing(&mut self, caller: u32, moment: Moment, command: Command) -> Result<Reply, Fault>
+        requires caller { (0 < caller) × (caller ≤ 4) }
+        requires sound { IsSound command }
+    {
+        let moment = later(&self.core, moment);
+        match self.core.next(moment) {
+            Need::Nothing => self.failed_entry(caller, moment, &Event::Command(command)),
+            Need::Settle => self.failed(caller, moment, &Event::Command(command)),
+            Need::Revert => Err(Fault::Script("no deadline is due")),
+        }
+    }
+
+    fn settle(&mut self, moment: Moment, kept: bool) -> Result<Reply, Fault> {
+        let moment = later(&self.core, moment);
+        match self.core.next(moment) {
+            Need::Settle => self.done(0, moment, &Event::Settle(kept)),
+            Need::Revert | Need::Nothing => Err(Fault::Script("an entry is in flight")),
+        }
+    }
+
+    fn revert(&mut self, moment: Moment) -> Result<Reply, Fault> {
+        let moment = later(&self.core, moment);
+        match self.core.next(moment) {
+            Need::Revert => self.done(0, moment, &Event::Revert),
+            Need::Settle | Need::Nothing => Err(Fault::Script("a deadline is due")),
+        }
+    }
+
+    fn revert_failing(&mut self, moment: Moment) -> Result<Reply, Fault> {
+        let moment = later(&self.core, moment);
+        match self.core.next(moment) {
+            Need::Revert => self.failed(0, moment, &Event::Revert),
+            Need::Settle | Need::Nothing => Err(Fault::Script("a deadline is due")),
+        }
+    }
+
+    fn need(&self, moment: Moment) -> Need {
+        self.core.next(later(&self.core, moment))
+    }
+
+    /// Rolls back what is due, and says so.
+    fn revert_due(&mut self, moment: Moment, out: &mut String) -> Result<(), Fault> {
+        if self.need(moment) == Need::Revert {
+            self.revert(moment)?;
+            say(out, "reverted")?;
+        }
+        Ok(())
+    }
+
+    /// need SECONDS
+    fn ask_need(&self, args: &[Arg], out: &mut String) -> Result<(), Fault> {
+        let [seconds] = args else {
+            return Err(Fault::Script("need SECONDS"));
+        };
+        match self.need(Moment::of(number(seconds)?)) {
+            Need::Settle => say(out, "settle"),
+            Need::Revert => say(out, "revert"),
+            Need::Nothing => say(out, "nothing"),
+        }
+    }
+
+    /// settle SECONDS kept|lost
+    fn ask_settle(&mut self, args: &[Arg], out: &mut String) -> Result<(), Fault> {
+        let [seconds, end] = args else {
+            return Err(Fault::Script("settle SECONDS kept|lost"));
+        };
+        let moment = Moment::of(number(seconds)?);
+        let reply = match end.as_slice() {
+            b"kept" => self.settle(moment, true)?,
+            b"lost" => self.settle(moment, false)?,
+            _ => return Err(Fault::Script("settle SECONDS kept|lost")),
+        };
+        say_reply(out, &reply)
+    }
+
+    /// revert SECONDS done|failing
+    fn ask_revert(&mut self, args: &[Arg], out: &mut String) -> Result<(), Fault> {
+        let [seconds, end] = args else {
+            return Err(Fault::Script("revert SECONDS done|failing"));
+        };
+        let moment = Moment::of(number(seconds)?);
+        let reply = match end.as_slice() {
+            b"done" => self.revert(moment)?,
+            b"failing" => self.revert_failing(moment)?,
+            _ => return Err(Fault::Script("revert SECONDS done|failing")),
+        };
+        say_reply(out, &reply)
     }
 
     /// level_of CALLER
@@ -82,68 +222,66 @@ impl Machine {
         Ok(())
     }
 
-    /// Answers a look at the machine, and tells whether the call is one.
-    pub(crate) fn look(&self, call: &str, args: &[Arg], out: &mut String) -> Result<bool, Fault> {
+    /// Answers a look at the machine or an event that is no command, and tells whether the call is one.
+    pub(crate) fn answer(
+        &mut self,
+        call: &str,
+        args: &[Arg],
+        out: &mut String,
+    ) -> Result<bool, Fault> {
         match call {
             "level_of" => self.ask_level(args, out)?,
             "ledger" => self.ask_ledger(out)?,
+            "pending" => say_pending(out, self.core.ledger())?,
+            "need" => self.ask_need(args, out)?,
+            "settle" => self.ask_settle(args, out)?,
+            "revert" => self.ask_revert(args, out)?,
             _ => return Ok(false),
         }
         Ok(true)
     }
 }
 
-fn say_refusal(out: &mut String, refusal: &Refusal) -> Result<(), Fault> {
-    match refusal {
-        Refusal::WrongMode => say(out, "wrong mode"),
-        Refusal::Unknown(path) => say_path(out, "unknown", path),
-        Refusal::BadValue(path) => say_path(out, "bad value", path),
-        Refusal::Incomplete(path) => say_path(out, "incomplete", path),
-        Refusal::Extra(path) => say_path(out, "extra", path),
-        Refusal::NotNamed(path) => say_path(out, "not named", path),
-        Refusal::NotOrdered(path) => say_path(out, "not ordered", path),
-        Refusal::NotThere(path) => say_path(out, "not there", path),
-        Refusal::AlreadyThere(path) => say_path(out, "already there", path),
-        Refusal::NotALevel(path) => say_path(out, "not a level", path),
-        Refusal::Protected(path) => say_path(out, "protected", path),
-        Refusal::TooMany => say(out, "too many"),
-        Refusal::TooWide => say(out, "too wide"),
-        Refusal::Check { number, path } => say_broken(out, *number, path),
-        Refusal::Exhausted => say(out, "exhausted"),
+/// The command of a line; a load has the text that is kept, and none is kept then.
+fn command_of(
+    alloc: Global,
+    configuring: bool,
+    line: &[u8],
+    kept: &mut Vec<u8>,
+) -> Result<Command, Fault>
+    ensures { IfOk result IsSound }
+{
+    match read_line(alloc, configuring, line) {
+        Ok(Some(Words0::Whole(command))) => Ok(command),
+        Ok(Some(Words0::NeedsText(way))) => Ok(Command::Load {
+            way,
+            text: Bytes::from(mem::replace(kept, Vec::new(alloc))),
+        }),
+        _ => Err(Fault::Script("the line of a step is a command")),
     }
 }
 
-fn say_reply(out: &mut String, reply: &Reply) -> Result<(), Fault> {
-    match reply {
-        Reply::Done => say(out, "done"),
-        Reply::LoggedOut => say(out, "logged out"),
-        Reply::Text(text) => {
-            say_number(out, text.as_slice().len() as u64)?;
-            say_text(out, text.as_slice())
-        }
-        Reply::Entered(Mode::Shared) => say(out, "entered"),
-        Reply::Left => say(out, "left"),
-        Reply::Checked => say(out, "checked"),
-        Reply::Committed => say(out, "committed"),
-        Reply::Refused(refusal) => say_refusal(out, refusal),
-    }
-}
-
-/// step CALLER SECONDS operational|configuration LINE, where the mode says how the line is read
+/// step and failing_step CALLER SECONDS operational|configuration LINE, where the mode says how the line is read
 pub(crate) fn ask_step(
     alloc: Global,
     machine: &mut Machine,
+    kept: &mut Vec<u8>,
+    failing: bool,
     text: &str,
     out: &mut String,
 ) -> Result<(), Fault> {
     let (caller, text) = first_and_rest(text);
-    let (moment, text) = first_and_rest(text);
+    let (seconds, text) = first_and_rest(text);
     let (mode, line) = first_and_rest(text);
+    let caller = caller_of(caller.as_bytes())?;
+    let moment = Moment::of(number(seconds.as_bytes())?);
     let line = bytes_of(alloc, line)?;
-    let Ok(Some(command)) = read_line(alloc, is_configuration(mode)?, &line) else {
-        return Err(Fault::Script("the line of a step is a command"));
+    let command = command_of(alloc, is_configuration(mode)?, &line, kept)?;
+    let reply = if failing {
+        machine.ask_failing(caller, moment, command)?
+    } else {
+        machine.revert_due(moment, out)?;
+        machine.ask(caller, moment, command)?
     };
-    let moment = Moment::of(number(moment.as_bytes())?);
-    let reply = machine.step(caller_of(caller.as_bytes())?, moment, command)?;
     say_reply(out, &reply)
 }

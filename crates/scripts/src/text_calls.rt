@@ -78,7 +78,11 @@ fn ask_tokens(alloc: Global, text: &[u8], out: &mut String) -> Result<(), Fault>
     }
 }
 
-fn say_text_fault(out: &mut String, fault: TextFault, end: Option<u32>) -> Result<(), Fault> {
+pub(crate) fn say_text_fault(
+    out: &mut String,
+    fault: TextFault,
+    end: Option<u32>,
+) -> Result<(), Fault> {
     match fault {
         TextFault::BadByte(place) => say_at(out, "bad byte", place),
         TextFault::OpenComment(place) => say_at(out, "comment not closed", place),
@@ -119,7 +123,7 @@ fn ask_parse(
     }
 }
 
-fn say_fault_of_line(out: &mut String, line: u32, place: u32) -> Result<(), Fault> {
+pub(crate) fn say_fault_of_line(out: &mut String, line: u32, place: u32) -> Result<(), Fault> {
     writeln!(out, "= line {line} syntax error at byte {place}")?;
     Ok(())
 }
