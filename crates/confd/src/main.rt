@@ -1,65 +1,55 @@
-//! The program of the configuration service: its words, its standard input and output, the system's clock, and its exit
-//! status.
+//! The program of the configuration service: its words, the ends that they name, the system's clock, and its exit status.
 //!
 //! Guarantees: the words handed to the service are those of the command line but for the program's own name, and they are
-//! judged before anything is made for a session.
-//! Leaves to others: the service itself (`service`). That terminals and clocks behave as their adapters say is trusted.
+//! judged before anything is made for a session; there is one end for each user that they name.
+//! Leaves to others: what words ask (`command_line`), and the service itself (`service`). That terminals, files and clocks behave as their adapters say is trusted.
 #![tactic(auto)]
 
-ghost use Rattle.std.specs.Prelude.{◌≡◌, ◌↔◌, ◌<◌, length, drop, map, Err, IfOk, OnErr, string_bytes};
+ghost use Rattle.std.specs.Prelude.{◌≡◌, ◌≢◌, ◌↔◌, ◌<◌, length, drop, map, Err, IfOk, OnErr, string_bytes};
 ghost use Rattle.std.specs.List.{Any};
 ghost use Rattle.std.specs.Vec.Iter.{into_iter_items};
-ghost use Rattle.confd.specs.declared.WordsFault.TheVariants.{Usage, NoMemory};
-ghost use Rattle.service.specs.Run.{IsServe};
+ghost use Rattle.command_line.specs.Asked.{Asks};
+ghost use Rattle.command_line.specs.declared.asked.Asked.{Asked};
+ghost use Rattle.command_line.specs.declared.usage.Usage.TheVariants.{Refused};
+ghost use Rattle.service.specs.Run.{AreEnds, IsServe};
 
-use cfg_base::{NoMemory, UserName, Word, WordFault, Words};
+mod edges;
+
+use cfg_base::{NoMemory, Word, WordFault, Words};
+use command_line::{Usage, read_words, words_ask_one_thing};
 use disk_model::MemDisk;
-use io_edge::{SleepBeat, StdClock, StdSink, StdSource};
-use service::{Ticker, is_serve, run};
-use session_shell::End;
+use edges::{StdEnd, ends_of};
+use io_edge::{SleepBeat, StdClock};
+use service::{Ticker, run};
 use std::alloc::Global;
 use std::env;
 use std::env::Args;
 use std::io::{ErrorKind, Read, Write};
 use std::process::ExitCode;
-use std::rt::{Clock, Env};
+use std::rt::{Clock, Env, Files};
 use std::sync::Wait;
 use std::thread::Threads;
 
-/// Why the words of the command line are none for the service.
-enum WordsFault {
-    Usage,
-    NoMemory,
-}
-
-impl From<NoMemory> for WordsFault {
-    ghost from_gives = { λ _ fault. fault ≡ NoMemory };
-
-    fn from(_: NoMemory) -> WordsFault {
-        WordsFault::NoMemory
-    }
-}
-
 /// The arguments as words.
-fn words_from(alloc: Global, args: Args) -> Result<Words, WordsFault>
+fn words_from(alloc: Global, args: Args) -> Result<Words, Usage>
     ensures words { IfOk result (λ words. words ≡ map string_bytes (into_iter_items args)) }
-    ensures usage { result ≡ Err Usage → Any (λ word. 255 < length word) (map string_bytes (into_iter_items args)) }
+    ensures usage { result ≡ Err Refused → Any (λ word. 255 < length word) (map string_bytes (into_iter_items args)) }
 {
     let mut words = Words::new(alloc);
     for arg in args {
         match Word::of(alloc, arg.as_str().as_bytes()) {
             Ok(word) => words.push(word)?,
-            Err(WordFault::LongWord) => return Err(WordsFault::Usage),
-            Err(WordFault::NoMemory) => return Err(WordsFault::NoMemory),
+            Err(WordFault::LongWord) => return Err(Usage::Refused),
+            Err(WordFault::NoMemory) => return Err(Usage::NoMemory),
         }
     }
     Ok(words)
 }
 
 /// The words of a command line's arguments, but for the first, which is the program's own name.
-fn words_of(alloc: Global, args: Args) -> Result<Words, WordsFault>
+fn words_of(alloc: Global, args: Args) -> Result<Words, Usage>
     ensures words { IfOk result (λ words. words ≡ map string_bytes (drop 1 (into_iter_items args))) }
-    ensures usage { result ≡ Err Usage → Any (λ word. 255 < length word) (map string_bytes (drop 1 (into_iter_items args))) }
+    ensures usage { result ≡ Err Refused → Any (λ word. 255 < length word) (map string_bytes (drop 1 (into_iter_items args))) }
 {
     let mut args = args;
     let _program = args.next();
@@ -67,11 +57,11 @@ fn words_of(alloc: Global, args: Args) -> Result<Words, WordsFault>
 }
 
 /// The words of the command line.
-fn command_words<R: Env + AllocGlobal>(rt: &R) -> Result<Words, WordsFault> {
+fn command_words<R: Env + AllocGlobal>(rt: &R) -> Result<Words, Usage> {
     match env::args(rt) {
         Ok(args) => words_of(rt.alloc(), args),
-        Err(error) if error.kind() == ErrorKind::OutOfMemory => Err(WordsFault::NoMemory),
-        Err(_) => Err(WordsFault::Usage),
+        Err(error) if error.kind() == ErrorKind::OutOfMemory => Err(Usage::NoMemory),
+        Err(_) => Err(Usage::Refused),
     }
 }
 
@@ -80,26 +70,17 @@ fn no_disk(alloc: Global) -> Result<MemDisk, NoMemory> {
     MemDisk::new(alloc, 0, 0, Vec::new(alloc), Vec::new(alloc))
 }
 
-/// Runs the service over a reader, a writer and the system's clock, where the words ask for it, and gives its status.
-fn serve<R, I, O>(rt: &R, words: &Words, input: I, output: O) -> Result<u8, NoMemory>
+/// Runs the service over these ends and the system's clock.
+fn serve_ends<R, I, O>(rt: &R, words: &Words, ends: Vec<StdEnd<R, I, O>>) -> Result<u8, NoMemory>
 where
-    R: Threads + Wait + Sync + Send + Clock + AllocGlobal + Clone + Drop,
+    R: Threads + Wait + Sync + Send + Clock + Files + AllocGlobal + Clone + Drop,
+    R::File: Send,
     I: Read + Drop + Send,
     O: Write + Drop + Send,
-    ensures usage { IfOk result (λ status. (status ≡ 1) ↔ (IsServe words.now → ⊥)) }
-    ensures judged { OnErr result (IsServe words.now) }
+    requires ends { AreEnds words.now ends.items }
+    ensures usage { IfOk result (λ status. (status ≡ 1) ↔ ((status ≢ 9) × (IsServe words.now → ⊥))) }
 {
-    if !is_serve(words) {
-        return Ok(1);
-    }
     let alloc = rt.alloc();
-    let mut ends = Vec::new(alloc);
-    ends.push(End {
-        user: UserName::root(alloc)?,
-        source: StdSource::new(input),
-        sink: StdSink::new(output),
-        clock: StdClock::new(rt.clone()?),
-    })?;
     let ticker = Ticker {
         beat: SleepBeat::new(rt.clone()?),
         clock: StdClock::new(rt.clone()?),
@@ -109,10 +90,28 @@ where
     Ok(run(rt, alloc, words, ends, ticker, disk_a, disk_b).status)
 }
 
+/// Runs the service over the ends that the words name, and gives its status.
+fn serve<R, I, O>(rt: &R, words: &Words, input: I, output: O) -> Result<u8, NoMemory>
+where
+    R: Threads + Wait + Sync + Send + Clock + Files + AllocGlobal + Clone + Drop,
+    R::File: Send,
+    I: Read + Drop + Send,
+    O: Write + Drop + Send,
+    ensures usage { IfOk result (λ status. (status ≡ 1) ↔ ((status ≢ 9) × (IsServe words.now → ⊥))) }
+    ensures judged { OnErr result ((asked : Asked) × Asks words.now asked) }
+{
+    words_ask_one_thing();
+    match read_words(rt.alloc(), words) {
+        Ok(asked) => serve_ends(rt, words, ends_of(rt, &asked, input, output)?),
+        Err(Usage::Refused) => Ok(1),
+        Err(Usage::NoMemory) => Ok(9),
+    }
+}
+
 /// Says on standard error why the service did not run.
 fn tell(rt: &impl Eprint, status: u8) {
     let _told = match status {
-        1 => rt.eprintln("confd: usage: confd serve PLACE"),
+        1 => rt.eprintln("confd: usage: confd serve|init|check|gen PLACE [USER:FILE ..]"),
         9 => rt.eprintln("confd: out of memory"),
         _ => Ok(()),
     };
@@ -121,8 +120,8 @@ fn tell(rt: &impl Eprint, status: u8) {
 fn main(rt: HostRuntime) -> ExitCode {
     let status = match command_words(&rt) {
         Ok(words) => serve(&rt, &words, rt.stdin(), rt.stdout()).unwrap_or(9),
-        Err(WordsFault::Usage) => 1,
-        Err(WordsFault::NoMemory) => 9,
+        Err(Usage::Refused) => 1,
+        Err(Usage::NoMemory) => 9,
     };
     tell(&rt, status);
     ExitCode::from(status)

@@ -56,7 +56,7 @@ fn ask_lines(alloc: Global, stage: Stage, args: &[Arg], out: &mut String) -> Res
     let [count, limit] = args else {
         return Err(Fault::Script("lines COUNT LIMIT"));
     };
-    let source = ListSource::new(stage.pieces, stage.failing_reads);
+    let source = ListSource::new(stage.part.pieces, stage.part.failing_reads);
     let mut source = say_lines(alloc, source, number(count)?, number(limit)?, out)?;
     say_read(&mut source, out)
 }
@@ -72,7 +72,7 @@ fn ask_reader_lines(
         return Err(Fault::Script("reader_lines COUNT LIMIT"));
     };
     let mut bytes = Vec::new(alloc);
-    for piece in &stage.pieces {
+    for piece in &stage.part.pieces {
         bytes.extend_from_slice(piece.as_slice())?;
     }
     let source = StdSource::new(bytes.as_slice());
@@ -82,7 +82,7 @@ fn ask_reader_lines(
 
 /// put_all BYTES ..: each as a whole, into a sink of the stage's room
 fn ask_put_all(alloc: Global, stage: Stage, args: &[Arg], out: &mut String) -> Result<(), Fault> {
-    let mut sink = VecSink::new(alloc, stage.room, stage.failing_writes)?;
+    let mut sink = VecSink::new(alloc, stage.part.room, stage.part.failing_writes)?;
     for bytes in args {
         match put_all(&mut sink, bytes) {
             Ok(()) => say(out, "done")?,
@@ -94,7 +94,7 @@ fn ask_put_all(alloc: Global, stage: Stage, args: &[Arg], out: &mut String) -> R
 
 /// write BYTES ..: each with one write, into a sink of the stage's room
 fn ask_write(alloc: Global, stage: Stage, args: &[Arg], out: &mut String) -> Result<(), Fault> {
-    let mut sink = VecSink::new(alloc, stage.room, stage.failing_writes)?;
+    let mut sink = VecSink::new(alloc, stage.part.room, stage.part.failing_writes)?;
     for bytes in args {
         if bytes.is_empty() {
             return Err(Fault::Script("a write is of one byte at least"));
@@ -116,7 +116,7 @@ fn count_of(args: &[Arg]) -> Result<u64, Fault> {
 
 /// now COUNT: so many answers of the stage's clock
 fn ask_now(stage: Stage, args: &[Arg], out: &mut String) -> Result<(), Fault> {
-    let mut clock = ListClock::new(stage.clock);
+    let mut clock = ListClock::new(stage.part.clock);
     for _ in 0..count_of(args)? {
         say_number(out, clock.now().seconds())?;
     }

@@ -18,6 +18,7 @@ mod base_calls;
 mod changes;
 mod check_calls;
 mod checking;
+mod command_calls;
 mod expanding;
 mod fault;
 mod group_calls;

@@ -1,12 +1,15 @@
-//! Runs of the service for one session, over the ends that the stage makes. Its disks and its beat are not used yet.
+//! Runs of the service, over the ends that the stage makes. Its disks and its beat are not used yet.
+
+ghost use Rattle.std.specs.Prelude.{◌≡◌, IfOk};
+ghost use Rattle.service.specs.Run.{AreEnds, users_of};
 
 use crate::answers::{say, say_bytes, say_text};
 use crate::asking::say_command;
-use crate::base_calls::user_of;
 use crate::fault::Fault;
-use crate::stage::Stage;
+use crate::stage::{Part, Stage};
 use crate::words::{Arg, words_of};
-use cfg_base::{NoMemory, UserName};
+use cfg_base::{NoMemory, UserName, Words};
+use command_line::{Usage, read_words, words_ask_one_thing};
 use config_core::{Event, Outcome};
 use disk_model::MemDisk;
 use io_edge::{ListBeat, ListClock, ListSource, VecSink};
@@ -18,6 +21,8 @@ use std::alloc::Global;
 use std::sync::Wait;
 use std::thread::Threads;
 
+type StagedEnd = End<ListSource, VecSink, ListClock>;
+
 type Ran = Closed<ListSource, VecSink, ListClock, ListBeat, MemDisk>;
 
 /// A disk without room.
@@ -25,11 +30,44 @@ fn disk(alloc: Global) -> Result<MemDisk, NoMemory> {
     MemDisk::new(alloc, 0, 0, Vec::new(alloc), Vec::new(alloc))
 }
 
-fn user(alloc: Global, name: &[u8]) -> Result<UserName, Fault> {
-    if name.is_empty() {
-        return Ok(UserName::root(alloc)?);
+/// A session's end.
+fn end_of(alloc: Global, user: UserName, part: Part) -> Result<StagedEnd, Fault>
+    ensures { IfOk result (λ end. end.user ≡ user) }
+{
+    Ok(End {
+        user,
+        source: ListSource::new(part.pieces, part.failing_reads),
+        sink: VecSink::new(alloc, part.room, part.failing_writes)?,
+        clock: ListClock::new(part.clock),
+    })
+}
+
+/// An end for each user, in order.
+fn ends_of(alloc: Global, users: &[UserName], parts: Vec<Part>) -> Result<Vec<StagedEnd>, Fault>
+    ensures { IfOk result (λ ends. users_of ends.items ≡ users.now) }
+{
+    let mut parts = parts.into_iter();
+    let mut ends = Vec::new(alloc);
+    for user in users {
+        let Some(part) = parts.next() else {
+            return Err(Fault::Script("an end for each user"));
+        };
+        ends.push(end_of(alloc, user.clone()?, part)?)?;
     }
-    user_of(alloc, name)
+    Ok(ends)
+}
+
+/// The ends that the words ask for. Words that are refused ask for none, and are given one.
+fn asked_ends(alloc: Global, words: &Words, stage: Stage) -> Result<Vec<StagedEnd>, Fault>
+    ensures { IfOk result (λ ends. AreEnds words.now ends.items) }
+{
+    words_ask_one_thing();
+    let parts = stage.into_parts()?;
+    match read_words(alloc, words) {
+        Ok(asked) => ends_of(alloc, asked.users.as_slice(), parts),
+        Err(Usage::Refused) => ends_of(alloc, &[UserName::root(alloc)?], parts),
+        Err(Usage::NoMemory) => Err(Fault::NoMemory),
+    }
 }
 
 fn ran<R: Threads + Wait + Sync>(
@@ -39,13 +77,7 @@ fn ran<R: Threads + Wait + Sync>(
     args: &[Arg],
 ) -> Result<Ran, Fault> {
     let words = words_of(alloc, args)?;
-    let mut ends = Vec::new(alloc);
-    ends.push(End {
-        user: user(alloc, &stage.user)?,
-        source: ListSource::new(stage.pieces, stage.failing_reads),
-        sink: VecSink::new(alloc, stage.room, stage.failing_writes)?,
-        clock: ListClock::new(stage.clock),
-    })?;
+    let ends = asked_ends(alloc, &words, stage)?;
     let ticker = Ticker {
         beat: ListBeat::new(Vec::new(alloc)),
         clock: ListClock::new(Vec::new(alloc)),
@@ -53,10 +85,20 @@ fn ran<R: Threads + Wait + Sync>(
     Ok(run(rt, alloc, &words, ends, ticker, disk(alloc)?, disk(alloc)?))
 }
 
+/// The number of a session, where there are several.
+fn say_session(out: &mut String, count: usize, place: usize) -> Result<(), Fault> {
+    if count > 1 {
+        let number = place.saturating_add(1);
+        writeln!(out, "= session {number}")?;
+    }
+    Ok(())
+}
+
 fn say_output(out: &mut String, ran: &Ran) -> Result<(), Fault> {
     let status = ran.status;
     writeln!(out, "= status {status}")?;
-    for end in &ran.ends {
+    for (place, end) in ran.ends.iter().enumerate() {
+        say_session(out, ran.ends.len(), place)?;
         say_text(out, end.sink.contents())?;
     }
     Ok(())
@@ -121,7 +163,8 @@ pub(crate) fn ask_run<R: Threads + Wait + Sync>(
 ) -> Result<(), Fault> {
     let ran = ran(rt, alloc, stage, args)?;
     say_output(out, &ran)?;
-    for turns in &ran.turns {
+    for (place, turns) in ran.turns.iter().enumerate() {
+        say_session(out, ran.turns.len(), place)?;
         for turn in turns.as_slice() {
             say_turn(out, turn)?;
         }

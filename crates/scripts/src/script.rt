@@ -4,6 +4,7 @@ use crate::answers::say_flag;
 use crate::changes::{change, look, op_of};
 use crate::fault::Fault;
 use crate::ledger_calls::{add_record, ask_ledger, ask_payload};
+use crate::command_calls::ask_words;
 use crate::level::{ask_resolve, level_of};
 use crate::line_calls::{ask_line, ask_plain};
 use crate::load_calls::{ask_load, way_of};
@@ -82,6 +83,7 @@ impl Script {
         match name {
             "resolve" => ask_resolve(self.alloc, args, out)?,
             "is_plain" => ask_plain(args, out)?,
+            "read_words" => ask_words(self.alloc, args, out)?,
             _ => {
                 return Ok(
                     base_calls::ask(self.alloc, name, args, out)?

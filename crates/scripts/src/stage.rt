@@ -1,42 +1,76 @@
-//! What the ends of the next session are made of. The reads and writes that fail are counted from 1.
+//! What the ends of the next sessions are made of. The reads and writes that fail are counted from 1.
 
 use crate::fault::Fault;
 use crate::words::{Arg, flag, number, numbers};
 use cfg_base::{Bytes, Moment};
 use std::alloc::Global;
+use std::mem;
 
+/// What the end of one session is made of.
 #[derive(Drop)]
-pub(crate) struct Stage {
-    /// The user's name; without bytes it is root's.
-    pub user: Arg,
+pub(crate) struct Part {
     /// What is read: no read takes bytes of two pieces.
     pub pieces: Vec<Bytes>,
     pub failing_reads: Vec<u64>,
     pub room: u64,
     pub failing_writes: Vec<u64>,
     pub clock: Vec<Moment>,
+}
+
+#[derive(Drop)]
+pub(crate) struct Stage {
+    /// The ends that are whole.
+    ahead: Vec<Part>,
+    /// The end that the lines speak of.
+    pub part: Part,
     pub beats: Vec<bool>,
 }
 
 /// The room of a sink for which the script says none.
 const ROOM: u64 = 65_536;
 
-impl Stage {
-    pub(crate) fn new(alloc: Global) -> Stage {
-        Stage {
-            user: Vec::new(alloc),
+impl Part {
+    fn new(alloc: Global) -> Part {
+        Part {
             pieces: Vec::new(alloc),
             failing_reads: Vec::new(alloc),
             room: ROOM,
             failing_writes: Vec::new(alloc),
             clock: Vec::new(alloc),
+        }
+    }
+}
+
+impl Stage {
+    pub(crate) fn new(alloc: Global) -> Stage {
+        Stage {
+            ahead: Vec::new(alloc),
+            part: Part::new(alloc),
             beats: Vec::new(alloc),
         }
     }
 
+    /// The end so far is whole; what follows makes the next one.
+    fn next_end(&mut self, alloc: Global) -> Result<(), Fault> {
+        let part = mem::replace(&mut self.part, Part::new(alloc));
+        self.ahead.push(part)?;
+        Ok(())
+    }
+
+    /// What all ends are made of, in order.
+    pub(crate) fn into_parts(self) -> Result<Vec<Part>, Fault> {
+        let Stage {
+            mut ahead,
+            part,
+            beats: _,
+        } = self;
+        ahead.push(part)?;
+        Ok(ahead)
+    }
+
     /// One more piece of the input.
     pub(crate) fn add_piece(&mut self, bytes: Vec<u8>) -> Result<(), Fault> {
-        self.pieces.push(Bytes::from(bytes))?;
+        self.part.pieces.push(Bytes::from(bytes))?;
         Ok(())
     }
 
@@ -49,22 +83,15 @@ impl Stage {
     /// Takes a line that says what the ends are, and tells whether it is one.
     pub(crate) fn take(&mut self, alloc: Global, name: &str, args: &[Arg]) -> Result<bool, Fault> {
         match name {
-            "user" => self.user = user_of(alloc, args)?,
-            "reads-fail" => self.failing_reads = numbers(alloc, args)?,
-            "writes-fail" => self.failing_writes = numbers(alloc, args)?,
-            "room" => self.room = room_of(args)?,
-            "clock" => self.clock = moments_of(alloc, args)?,
+            "reads-fail" => self.part.failing_reads = numbers(alloc, args)?,
+            "writes-fail" => self.part.failing_writes = numbers(alloc, args)?,
+            "room" => self.part.room = room_of(args)?,
+            "clock" => self.part.clock = moments_of(alloc, args)?,
+            "next-end" => self.next_end(alloc)?,
             "beats" => self.beats = flags_of(alloc, args)?,
             _ => return Ok(false),
         }
         Ok(true)
-    }
-}
-
-fn user_of(alloc: Global, args: &[Arg]) -> Result<Arg, Fault> {
-    match args {
-        [name] => Ok(Vec::from_slice(alloc, name)?),
-        _ => Err(Fault::Script("user NAME")),
     }
 }
 

@@ -1,9 +1,13 @@
 -- The run of the service: what it hands back, and when each status comes.
-use Rattle.std.specs.Prelude.{◌≡◌, ◌≤◌, ℕ, List, [], ◌∷◌, length, Option, None, Some, codes, slice_index_or}
+use Rattle.std.specs.Prelude.{◌≡◌, ◌≢◌, ◌<◌, ◌≤◌, ◌+◌, ◌⊎◌, ℕ, List, [], ◌∷◌, length, map, slice_get, Option, None, Some}
 use Rattle.std.specs.List.{AllByRecursion}
 use Rattle.cfg_base.specs.Counts.{Rose}
+use Rattle.command_line.specs.Asked.{Asks}
+use Rattle.command_line.specs.declared.asked.Asked.{Asked}
+use Rattle.command_line.specs.declared.asked.RunMode.TheVariants.{Serve}
 use Rattle.commit_ledger.specs.Kept.{factory}
-use Rattle.config_core.specs.State.{opening_of}
+use Rattle.config_core.specs.State.{State, opening_of}
+use Rattle.session_history.specs.declared.history.Happened.{Happened}
 use Rattle.session_history.specs.declared.history.History.{History}
 use Rattle.session_history.specs.Events.{IsLegal, StaysAccepted}
 use Rattle.session_shell.specs.declared.end.End.{End}
@@ -12,9 +16,17 @@ use Rattle.session_shell.specs.declared.turn.How.TheVariants.{Clean, SourceFault
 use Rattle.session_shell.specs.declared.turn.Turn.{Turn}
 use Rattle.service.specs.History.{HasSession, IsInMemory}
 
--- the words ask for the service of a place: `serve`, and the place
+-- the words ask for the service of a place
 abbrev pub IsServe : List (List ℕ) → Type 0
-IsServe words = (length words ≡ 2) × (slice_index_or words 0 [] ≡ codes "serve")
+IsServe words = (asked : Asked) × Asks words asked × (asked.mode ≡ Serve)
+
+-- the users of ends, in order
+abbrev pub users_of : {S K C : Type 0} → List (End S K C) → List (List ℕ)
+users_of ends = map (λ end. end.user) ends
+
+-- the words ask for these ends: one for each user, in order
+abbrev pub AreEnds : {S K C : Type 0} → List (List ℕ) → List (End S K C) → Type 0
+AreEnds words ends = (asked : Asked) → Asks words asked → users_of ends ≡ asked.users
 
 -- nothing happened: no session was begun, nothing was read or written, and no disk was called
 pub record IsIdle {E : Type 0} (ends ends' : List E) (turns : List (List Turn)) (history : History) : Type 0 where
@@ -33,28 +45,72 @@ status_of SinkFault = 6
 status_of InputFull = 7
 status_of NoMemory = 9
 
--- one session was served over the factory commit: the history is legal, each event is this session's and done, the active
--- configuration is accepted all along, the session is what its bytes say, the status is that of its end, and a fault of its
--- source or sink is answered only where that object's count rose
-pub record IsServed {S K C : Type 0} (left : S → Option (List ℕ)) (source_faults : S → ℕ) (held : K → Option (List ℕ))
-    (sink_faults : K → ℕ) (coming : C → Option (ℕ → ℕ)) (limit : ℕ) (old new : End S K C) (turns : List Turn)
-    (history : History) (status : ℕ) : Type 0 where
+-- the status of sessions that ended so: that of the first one that didn't end clean
+abbrev pub status_of_all : List How → ℕ
+status_of_all [] = 0
+status_of_all (Clean ∷ hows) = status_of_all hows
+status_of_all (how ∷ hows) = status_of how
+
+-- what came of a session: how it ended, its ends before and after, and its turns
+pub record SessionResult (S K C : Type 0) : Type 0 where
   pub how : How
-  pub is_status : status ≡ status_of how
+  pub old : End S K C
+  pub new : End S K C
+  pub turns : List Turn
+
+-- memory was wanting before the session began: it has no turns and no events, and its ends are as they were given
+pub record IsUnbegun {S K C : Type 0} (events : List Happened) (caller : ℕ) (result : SessionResult S K C) : Type 0 where
+  pub how : result.how ≡ NoMemory
+  pub same : result.new ≡ result.old
+  pub no_turns : result.turns ≡ []
+  pub no_events : AllByRecursion (λ event. event.caller ≢ caller) events
+
+-- the session of a caller, over a part of the events of a run; a fault of its source or its sink is answered only where that
+-- object's count rose
+pub record IsResult {S K C : Type 0} (left : S → Option (List ℕ)) (source_faults : S → ℕ) (held : K → Option (List ℕ))
+    (sink_faults : K → ℕ) (coming : C → Option (ℕ → ℕ)) (opening : State) (limit : ℕ) (events : List Happened) (caller : ℕ)
+    (result : SessionResult S K C) : Type 0 where
+  pub session : HasSession left held sink_faults coming opening caller limit events result.how result.turns result.old result.new
+      ⊎ IsUnbegun events caller result
+  pub user : result.new.user ≡ result.old.user
+  pub source_cause : result.how ≡ SourceFault → Rose (source_faults result.old.source) (source_faults result.new.source)
+  pub sink_cause : result.how ≡ SinkFault → Rose (sink_faults result.old.sink) (sink_faults result.new.sink)
+
+-- the sessions were served over the factory commit, as callers 1, 2 and so on: the history is legal, each event is one of
+-- theirs and done, the active configuration is accepted all along, each session is what its bytes say, and the status is that
+-- of the first one that didn't end clean
+pub record IsServed {S K C : Type 0} (left : S → Option (List ℕ)) (source_faults : S → ℕ) (held : K → Option (List ℕ))
+    (sink_faults : K → ℕ) (coming : C → Option (ℕ → ℕ)) (limit : ℕ) (ends ends' : List (End S K C)) (turns : List (List Turn))
+    (history : History) (status : ℕ) : Type 0 where
+  pub results : List (SessionResult S K C)
+  pub old : map (λ result. result.old) results ≡ ends
+  pub new : map (λ result. result.new) results ≡ ends'
+  pub turned : map (λ result. result.turns) results ≡ turns
+  pub each : (k : ℕ) (result : SessionResult S K C) → slice_get results k ≡ Some result
+      → IsResult left source_faults held sink_faults coming (opening_of factory (users_of ends)) limit history.events.items
+      (k + 1) result
+  pub is_status : status ≡ status_of_all (map (λ result. result.how) results)
   pub opening : history.opening ≡ Some factory
-  pub users : history.users ≡ old.user ∷ []
+  pub users : history.users ≡ users_of ends
   pub no_calls : history.made ≡ record { a = 0; b = 0 }
-  pub legal : IsLegal (opening_of factory (old.user ∷ [])) history.events.items
-  pub own : AllByRecursion (λ event. event.caller ≡ 1) history.events.items
+  pub legal : IsLegal (opening_of factory (users_of ends)) history.events.items
+  pub callers : AllByRecursion (λ event. (0 < event.caller) × (event.caller ≤ length ends)) history.events.items
   pub in_memory : AllByRecursion IsInMemory history.events.items
-  pub accepted : StaysAccepted (opening_of factory (old.user ∷ [])) history.events.items
-  pub session : HasSession left held sink_faults coming (opening_of factory (old.user ∷ [])) 1 limit history.events.items
-      how turns old new
-  pub user : new.user ≡ old.user
-  pub source_cause : how ≡ SourceFault → Rose (source_faults old.source) (source_faults new.source)
-  pub sink_cause : how ≡ SinkFault → Rose (sink_faults old.sink) (sink_faults new.sink)
+  pub accepted : StaysAccepted (opening_of factory (users_of ends)) history.events.items
 
 -- an input that is told and no longer than the limit
 abbrev pub Fits : ℕ → Option (List ℕ) → Type 0
 Fits limit None = ⊥
 Fits limit (Some bytes) = length bytes ≤ limit
+
+-- no count of faults rose, and the input is within its limit
+pub record IsFaultless {S K C : Type 0} (left : S → Option (List ℕ)) (source_faults : S → ℕ) (sink_faults : K → ℕ) (limit : ℕ)
+    (old new : End S K C) : Type 0 where
+  pub source : Rose (source_faults old.source) (source_faults new.source) → ⊥
+  pub sink : Rose (sink_faults old.sink) (sink_faults new.sink) → ⊥
+  pub fits : Fits limit (left old.source)
+
+-- what holds of each end, before and after
+abbrev pub EachEnd : {E : Type 0} → (E → E → Type 0) → List E → List E → Type 0
+EachEnd {E} Is ends ends' =
+    (k : ℕ) (old new : E) → slice_get ends k ≡ Some old → slice_get ends' k ≡ Some new → Is old new

@@ -65,20 +65,12 @@ impl Door for Book {
     ghost keeps = { keeps_names };
 }
 
-fn users_of(alloc: Global, user: &UserName) -> Result<Users, NoMemory>
-    ensures { IfOk result (λ users. users ≡ user.now ∷ []) }
-{
-    let mut users = Users::new(alloc);
-    users.push(user.clone()?)?;
-    Ok(users)
-}
-
 impl Book {
-    /// The service over the factory commit, for one user, who asks.
-    pub(crate) fn new(alloc: Global, user: &UserName) -> Result<Book, NoMemory>
-        ensures { IfOk result (λ log. log ≡ record { kept = factory; users = user.now ∷ []; events = []; caller = 1 }) }
+    /// The service over the factory commit, for its users, of whom the first asks.
+    pub(crate) fn new(alloc: Global, users: Users) -> Result<Book, NoMemory>
+        requires { (0 < length users) × (length users ≤ 64) }
+        ensures { IfOk result (λ log. log ≡ record { kept = factory; users = users; events = []; caller = 1 }) }
     {
-        let users = users_of(alloc, user)?;
         let core = Core::new(alloc, Ledger::factory(alloc)?, &users)?;
         Ok(Book {
             core,
@@ -87,6 +79,14 @@ impl Book {
             events: Vec::new(alloc),
             caller: 1,
         })
+    }
+
+    /// Hands the turn to another caller.
+    pub(crate) fn hand_to(&mut self, caller: u32)
+        requires { (0 < caller) × (caller ≤ length self.old.users) }
+        ensures { self.new ≡ record self.old { caller = caller } }
+    {
+        self.caller = caller;
     }
 
     /// All that happened.

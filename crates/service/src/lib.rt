@@ -1,17 +1,16 @@
 //! The configuration service: its top call, which serves the sessions of its ends.
 //!
-//! Guarantees: `run` serves its session as the machine of one event at a time would, and hands everything back
+//! Guarantees: `run` serves its sessions as the machine of one event at a time would, and hands everything back
 //! (specs/Run.antt).
-//! Leaves to others: what the machine does (`config_core`), what a session is (`session_shell`), what a history says
+//! Leaves to others: what the words ask (`command_line`), what the machine does (`config_core`), what a session is (`session_shell`), what a history says
 //! (`session_history`), and the program round it (`confd`).
 #![tactic(auto)]
 
 mod asking;
 mod book;
 mod laws;
+mod served;
 mod serving;
 
 pub use laws::sessions_have_one_text;
-pub use serving::{
-    Closed, INPUT_LIMIT, JOURNAL_LIMIT, StartWhy0, Ticker, is_serve, limits_are_stated, run,
-};
+pub use serving::{Closed, StartWhy0, Ticker, run};

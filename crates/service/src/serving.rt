@@ -1,39 +1,25 @@
-//! The top call: it serves the session of its ends, and hands everything back.
+//! The top call: it serves the sessions of its ends, and hands everything back.
 
-ghost use Rattle.std.specs.Prelude.{◌≡◌, ◌∷◌, ◌⊎◌, ◌↔◌, ◌<◌, [], List, length, IsTrue, IfOk, None, vec_capacity};
-ghost use Rattle.cfg_base.specs.Counts.{Rose};
+ghost use Rattle.std.specs.Prelude.{◌≡◌, ◌≢◌, ◌⊎◌, ◌↔◌, ◌≤◌, [], length, vec_capacity, IfOk, IsErrOf, None};
 ghost use Rattle.commit_ledger.specs.Kept.{factory};
-ghost use Rattle.session_shell.specs.declared.turn.Turn.{Turn};
-ghost use Rattle.service.specs.Run.{Fits, IsIdle, IsServe, IsServed, status_of};
+ghost use Rattle.command_line.specs.Asked.{Asks};
+ghost use Rattle.command_line.specs.declared.asked.Asked.{Asked};
+ghost use Rattle.command_line.specs.declared.asked.RunMode.TheVariants.{Serve};
+ghost use Rattle.command_line.specs.declared.usage.Usage.TheVariants.{Refused};
+ghost use Rattle.service.specs.Run.{AreEnds, EachEnd, IsFaultless, IsIdle, IsServe, IsServed, users_of};
 
 use crate::asking::NO_CALLS;
-use crate::book::Book;
-use cfg_base::{Limits, NoMemory, UserName, Users, Words};
+use crate::served::{Room, Served, prepare, serve_all};
+use cfg_base::{Limits, NoMemory, Users, Words};
+use command_line::{Asked, RunMode, Usage, read_words, words_ask_one_thing};
 use config_core::active_configuration_stays_accepted;
 use disk_model::Disk;
 use io_edge::{Beat, Clock, Sink, Source};
 use session_history::{History, histories_stay_accepted};
-use session_shell::{End, Ended, How, NoSession, Session, TurnList};
+use session_shell::{End, TurnList};
 use std::alloc::Global;
 use std::sync::Wait;
 use std::thread::Threads;
-
-/// The most bytes of one session's input.
-pub const INPUT_LIMIT: u64 = 16_777_216;
-
-/// The most bytes of a journal file's used part.
-pub const JOURNAL_LIMIT: u64 = 67_108_864;
-
-/// The limits of a run, by their numbers.
-pub fn limits_are_stated()
-    ensures input { INPUT_LIMIT ≡ 16777216 }
-    ensures journal { JOURNAL_LIMIT ≡ 67108864 }
-{}
-
-const LIMITS: Limits = Limits {
-    input: INPUT_LIMIT,
-    journal: JOURNAL_LIMIT,
-};
 
 /// What tells when another tick is due, and the time of it.
 #[derive(Drop)]
@@ -63,20 +49,6 @@ pub struct Closed<S, K, C, B, D> {
     pub disk_b: D,
 }
 
-/// The room of a run's answer, taken before a session begins.
-struct Room {
-    lists: Vec<TurnList>,
-    book: Book,
-}
-
-/// Whether the words ask for the service: `serve`, and a place.
-pub fn is_serve(words: &Words) -> bool
-    ensures { IsTrue result ↔ IsServe words.now }
-{
-    let words = words.as_slice();
-    words.len() == 2 && words[0].as_bytes() == b"serve".as_slice()
-}
-
 fn no_history(alloc: Global) -> History
     ensures opening { result.opening ≡ None }
     ensures events { result.events.items ≡ [] }
@@ -88,29 +60,6 @@ fn no_history(alloc: Global) -> History
         users: Users::new(alloc),
         made: NO_CALLS,
         events: Vec::new(alloc),
-    }
-}
-
-fn prepare(alloc: Global, user: &UserName) -> Result<Room, NoMemory>
-    ensures lists { IfOk result (λ room. (room.lists.items ≡ []) × (0 < vec_capacity room.lists)) }
-    ensures book { IfOk result
-        (λ room. room.book ≡ record { kept = factory; users = user.now ∷ []; events = []; caller = 1 }) }
-{
-    Ok(Room {
-        lists: Vec::with_capacity(alloc, 1)?,
-        book: Book::new(alloc, user)?,
-    })
-}
-
-fn status_of(how: How) -> u8
-    ensures { result ≡ status_of how }
-{
-    match how {
-        How::Clean => 0,
-        How::SourceFault => 5,
-        How::SinkFault => 6,
-        How::InputFull => 7,
-        How::NoMemory => 9,
     }
 }
 
@@ -140,88 +89,60 @@ fn idle<S, K, C, B, D>(
     }
 }
 
-/// A session that was served, with the history that it made.
-struct Served<S, K, C> {
-    ended: Ended<S, K, C>,
-    history: History,
-}
-
-/// Serves a session over the factory commit.
-fn serve_session<R: Wait, S: Source, K: Sink, C: Clock>(
-    rt: &R,
-    book: Book,
-    session: Session<S, K, C>,
-) -> Served<S, K, C>
-    requires book { book ≡ record { kept = factory; users = session.end.user ∷ []; events = []; caller = 1 } }
-    requires limit { session.limit ≡ INPUT_LIMIT }
-    ensures { IsServed S.left S.faults K.held K.faults C.coming INPUT_LIMIT session.end result.ended.end
-        result.ended.turns result.history (status_of result.ended.how) }
+/// The service that the words ask for.
+fn service_of(alloc: Global, words: &Words) -> Result<Asked, Usage>
+    ensures ok { IfOk result (λ asked. Asks words.now asked × (asked.mode ≡ Serve)) }
+    ensures refused { IsErrOf result Refused → IsServe words.now → ⊥ }
 {
-    active_configuration_stays_accepted();
-    histories_stay_accepted();
-    let mut book = book;
-    let ended = session.run(rt, &mut book);
-    Served {
-        ended,
-        history: book.into_history(),
+    words_ask_one_thing();
+    match read_words(alloc, words) {
+        Ok(asked) if asked.mode == RunMode::Serve => Ok(asked),
+        Ok(_) => Err(Usage::Refused),
+        Err(fault) => Err(fault),
     }
 }
 
-/// Serves the one session.
-fn serve_one<R: Wait, S: Source, K: Sink, C: Clock, B, D>(
+/// Serves the sessions of ends for which there is room.
+fn serve<R: Wait, S: Source, K: Sink, C: Clock, B, D>(
     rt: &R,
     alloc: Global,
     room: Room,
     ends: Vec<End<S, K, C>>,
+    limits: Limits,
     ticker: Ticker<B, C>,
     disk_a: D,
     disk_b: D,
 ) -> Closed<S, K, C, B, D>
-    requires one_end { length ends.items ≡ 1 }
-    requires lists { (room.lists.items ≡ []) × (0 < vec_capacity room.lists) }
-    requires book { (old : _) → ends.items ≡ old ∷ []
-        → room.book ≡ record { kept = factory; users = old.user ∷ []; events = []; caller = 1 } }
-    ensures served { (old : _) → ends.items ≡ old ∷ []
-        → ((result.status ≡ 9) × IsIdle ends.items result.ends.items result.turns.items result.history)
-        ⊎ ((new : _) × (turns : List Turn) × (result.ends.items ≡ new ∷ []) × (result.turns.items ≡ turns ∷ [])
-        × IsServed S.left S.faults K.held K.faults C.coming INPUT_LIMIT old new turns result.history result.status) }
+    requires book { room.book ≡ record { kept = factory; users = users_of ends.items; events = []; caller = 1 } }
+    requires lists { (room.lists.items ≡ []) × (vec_capacity room.lists ≡ length ends.items) }
+    requires few { length ends.items ≤ 64 }
+    ensures served { IsServed S.left S.faults K.held K.faults C.coming limits.input ends.items result.ends.items
+        result.turns.items result.history result.status }
     ensures ticker { result.ticker ≡ ticker }
     ensures disks { (result.disk_a ≡ disk_a) × (result.disk_b ≡ disk_b) }
 {
-    let Room { lists, book } = room;
-    let mut lists = lists;
-    let mut ends = ends;
-    let end = ends.remove(0);
-    match Session::new(alloc, 1, end, LIMITS) {
-        Ok(session) => {
-            let Served { ended, history } = serve_session(rt, book, session);
-            let Ended {
-                number: _,
-                how,
-                end,
-                turns,
-            } = ended;
-            ends.push_reserved(end);
-            lists.push_reserved(turns);
-            Closed {
-                status: status_of(how),
-                why: StartWhy0::None,
-                ends,
-                ticker,
-                turns: lists,
-                history,
-                disk_a,
-                disk_b,
-            }
-        }
-        Err(NoSession { end }) => {
-            ends.push_reserved(end);
-            idle(alloc, 9, ends, ticker, disk_a, disk_b)
-        }
+    active_configuration_stays_accepted();
+    histories_stay_accepted();
+    let Served {
+        book,
+        ends,
+        lists,
+        status,
+    } = serve_all(rt, alloc, room, ends, limits);
+    Closed {
+        status,
+        why: StartWhy0::None,
+        ends,
+        ticker,
+        turns: lists,
+        history: book.into_history(),
+        disk_a,
+        disk_b,
     }
 }
 
-/// Runs the service by its words: `serve` and a place, with one end. Where memory is wanting all parts come back.
+/// Runs the service by its words, with the ends that they ask for: the sessions are served one after another, as callers 1, 2
+/// and so on. Where memory is wanting all parts come back.
 pub fn run<R, S, K, C, B, D>(
     rt: &R,
     alloc: Global,
@@ -238,25 +159,29 @@ where
     C: Clock + Send,
     B: Beat + Send,
     D: Disk + Send,
-    requires one_end { IsServe words.now → length ends.items ≡ 1 }
-    ensures usage { (result.status ≡ 1) ↔ (IsServe words.now → ⊥) }
+    requires ends { AreEnds words.now ends.items }
+    ensures usage { (result.status ≡ 1) ↔ ((result.status ≢ 9) × (IsServe words.now → ⊥)) }
     ensures refused { (IsServe words.now → ⊥) → IsIdle ends.items result.ends.items result.turns.items result.history }
-    ensures served { (old : _) → ends.items ≡ old ∷ [] → IsServe words.now
+    ensures served { (asked : Asked) → Asks words.now asked → asked.mode ≡ Serve
         → ((result.status ≡ 9) × IsIdle ends.items result.ends.items result.turns.items result.history)
-        ⊎ ((new : _) × (turns : List Turn) × (result.ends.items ≡ new ∷ []) × (result.turns.items ≡ turns ∷ [])
-        × IsServed S.left S.faults K.held K.faults C.coming INPUT_LIMIT old new turns result.history result.status) }
-    // Without a fault of its source or sink, and with an input that is told and within the limit, a session ends clean.
-    ensures complete { (old : _) (new : _) → ends.items ≡ old ∷ [] → result.ends.items ≡ new ∷ [] → IsServe words.now
-        → (Rose (S.faults old.source) (S.faults new.source) → ⊥) → (Rose (K.faults old.sink) (K.faults new.sink) → ⊥)
-        → Fits INPUT_LIMIT (S.left old.source) → (result.status ≡ 0) ⊎ (result.status ≡ 9) }
+        ⊎ IsServed S.left S.faults K.held K.faults C.coming asked.limits.input ends.items result.ends.items
+        result.turns.items result.history result.status }
+    // Where no source and no sink has a fault and each input is told and within the limit, all sessions end clean.
+    ensures complete { (asked : Asked) → Asks words.now asked → asked.mode ≡ Serve
+        → EachEnd (IsFaultless S.left S.faults K.faults asked.limits.input) ends.items result.ends.items
+        → (result.status ≡ 0) ⊎ (result.status ≡ 9) }
     ensures ticker { result.ticker ≡ ticker }
     ensures disks { (result.disk_a ≡ disk_a) × (result.disk_b ≡ disk_b) }
 {
-    if !is_serve(words) {
-        return idle(alloc, 1, ends, ticker, disk_a, disk_b);
-    }
-    match prepare(alloc, &ends[0].user) {
-        Ok(room) => serve_one(rt, alloc, room, ends, ticker, disk_a, disk_b),
+    words_ask_one_thing();
+    let asked = match service_of(alloc, words) {
+        Ok(asked) => asked,
+        Err(Usage::Refused) => return idle(alloc, 1, ends, ticker, disk_a, disk_b),
+        Err(Usage::NoMemory) => return idle(alloc, 9, ends, ticker, disk_a, disk_b),
+    };
+    let limits = asked.limits;
+    match prepare(alloc, asked.users) {
+        Ok(room) => serve(rt, alloc, room, ends, limits, ticker, disk_a, disk_b),
         Err(NoMemory) => idle(alloc, 9, ends, ticker, disk_a, disk_b),
     }
 }

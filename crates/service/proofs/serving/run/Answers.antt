@@ -1,24 +1,28 @@
-use Rattle.std.proofs.Common.{◌≡◌, true, rules}
-use Rattle.service.specs.declared.serving.TheConstants.{INPUT_LIMIT}
-use Rattle.service.specs.Run.{IsServe}
-use Rattle.service.proofs.RunLemmas.{served_is_not_1, one_of, complete_at}
+use Rattle.std.proofs.Common.{◌≡◌, map, sym, subst, ◌∙◌, arith}
+use Rattle.command_line.specs.declared.asked.Asked.{Asked}
+use Rattle.service.specs.Run.{IsServed}
+use Rattle.service.proofs.RunLemmas.{as_many, complete_of, few_users, status_is_not_1}
 use Rattle.service.proofs.serving.run.Goals as goal
 
-pub returns-in-Ok-clause-usage : goal.returns-in-Ok-clause-usage
-returns-in-Ok-clause-usage g c =
-    let is : c.is_serve.result ≡ true = search rules in
-    let serve : IsServe c.args.words.now = c.is_serve.ensures.0 is in
-    let end = one_of c.args.ends.items (c.requires.one_end serve) in
-    (λ one asked. served_is_not_1 g.S.Source.left g.S.Source.faults g.K.Sink.held g.K.Sink.faults g.C.Clock.coming INPUT_LIMIT c.args.ends.items c.serve_one.result.ends.items end.0 c.serve_one.result.turns.items c.serve_one.result.history c.serve_one.result.status (c.serve_one.ensures.served end.0 end.1) one, λ other. absurd (other serve))
+pub prepare-requires : goal.prepare-requires
+prepare-requires g c = few_users c.args.words.now c.in-Ok.asked c.in-Ok.ensures.ok.0
 
-pub returns-in-Ok-clause-refused : goal.returns-in-Ok-clause-refused
-returns-in-Ok-clause-refused g c = λ other.
-    let is : c.is_serve.result ≡ true = search rules in
-    absurd (other (c.is_serve.ensures.0 is))
+pub serve-requires-clause-lists : goal.serve-requires-clause-lists
+serve-requires-clause-lists g c = (
+  c.in-Ok-prepare.ensures.lists.0,
+  c.in-Ok-prepare.ensures.lists.1 ∙ sym (as_many c.args.words.now c.args.ends.items c.in-Ok.asked c.requires.ends c.in-Ok.ensures.ok.0),
+)
 
-pub returns-in-Ok-clause-served : goal.returns-in-Ok-clause-served
-returns-in-Ok-clause-served g c = λ old one serve. c.serve_one.ensures.served old one
+pub serve-requires-clause-few : goal.serve-requires-clause-few
+serve-requires-clause-few g c =
+    omega (arith, as_many c.args.words.now c.args.ends.items c.in-Ok.asked c.requires.ends c.in-Ok.ensures.ok.0, (few_users c.args.words.now c.in-Ok.asked c.in-Ok.ensures.ok.0).1)
 
-pub returns-in-Ok-clause-complete : goal.returns-in-Ok-clause-complete
-returns-in-Ok-clause-complete g c = λ old new one back serve no_source no_sink fits.
-    complete_at g.S.Source.left g.S.Source.faults g.K.Sink.held g.K.Sink.faults g.C.Clock.coming INPUT_LIMIT c.args.ends.items c.serve_one.result.ends.items old new c.serve_one.result.turns.items c.serve_one.result.history c.serve_one.result.status back (c.serve_one.ensures.served old one) no_source no_sink fits
+pub returns-in-Ok-prepare-clause-usage : goal.returns-in-Ok-prepare-clause-usage
+returns-in-Ok-prepare-clause-usage g c =
+    (λ one. absurd (status_is_not_1 (map (λ result. result.how) c.serve.ensures.served.results) (sym c.serve.ensures.served.is_status ∙ one)), λ both. absurd (both.1 (c.in-Ok.asked, c.in-Ok.ensures.ok.0, c.in-Ok.ensures.ok.1)))
+
+pub returns-in-Ok-prepare-clause-complete : goal.returns-in-Ok-prepare-clause-complete
+returns-in-Ok-prepare-clause-complete g c = λ asked asks serve each.
+    let same : c.in-Ok.asked ≡ asked = c.words_ask_one_thing.ensures c.args.words.now c.in-Ok.asked asked c.in-Ok.ensures.ok.0 asks in
+    complete_of g.S.Source.left g.S.Source.faults g.K.Sink.held g.K.Sink.faults g.C.Clock.coming asked.limits.input c.args.ends.items c.serve.result.ends.items c.serve.result.turns.items c.serve.result.history c.serve.result.status
+    (subst (λ (a : Asked). IsServed g.S.Source.left g.S.Source.faults g.K.Sink.held g.K.Sink.faults g.C.Clock.coming a.limits.input c.args.ends.items c.serve.result.ends.items c.serve.result.turns.items c.serve.result.history c.serve.result.status) same c.serve.ensures.served) each
