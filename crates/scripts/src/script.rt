@@ -2,9 +2,9 @@
 
 use crate::answers::say_flag;
 use crate::changes::{change, look, op_of};
+use crate::command_calls::ask_words;
 use crate::fault::Fault;
 use crate::ledger_calls::{add_record, ask_ledger, ask_payload};
-use crate::command_calls::ask_words;
 use crate::level::{ask_resolve, level_of};
 use crate::line_calls::{ask_line, ask_plain};
 use crate::load_calls::{ask_load, way_of};
