@@ -2,10 +2,14 @@
 
 use cfg_base::{Bytes, Word, Words};
 
-/// How a session edits: the one candidate that sessions share.
+/// How a session edits the one candidate that sessions share.
 #[derive(Clone, Copy, Debug, PartialEq, Eq)]
 pub enum Mode {
+    /// Together with the others.
     Shared,
+    /// Alone: no other session changes or commits the candidate, and what isn't committed is discarded when the session
+    /// leaves the mode.
+    Exclusive,
 }
 
 /// How statements are printed.
@@ -114,4 +118,6 @@ pub enum Command {
         comment: Word,
         quit: bool,
     },
+    /// Lists the sessions that are in configuration mode.
+    Status,
 }

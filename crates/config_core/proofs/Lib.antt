@@ -4,3 +4,5 @@ pub mod PlanLemmas
 pub mod OutcomeLemmas
 pub mod ShowingLemmas
 pub mod SoundLemmas
+pub mod OtherLemmas
+pub mod RollbackLemmas

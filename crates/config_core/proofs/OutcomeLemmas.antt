@@ -3,7 +3,7 @@ use Rattle.std.proofs.Common.{◌≡◌, ◌≢◌, ◌⊎◌, ℕ, Bool, true, 
 use Rattle.std.specs.Prelude.{MatchBool, Option}
 use Rattle.std.proofs.lemmas.Bool.Decides.{same_from_decides}
 use Rattle.commands.specs.declared.command.Command.{Command}
-use Rattle.commands.specs.declared.command.Command.TheVariants.{Configure, ShowActive, ShowCommits, Logout, Edit, Up, Top, Exit, ExitAll, Show, Change, Load, Rollback, CheckOnly, Commit as CommitAsked}
+use Rattle.commands.specs.declared.command.Command.TheVariants.{Configure, ShowActive, ShowCommits, Logout, Edit, Up, Top, Exit, ExitAll, Show, Change, Load, Rollback, CheckOnly, Commit as CommitAsked, Status}
 use Rattle.commands.specs.declared.command.Form.{Form}
 use Rattle.commands.specs.declared.command.Form.TheVariants.{Curly, SetLines, Inherited}
 use Rattle.commands.specs.declared.command.LoadWay.{LoadWay}
@@ -29,7 +29,7 @@ use Rattle.config_core.specs.declared.event.Event.TheVariants.{Settle, Revert, C
 use Rattle.config_core.specs.declared.event.Outcome.{Outcome}
 use Rattle.config_core.specs.declared.event.Outcome.TheVariants as outcomes
 use Rattle.config_core.specs.declared.reply.Refusal.{Refusal}
-use Rattle.config_core.specs.declared.reply.Refusal.TheVariants.{WrongMode, Check, DiskFault}
+use Rattle.config_core.specs.declared.reply.Refusal.TheVariants.{Check, DiskFault}
 use Rattle.config_core.specs.declared.reply.Reply.{Reply}
 use Rattle.config_core.specs.declared.reply.Reply.TheVariants.{Done, Text, Loaded, Committed, Refused}
 use Rattle.commit_ledger.specs.declared.entry.Commit.{Commit}
@@ -38,9 +38,10 @@ use Rattle.commit_ledger.specs.Kept.{Kept, active_of, nth_last}
 use Rattle.commit_ledger.specs.Listing.{IsListing}
 use Rattle.config_core.specs.State.{State, Made}
 use Rattle.config_core.specs.Showing.{refusal_of, load_refusal_of, NamesNone, NamesOne, path_alone, AsksFor, shown_full, ShowsBelow, ShowsAnswer, IsShow}
-use Rattle.config_core.specs.Callers.{level_of, is_configuring}
+use Rattle.config_core.specs.Access.{bar_to}
+use Rattle.config_core.specs.Callers.{level_of}
 use Rattle.config_core.specs.Entries.{commit_of, with_candidate}
-use Rattle.config_core.specs.Serving.{Turned, answered, refused, edited, Moves, IsLost, Shows, Lists, Changes, IsUnchanged, Loads, IsNotLoaded, Replaces, RollsTo, Checks, checked, makes, Operational, Configuring, Serves}
+use Rattle.config_core.specs.Serving.{Turned, answered, refused, edited, Moves, IsLost, Shows, Lists, Changes, IsUnchanged, Loads, IsNotLoaded, Replaces, RollsTo, Checks, checked, makes, Unless, Does, Serves}
 use Rattle.config_core.specs.Machine.{Waiting, InFlight, Missed, Free, waiting_of, Ends, IsPutInFlight, StepsFrom, later, reverted, Steps}
 
 both_served : (b : Bool) (P Q P' Q' R : Type 0) → (P → P' → R) → (Q → Q' → R) → MatchBool b P Q → MatchBool b P' Q' → R
@@ -224,37 +225,33 @@ module _ (s : State) (caller : ℕ)
       both_served (n == 0) _ _ _ _ (one ≡ other) (both_are _ one other) (replaces_once commit.tree one other) a b
 
   module _ (one other : Turned) where
-    operational_once : (P Q : Type 0) → (P → Q → one ≡ other) → Operational s caller one P → Operational s caller other Q → one ≡ other
-    operational_once P Q once =
-        both_served (is_configuring s caller) (one ≡ refused s WrongMode) P (other ≡ refused s WrongMode) Q (one ≡ other)
-        (both_are (refused s WrongMode) one other) once
+    unless_once : (bar : Option Refusal) (P Q : Type 0) → (P → Q → one ≡ other) → Unless bar s one P → Unless bar s other Q → one ≡ other
+    unless_once None P Q once a b = once a b
+    unless_once (Some refusal) P Q once a b = a ∙ sym b
 
-    configuring_once : (P Q : Type 0) → (P → Q → one ≡ other) → Configuring s caller one P → Configuring s caller other Q → one ≡ other
-    configuring_once P Q once =
-        both_served (is_configuring s caller) P (one ≡ refused s WrongMode) Q (other ≡ refused s WrongMode) (one ≡ other) once
-        (both_are (refused s WrongMode) one other)
+    -- a command that nothing bars has one outcome
+    does_once : (command : Command) → Does s caller command one → Does s caller command other → one ≡ other
+    does_once (Configure mode) = both_are _ one other
+    does_once (ShowActive asked form) = shows_once [] (once_at [] (top_is_level [] refl)) full_once s (active_of s.kept) asked form one other
+    does_once ShowCommits = lists_once one other
+    does_once Logout = both_are _ one other
+    does_once (Edit asked) = moves_once asked one other
+    does_once (Up count) = both_are _ one other
+    does_once Top = both_are _ one other
+    does_once Exit = both_are _ one other
+    does_once ExitAll = both_are _ one other
+    does_once (Show asked form) = shows_once (level_of s caller) (once_at (level_of s caller) is_level) full_once s s.candidate asked form one other
+    does_once (Change op) = changes_once op one other
+    does_once (Load way text) = loads_once way text one other
+    does_once (Rollback n) = rolls_once n (nth_last s.kept n) one other
+    does_once CheckOnly = checks_once first_once accepted_or_first s (checked s caller s.kept.pending) one other
+    does_once (CommitAsked minutes comment quit) =
+        checks_once first_once accepted_or_first s (makes s caller (CommitOf (commit_of s caller minutes comment)) quit (Committed minutes quit)) one other
+    does_once Status = both_are _ one other
 
     -- a command has one outcome
     pub serves_once : (command : Command) → Serves s caller command one → Serves s caller command other → one ≡ other
-    serves_once (Configure mode) = operational_once _ _ (both_are _ one other)
-    serves_once (ShowActive asked form) =
-        operational_once _ _ (shows_once [] (once_at [] (top_is_level [] refl)) full_once s (active_of s.kept) asked form one other)
-    serves_once ShowCommits = operational_once _ _ (lists_once one other)
-    serves_once Logout = both_are _ one other
-    serves_once (Edit asked) = configuring_once _ _ (moves_once asked one other)
-    serves_once (Up count) = configuring_once _ _ (both_are _ one other)
-    serves_once Top = configuring_once _ _ (both_are _ one other)
-    serves_once Exit = configuring_once _ _ (both_are _ one other)
-    serves_once ExitAll = configuring_once _ _ (both_are _ one other)
-    serves_once (Show asked form) =
-        configuring_once _ _ (shows_once (level_of s caller) (once_at (level_of s caller) is_level) full_once s s.candidate asked form one other)
-    serves_once (Change op) = configuring_once _ _ (changes_once op one other)
-    serves_once (Load way text) = configuring_once _ _ (loads_once way text one other)
-    serves_once (Rollback n) = configuring_once _ _ (rolls_once n (nth_last s.kept n) one other)
-    serves_once CheckOnly = configuring_once _ _ (checks_once first_once accepted_or_first s (checked s caller s.kept.pending) one other)
-    serves_once (CommitAsked minutes comment quit) =
-        configuring_once _ _
-        (checks_once first_once accepted_or_first s (makes s caller (CommitOf (commit_of s caller minutes comment)) quit (Committed minutes quit)) one other)
+    serves_once command = unless_once (bar_to s caller command) _ _ (does_once command)
 
 -- what was to be done ends in one way
 put_once : (s : State) (done one other : Turned) → IsPutInFlight s done one → IsPutInFlight s done other → one ≡ other

@@ -14,7 +14,7 @@ use Rattle.config_core.specs.State.{State, Made}
 use Rattle.config_core.specs.Plan.{Plan, made_of, made_in}
 use Rattle.config_core.specs.Serving.{Turned, refused, Serves}
 use Rattle.config_core.specs.Machine.{Waiting, InFlight, Missed, Free, waiting_for, waiting_of, is_logout, FitsIn, StepsFrom, Ends, IsPutInFlight, Steps, later, reverted}
-use Rattle.config_core.specs.Prepared.{effected, replied, ended, turned_by, put_off, Follows, Prepares, IsPrepared, CanEnd}
+use Rattle.config_core.specs.Prepared.{effected, replied, ended, turned_by, put_off, fresh_for, Follows, Prepares, IsPrepared, CanEnd}
 use Rattle.config_core.specs.Callers.{IsCaller, without_mode}
 use Rattle.config_core.specs.declared.reply.Refusal.TheVariants.{DiskFault}
 use Rattle.config_core.specs.declared.reply.Reply.TheVariants.{Refused}
@@ -30,7 +30,7 @@ left_by effect caller reply outcome s =
 ends_free : (command : Command) (caller : ℕ) (s : State) (effect : Effect) (reply : Reply) (outcome : Outcome)
     → CanEnd Free (CommandOf command) (made_in effect) outcome → Ends outcome s (done_by effect caller reply s) (left_by effect caller reply outcome s)
 ends_free command caller s Stay reply Done can = refl
-ends_free command caller s Leave reply Done can = refl
+ends_free command caller s (Leave fresh) reply Done can = refl
 ends_free command caller s (Enter mode) reply Done can = refl
 ends_free command caller s (Move position) reply Done can = refl
 ends_free command caller s (Edit tree is_modified) reply Done can = refl
@@ -38,7 +38,7 @@ ends_free command caller s (Settle is_kept) reply Done can = refl
 ends_free command caller s (Append a) reply Done can = refl
 ends_free command caller s (Append a) reply Fault can = record { made = made_of a; makes = refl; is = refl }
 ends_free command caller s Stay reply Fault can = absurd can
-ends_free command caller s Leave reply Fault can = absurd can
+ends_free command caller s (Leave fresh) reply Fault can = absurd can
 ends_free command caller s (Enter mode) reply Fault can = absurd can
 ends_free command caller s (Move position) reply Fault can = absurd can
 ends_free command caller s (Edit tree is_modified) reply Fault can = absurd can
@@ -79,7 +79,7 @@ ends_missed s caller (Append a) reply done made Done is makes = is
 ends_missed s caller (Append a) reply done made Fault is makes =
     record { made = made_of a; makes = sym (ap (λ (t : Turned). t.made) is); is = refl }
 ends_missed s caller Stay reply done made outcome is makes = absurd (let e : None ≡ Some made = ap (λ (t : Turned). t.made) is ∙ makes in cc)
-ends_missed s caller Leave reply done made outcome is makes = absurd (let e : None ≡ Some made = ap (λ (t : Turned). t.made) is ∙ makes in cc)
+ends_missed s caller (Leave fresh) reply done made outcome is makes = absurd (let e : None ≡ Some made = ap (λ (t : Turned). t.made) is ∙ makes in cc)
 ends_missed s caller (Enter mode) reply done made outcome is makes =
     absurd (let e : None ≡ Some made = ap (λ (t : Turned). t.made) is ∙ makes in cc)
 ends_missed s caller (Move position) reply done made outcome is makes =
@@ -119,12 +119,13 @@ IsPutOff s caller moment logout plan =
     Follows plan s × (ended plan Fault s ≡ refused (if logout then without_mode (later s moment) caller else later s moment) DiskFault)
 
 left_so : (s : State) (caller moment : ℕ) (logout : Bool) → IsCaller s caller
-    → IsPutOff s caller moment logout (record { caller = caller; moment = moment; effect = if logout then Leave else Stay; reply = Refused DiskFault })
-left_so s caller moment true is_caller = (is_caller, refl)
+    → IsPutOff s caller moment logout
+    (record { caller = caller; moment = moment; effect = if logout then Leave (fresh_for s caller) else Stay; reply = Refused DiskFault })
+left_so s caller moment true is_caller = ((is_caller, refl), refl)
 left_so s caller moment false is_caller = (tt, refl)
 
 pub put_off_prepared : (s : State) (caller moment : ℕ) (command : Command) (made : Made) (plan : Plan) → s.flight ≡ Some made → IsCaller s caller
-    → plan ≡ put_off caller moment command → IsPrepared s caller moment (CommandOf command) plan
+    → plan ≡ put_off s caller moment command → IsPrepared s caller moment (CommandOf command) plan
 put_off_prepared s caller moment command made plan flying is_caller is =
     subst (IsPrepared s caller moment (CommandOf command)) (sym is) record {
       follows = so.0;
@@ -134,11 +135,11 @@ put_off_prepared s caller moment command made plan flying is_caller is =
     waits : waiting_of s moment ≡ InFlight made
     waits = ap (λ (flight : Option Made). waiting_for flight (is_revert_due s.kept moment)) flying
 
-    so : IsPutOff s caller moment (is_logout command) (put_off caller moment command)
+    so : IsPutOff s caller moment (is_logout command) (put_off s caller moment command)
     so = left_so s caller moment (is_logout command) is_caller
 
-    steps : (outcome : Outcome) → CanEnd (waiting_of s moment) (CommandOf command) (made_in (put_off caller moment command).effect) outcome
-        → Steps s caller moment (CommandOf command) outcome (ended (put_off caller moment command) outcome s)
-    steps Done can = absurd (subst (λ w. CanEnd w (CommandOf command) (made_in (put_off caller moment command).effect) Done) waits can)
+    steps : (outcome : Outcome) → CanEnd (waiting_of s moment) (CommandOf command) (made_in (put_off s caller moment command).effect) outcome
+        → Steps s caller moment (CommandOf command) outcome (ended (put_off s caller moment command) outcome s)
+    steps Done can = absurd (subst (λ w. CanEnd w (CommandOf command) (made_in (put_off s caller moment command).effect) Done) waits can)
     steps Fault can =
-        subst (λ w. StepsFrom w (later s moment) caller (CommandOf command) Fault (ended (put_off caller moment command) Fault s)) (sym waits) so.1
+        subst (λ w. StepsFrom w (later s moment) caller (CommandOf command) Fault (ended (put_off s caller moment command) Fault s)) (sym waits) so.1

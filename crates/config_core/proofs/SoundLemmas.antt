@@ -5,7 +5,9 @@ use Rattle.std.specs.FinMap as map
 use Rattle.std.proofs.lemmas.List.Elements.{All-nil}
 use Rattle.commands.specs.Sound.{IsSound}
 use Rattle.commands.specs.declared.command.Command.{Command}
-use Rattle.commands.specs.declared.command.Command.TheVariants.{Configure, ShowActive, ShowCommits, Logout, Edit, Up, Top, Exit, ExitAll, Show, Change, Load, Rollback, CheckOnly, Commit as CommitAsked}
+use Rattle.commands.specs.declared.command.LoadWay.{LoadWay}
+use Rattle.commands.specs.declared.command.Op.{Op}
+use Rattle.commands.specs.declared.command.Command.TheVariants.{Configure, ShowActive, ShowCommits, Logout, Edit, Up, Top, Exit, ExitAll, Show, Change, Load, Rollback, CheckOnly, Commit as CommitAsked, Status}
 use Rattle.cfg_base.specs.declared.path.Step.{Step}
 use Rattle.cfg_lex.specs.Printed.{IsPrintable}
 use Rattle.cfg_tree.specs.Statements.{Statements}
@@ -23,12 +25,13 @@ use Rattle.config_core.specs.declared.event.Outcome.TheVariants.{Done, Fault}
 use Rattle.config_core.specs.declared.reply.Reply.{Reply}
 use Rattle.config_core.specs.Levels.{Position, is_level_at}
 use Rattle.config_core.specs.State.{State, Made}
-use Rattle.config_core.specs.Callers.{is_configuring, level_of, without_mode}
+use Rattle.config_core.specs.Access.{bar_to}
+use Rattle.config_core.specs.Callers.{level_of, without_mode}
 use Rattle.config_core.specs.Entries.{commit_of, confirm_of, made_by, revert_made, taken}
-use Rattle.config_core.specs.Serving.{Turned, answered, exited, edited, makes, left_if, checked, Moves, IsLost, Changes, IsUnchanged, Loads, IsNotLoaded, Replaces, RollsTo, Checks, Shows, Serves}
+use Rattle.config_core.specs.Serving.{Turned, answered, exited, edited, makes, left_if, checked, Moves, IsLost, Changes, IsUnchanged, Loads, IsNotLoaded, Replaces, RollsTo, Checks, Shows, Does, Serves}
 use Rattle.config_core.specs.Machine.{Waiting, InFlight, Missed, Free, waiting_for, waiting_of, is_logout, settled, reverted, left_by, Ends, IsPutInFlight, StepsFrom, Steps, later, Fits, IsAskable}
 use Rattle.config_core.specs.Soundness.{IsSoundCommit, IsSoundEntry, IsSoundMade, IsSoundKept, AreSound, IsSoundState}
-use Rattle.config_core.proofs.StepLemmas.{by_mode}
+use Rattle.config_core.proofs.StepLemmas.{by_bar, by_bool}
 
 -- a step leaves a state that is sound, and an entry that may be the next one, or none
 abbrev Keeps : State → Turned → Type 0
@@ -93,7 +96,7 @@ module _ (s : State) (sound : IsSoundState s) where
       → (s.kept.count < MAX_ENTRIES → IsSoundMade s.kept s.greatest (made_by caller entry)) → Keeps s (makes s caller entry quit reply)
   makes_keep caller entry quit reply is =
       either s (nat_lt s.kept.count MAX_ENTRIES) _ _
-      (λ room. let made = is (below s.kept.count MAX_ENTRIES room) in (left_sound quit caller _ (taken_sound s entry (Some caller) sound made), made)) (sound, tt)
+      (λ room. let made = is (below s.kept.count MAX_ENTRIES room) in (left_sound quit caller (taken s (made_by caller entry)) (taken_sound s entry (Some caller) sound made), made)) (sound, tt)
 
   commit_is_sound : (caller minutes : ℕ) (comment : List ℕ) → minutes ≤ 65535 → IsPrintable comment → Accepts s.candidate → s.kept.count < MAX_ENTRIES
       → IsSoundMade s.kept s.greatest (made_by caller (CommitOf (commit_of s caller minutes comment)))
@@ -149,40 +152,41 @@ module _ (s : State) (sound : IsSoundState s) where
     rolls_keep : (n : ℕ) (commit : Option Commit) → RollsTo s n commit turned → Keeps s turned
     rolls_keep n None rolls = same turned _ (sound, tt) rolls
     rolls_keep n (Some commit) rolls =
-        by_mode (n == 0) _ _ (Keeps s turned) (same turned _ (sound, tt)) (λ (r : Replaces s commit.tree turned). same turned _ (sound, tt) r.is) rolls
+        by_bool (n == 0) _ _ (Keeps s turned) (same turned _ (sound, tt)) (λ (r : Replaces s commit.tree turned). same turned _ (sound, tt) r.is) rolls
 
     moves_keep : (asked : List (List ℕ)) → Moves s caller asked turned ⊎ IsLost s (level_of s caller) asked turned → Keeps s turned
     moves_keep asked (inl moves) = same turned _ (edited_keeps caller moves.target.path) moves.is
     moves_keep asked (inr lost) = same turned _ (sound, tt) lost.is
 
+    changes_keep : (op : Op) → Changes s caller op turned ⊎ IsUnchanged s caller op turned → Keeps s turned
+    changes_keep op (inl changes) = same turned _ (sound, tt) changes.is
+    changes_keep op (inr unchanged) = same turned _ (sound, tt) unchanged.is
+
+    loads_keep : (way : LoadWay) (text : List ℕ) → Loads s way text turned ⊎ IsNotLoaded s way text turned → Keeps s turned
+    loads_keep way text (inl loads) = same turned _ (sound, tt) loads.is
+    loads_keep way text (inr fault) = same turned _ (sound, tt) fault.is
+
+    does_keep : (command : Command) → IsSound command → Does s caller command turned → Keeps s turned
+    does_keep (Configure mode) is = same turned _ (sound, tt)
+    does_keep (ShowActive asked form) is = λ shows. same turned _ (sound, tt) shows.is
+    does_keep ShowCommits is = λ lists. same turned _ (sound, tt) lists.is
+    does_keep Logout is = same turned _ (sound, tt)
+    does_keep (Edit asked) is = moves_keep asked
+    does_keep (Up count) is = same turned _ (sound, tt)
+    does_keep Top is = same turned _ (sound, tt)
+    does_keep Exit is = same turned _ (exited_keeps caller _)
+    does_keep ExitAll is = same turned _ (sound, tt)
+    does_keep (Show asked form) is = λ shows. same turned _ (sound, tt) shows.is
+    does_keep (Change op) is = changes_keep op
+    does_keep (Load way text) is = loads_keep way text
+    does_keep (Rollback n) is = rolls_keep n (nth_last s.kept n)
+    does_keep CheckOnly is = checks_keep turned _ (λ accepted. checked_keeps caller s.kept.pending refl)
+    does_keep (CommitAsked minutes comment quit) is =
+        checks_keep turned _ (λ accepted. makes_keep caller (CommitOf (commit_of s caller minutes comment)) quit _ (commit_is_sound caller minutes comment is.0 is.1 accepted))
+    does_keep Status is = same turned _ (sound, tt)
+
     serves_keep : (command : Command) → IsSound command → Serves s caller command turned → Keeps s turned
-    serves_keep (Configure mode) is = by_mode (is_configuring s caller) _ _ _ (same turned _ (sound, tt)) (same turned _ (sound, tt))
-    serves_keep (ShowActive asked form) is = by_mode (is_configuring s caller) _ _ _ (same turned _ (sound, tt)) (λ shows. same turned _ (sound, tt) shows.is)
-    serves_keep ShowCommits is = by_mode (is_configuring s caller) _ _ _ (same turned _ (sound, tt)) (λ lists. same turned _ (sound, tt) lists.is)
-    serves_keep Logout is = same turned _ (sound, tt)
-    serves_keep (Edit asked) is = by_mode (is_configuring s caller) _ _ _ (moves_keep asked) (same turned _ (sound, tt))
-    serves_keep (Up count) is = by_mode (is_configuring s caller) _ _ _ (same turned _ (sound, tt)) (same turned _ (sound, tt))
-    serves_keep Top is = by_mode (is_configuring s caller) _ _ _ (same turned _ (sound, tt)) (same turned _ (sound, tt))
-    serves_keep Exit is = by_mode (is_configuring s caller) _ _ _ (same turned _ (exited_keeps caller _)) (same turned _ (sound, tt))
-    serves_keep ExitAll is = by_mode (is_configuring s caller) _ _ _ (same turned _ (sound, tt)) (same turned _ (sound, tt))
-    serves_keep (Show asked form) is = by_mode (is_configuring s caller) _ _ _ (λ shows. same turned _ (sound, tt) shows.is) (same turned _ (sound, tt))
-    serves_keep (Change op) is = by_mode (is_configuring s caller) _ _ _ either_way (same turned _ (sound, tt))
-      where
-        either_way : Changes s caller op turned ⊎ IsUnchanged s caller op turned → Keeps s turned
-        either_way (inl changes) = same turned _ (sound, tt) changes.is
-        either_way (inr unchanged) = same turned _ (sound, tt) unchanged.is
-    serves_keep (Load way text) is = by_mode (is_configuring s caller) _ _ _ either_way (same turned _ (sound, tt))
-      where
-        either_way : Loads s way text turned ⊎ IsNotLoaded s way text turned → Keeps s turned
-        either_way (inl loads) = same turned _ (sound, tt) loads.is
-        either_way (inr fault) = same turned _ (sound, tt) fault.is
-    serves_keep (Rollback n) is = by_mode (is_configuring s caller) _ _ _ (rolls_keep n (nth_last s.kept n)) (same turned _ (sound, tt))
-    serves_keep CheckOnly is =
-        by_mode (is_configuring s caller) _ _ _ (checks_keep turned _ (λ accepted. checked_keeps caller s.kept.pending refl)) (same turned _ (sound, tt))
-    serves_keep (CommitAsked minutes comment quit) is =
-        by_mode (is_configuring s caller) _ _ _
-        (checks_keep turned _ (λ accepted. makes_keep caller (CommitOf (commit_of s caller minutes comment)) quit _ (commit_is_sound caller minutes comment is.0 is.1 accepted)))
-        (same turned _ (sound, tt))
+    serves_keep command is = by_bar (bar_to s caller command) s turned _ _ (λ refusal. same turned _ (sound, tt)) (does_keep command is)
 
   -- what was to be done, or what is in flight in its place
   put_keeps : (done turned : Turned) → Keeps s done → IsPutInFlight s done turned → Keeps s turned

@@ -5,6 +5,7 @@ use Rattle.std.specs.Option.{option_map}
 use Rattle.commands.specs.declared.command.Form.{Form}
 use Rattle.commands.specs.declared.command.LoadWay.{LoadWay}
 use Rattle.commands.specs.declared.command.Op.{Op}
+use Rattle.commands.specs.declared.command.Command.{Command}
 use Rattle.commands.specs.declared.command.Command.TheVariants.{Change, Load}
 use Rattle.cfg_base.specs.declared.path.Step.{Step}
 use Rattle.cfg_tree.specs.Full.{Expansion}
@@ -14,43 +15,40 @@ use Rattle.load_ops.specs.Answer.{IsLoad}
 use Rattle.commit_check.specs.Accepts.{Accepts, IsAccepted}
 use Rattle.config_core.specs.declared.effect.Effect.TheVariants.{Edit}
 use Rattle.config_core.specs.declared.reply.Reply.{Reply}
-use Rattle.config_core.specs.declared.reply.Refusal.TheVariants.{WrongMode}
+use Rattle.config_core.specs.declared.reply.Refusal.{Refusal}
 use Rattle.config_core.specs.declared.reply.Reply.TheVariants.{Done, Loaded}
 use Rattle.config_core.specs.Plan.{Plan}
 use Rattle.config_core.specs.State.{State}
-use Rattle.config_core.specs.Callers.{level_of, is_configuring}
-use Rattle.config_core.specs.Serving.{Turned, refused, Serves, Shows, Checks, RollsTo, Replaces}
+use Rattle.config_core.specs.Callers.{level_of}
+use Rattle.config_core.specs.Serving.{Turned, refused, Unless, Does, Serves, Shows, Checks}
 use Rattle.config_core.specs.Machine.{later}
-use Rattle.config_core.specs.Prepared.{Prepares}
-
-pub served : (b : Bool) (P Q : Type 0) → b ≡ true → P → MatchBool b P Q
-served true P Q e p = p
-served false P Q e p = cc
+use Rattle.config_core.specs.Access.{bar_to}
+use Rattle.config_core.specs.Prepared.{Prepares, turned_by}
 
 -- a plan of an edit of the candidate
 abbrev edits : ℕ → ℕ → Statements → Bool → Reply → Plan
 edits caller moment next is_modified reply = record { caller = caller; moment = moment; effect = Edit next is_modified; reply = reply }
 
 -- a change of the candidate
-pub prepares_change : (s : State) (caller moment : ℕ) (op : Op) (next : Statements) (told : Bool) (plan : Plan) → is_configuring s caller ≡ true
+pub prepares_change : (s : State) (caller moment : ℕ) (op : Op) (next : Statements) (told : Bool) (plan : Plan)
     → IsChange s.candidate next (level_of s caller) op told → plan ≡ edits caller moment next (s.is_modified || told) Done
-    → Prepares s moment (Serves (later s moment) caller (Change op)) plan
-prepares_change s caller moment op next told plan configuring change is =
-    subst (Prepares s moment (Serves (later s moment) caller (Change op))) (sym is) record {
+    → Prepares s moment (Does (later s moment) caller (Change op)) plan
+prepares_change s caller moment op next told plan change is =
+    subst (Prepares s moment (Does (later s moment) caller (Change op))) (sym is) record {
       at_moment = refl;
       follows = tt;
-      steps = served (is_configuring s caller) _ _ configuring (inl record { next = next; told = told; change = change; is = refl });
+      steps = inl record { next = next; told = told; change = change; is = refl };
     }
 
 -- a load into the candidate
 pub prepares_load : (s : State) (caller moment : ℕ) (way : LoadWay) (text : List ℕ) (next : Statements) (told : Bool) (plan : Plan)
-    → is_configuring s caller ≡ true → IsLoad way s.candidate text next told → plan ≡ edits caller moment next (s.is_modified || told) Loaded
-    → Prepares s moment (Serves (later s moment) caller (Load way text)) plan
-prepares_load s caller moment way text next told plan configuring load is =
-    subst (Prepares s moment (Serves (later s moment) caller (Load way text))) (sym is) record {
+    → IsLoad way s.candidate text next told → plan ≡ edits caller moment next (s.is_modified || told) Loaded
+    → Prepares s moment (Does (later s moment) caller (Load way text)) plan
+prepares_load s caller moment way text next told plan load is =
+    subst (Prepares s moment (Does (later s moment) caller (Load way text))) (sym is) record {
       at_moment = refl;
       follows = tt;
-      steps = served (is_configuring s caller) _ _ configuring (inl record { next = next; told = told; load = load; is = refl });
+      steps = inl record { next = next; told = told; load = load; is = refl };
     }
 
 -- a candidate that is accepted
@@ -59,14 +57,14 @@ accepted_there candidate next full same accepted = subst Accepts same (full, acc
 
 -- what is done for an accepted candidate is done for the check of the candidate
 pub prepares_accepted : {E : Type 0} (s : State) (candidate : Statements) (caller moment : ℕ) (full : Expansion) (done : Turned) (answer : Result Plan E)
-    → is_configuring s caller ≡ true → candidate ≡ s.candidate → IsAccepted candidate full
+    → candidate ≡ s.candidate → IsAccepted candidate full
     → IfOk answer (Prepares s moment (λ turned. turned ≡ done))
-    → IfOk answer (Prepares s moment (λ turned. MatchBool (is_configuring s caller) (Checks (later s moment) turned done) (turned ≡ refused (later s moment) WrongMode)))
-prepares_accepted s candidate caller moment full done (Err none) configuring same accepted h = tt
-prepares_accepted s candidate caller moment full done (Ok plan) configuring same accepted h = record {
+    → IfOk answer (Prepares s moment (λ turned. Checks (later s moment) turned done))
+prepares_accepted s candidate caller moment full done (Err none) same accepted h = tt
+prepares_accepted s candidate caller moment full done (Ok plan) same accepted h = record {
   at_moment = h.at_moment;
   follows = h.follows;
-  steps = served (is_configuring s caller) _ _ configuring (inl (accepted_there candidate s.candidate full same accepted, h.steps));
+  steps = inl (accepted_there candidate s.candidate full same accepted, h.steps);
 }
 
 -- a show leaves the state as it was
@@ -74,7 +72,31 @@ pub shows_stay : (s : State) (m : Statements) (level : List Step) (asked : List 
     → Shows s m level asked form turned → turned.state ≡ s
 shows_stay s m level asked form turned shows = ap (λ (t : Turned). t.state) shows.is
 
--- a command is served, or refused for its mode
-pub by_mode : (b : Bool) (A B P : Type 0) → (A → P) → (B → P) → MatchBool b A B → P
-by_mode true A B P first second so = first so
-by_mode false A B P first second so = second so
+-- a command is refused for what bars it, or is done
+pub by_bar : (bar : Option Refusal) (s : State) (turned : Turned) (A P : Type 0) → ((refusal : Refusal) → turned ≡ refused s refusal → P) → (A → P)
+    → Unless bar s turned A → P
+by_bar None s turned A P barred done so = done so
+by_bar (Some refusal) s turned A P barred done so = barred refusal so
+
+-- a step of a command that is barred, and of one that isn't
+pub prepares_barred : (s : State) (caller moment : ℕ) (command : Command) (refusal : Refusal) (plan : Plan) → bar_to s caller command ≡ Some refusal
+    → Prepares s moment (λ turned. turned ≡ refused (later s moment) refusal) plan → Prepares s moment (Serves (later s moment) caller command) plan
+prepares_barred s caller moment command refusal plan bar prep = record {
+  at_moment = prep.at_moment;
+  follows = prep.follows;
+  steps = subst (λ b. Unless b (later s moment) (turned_by plan s) (Does (later s moment) caller command (turned_by plan s))) (sym bar) prep.steps;
+}
+
+pub prepares_unbarred : {E : Type 0} (s : State) (caller moment : ℕ) (command : Command) (answer : Result Plan E) → bar_to s caller command ≡ None
+    → IfOk answer (Prepares s moment (Does (later s moment) caller command)) → IfOk answer (Prepares s moment (Serves (later s moment) caller command))
+prepares_unbarred s caller moment command (Err none) bar h = tt
+prepares_unbarred s caller moment command (Ok plan) bar h = record {
+  at_moment = h.at_moment;
+  follows = h.follows;
+  steps = subst (λ b. Unless b (later s moment) (turned_by plan s) (Does (later s moment) caller command (turned_by plan s))) (sym bar) h.steps;
+}
+
+-- one of two
+pub by_bool : (b : Bool) (A B P : Type 0) → (A → P) → (B → P) → MatchBool b A B → P
+by_bool true A B P first second so = first so
+by_bool false A B P first second so = second so

@@ -1,6 +1,8 @@
 pub mod State
 pub mod Levels
 pub mod Callers
+pub mod Access
+pub mod Status
 pub mod Showing
 pub mod Entries
 pub mod Serving

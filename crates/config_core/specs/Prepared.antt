@@ -1,8 +1,8 @@
 -- A step that is prepared and not yet carried out.
-use Rattle.std.specs.Prelude.{◌≡◌, ◌&&◌, ℕ, Bool, true, not, if◌then◌else◌, Option, Some, None}
+use Rattle.std.specs.Prelude.{◌≡◌, ◌&&◌, ℕ, Bool, true, false, not, if◌then◌else◌, Option, Some, None}
 use Rattle.commands.specs.declared.command.Command.{Command}
 use Rattle.cfg_tree.specs.Statements.{Statements}
-use Rattle.commit_ledger.specs.Kept.{Kept, target_for, NumberFits, RoomFor}
+use Rattle.commit_ledger.specs.Kept.{Kept, active_of, target_for, NumberFits, RoomFor}
 use Rattle.config_core.specs.declared.effect.Appending.{Appending}
 use Rattle.config_core.specs.declared.effect.Effect.{Effect}
 use Rattle.config_core.specs.declared.effect.Effect.TheVariants.{Stay, Leave, Enter, Move, Edit, Settle, Append}
@@ -15,10 +15,9 @@ use Rattle.config_core.specs.declared.event.Outcome.TheVariants.{Done, Fault}
 use Rattle.config_core.specs.declared.reply.Refusal.TheVariants.{DiskFault}
 use Rattle.config_core.specs.declared.reply.Reply.{Reply}
 use Rattle.config_core.specs.declared.reply.Reply.TheVariants.{Refused}
-use Rattle.config_core.specs.Levels.{at_top}
 use Rattle.config_core.specs.Plan.{Plan, made_of, made_in, tree_in}
 use Rattle.config_core.specs.State.{State, Made}
-use Rattle.config_core.specs.Callers.{IsCaller, with_caller, with_position, without_mode}
+use Rattle.config_core.specs.Callers.{IsCaller, holds, with_position, entered, without_mode}
 use Rattle.config_core.specs.Entries.{taken}
 use Rattle.config_core.specs.Serving.{Turned, left_if}
 use Rattle.config_core.specs.Machine.{Waiting, InFlight, Missed, Free, waiting_of, is_logout, settled, later, Steps}
@@ -31,8 +30,8 @@ settled_in (Some made) is_kept s = settled s made is_kept
 -- what an effect makes of the state, by the outcome
 abbrev pub effected : Effect → ℕ → Outcome → State → State
 effected Stay caller outcome s = s
-effected Leave caller outcome s = without_mode s caller
-effected (Enter mode) caller outcome s = with_caller s caller (Some mode) at_top
+effected (Leave fresh) caller outcome s = without_mode s caller
+effected (Enter mode) caller outcome s = entered s caller mode
 effected (Move position) caller outcome s = with_position s caller position
 effected (Edit tree is_modified) caller outcome s = record s { candidate = tree; is_modified = is_modified }
 effected (Settle is_kept) caller outcome s = settled_in s.flight is_kept s
@@ -63,10 +62,14 @@ pub record IsReady (kept : Kept) (a : Appending) : Type 0 where
   pub room : RoomFor kept a.ready.entry
   pub fresh : a.fresh ≡ tree_in a.ready.entry
 
+-- the map that the candidate becomes when a caller leaves the mode, where what it changed is discarded
+abbrev pub fresh_for : State → ℕ → Option Statements
+fresh_for s caller = if holds s.exclusive caller then Some (active_of s.kept) else None
+
 -- the step was prepared of such a state
 abbrev pub CanApply : Effect → ℕ → State → Type 0
 CanApply Stay caller s = Unit {0}
-CanApply Leave caller s = IsCaller s caller
+CanApply (Leave fresh) caller s = IsCaller s caller × (fresh ≡ fresh_for s caller)
 CanApply (Enter mode) caller s = IsCaller s caller
 CanApply (Move position) caller s = IsCaller s caller
 CanApply (Edit tree is_modified) caller s = Unit {0}
@@ -103,9 +106,13 @@ need_in Missed = need.Revert
 need_in Free = need.Nothing
 
 -- the plan of a command that isn't done because an entry is in flight
-abbrev pub put_off : ℕ → ℕ → Command → Plan
-put_off caller moment command =
-    record { caller = caller; moment = moment; effect = if is_logout command then Leave else Stay; reply = Refused DiskFault }
+abbrev pub put_off : State → ℕ → ℕ → Command → Plan
+put_off s caller moment command = record {
+  caller = caller;
+  moment = moment;
+  effect = if is_logout command then Leave (fresh_for s caller) else Stay;
+  reply = Refused DiskFault;
+}
 
 -- an event settles the entry in flight
 abbrev pub IsSettling : Event → Type 0
@@ -121,3 +128,8 @@ candidate_with candidate is_modified (Some tree) is_committed = if is_modified &
 abbrev pub modified_with : Bool → Option Statements → Bool → Bool
 modified_with is_modified None is_committed = is_modified
 modified_with is_modified (Some tree) is_committed = is_modified && not is_committed
+
+-- the candidate becomes a map that isn't modified, where there is one
+abbrev pub discarded : State → Option Statements → State
+discarded s None = s
+discarded s (Some tree) = record s { candidate = tree; is_modified = false }

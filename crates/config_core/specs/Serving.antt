@@ -6,7 +6,7 @@ use Rattle.commands.specs.declared.command.Form.{Form}
 use Rattle.commands.specs.declared.command.LoadWay.{LoadWay}
 use Rattle.commands.specs.declared.command.Op.{Op}
 use Rattle.commands.specs.declared.command.Command.{Command}
-use Rattle.commands.specs.declared.command.Command.TheVariants.{Configure, ShowActive, ShowCommits, Logout, Edit, Up, Top, Exit, ExitAll, Show, Change, Load, Rollback, CheckOnly, Commit as CommitAsked}
+use Rattle.commands.specs.declared.command.Command.TheVariants.{Configure, ShowActive, ShowCommits, Logout, Edit, Up, Top, Exit, ExitAll, Show, Change, Load, Rollback, CheckOnly, Commit as CommitAsked, Status}
 use Rattle.cfg_base.specs.declared.path.Step.{Step}
 use Rattle.cfg_tree.specs.Statements.{Statements}
 use Rattle.edit_ops.specs.declared.fault.EditFault.{EditFault}
@@ -21,12 +21,14 @@ use Rattle.commit_ledger.specs.declared.limit.TheConstants.{MAX_ENTRIES}
 use Rattle.commit_ledger.specs.Kept.{Unconfirmed, active_of, nth_last, kept_commits}
 use Rattle.commit_ledger.specs.Listing.{IsListing}
 use Rattle.config_core.specs.declared.reply.Refusal.{Refusal}
-use Rattle.config_core.specs.declared.reply.Refusal.TheVariants.{WrongMode, NotALevel, NoRollback, Check, Exhausted}
+use Rattle.config_core.specs.declared.reply.Refusal.TheVariants.{NotALevel, NoRollback, Check, Exhausted}
 use Rattle.config_core.specs.declared.reply.Reply.{Reply}
 use Rattle.config_core.specs.declared.reply.Reply.TheVariants.{Done, LoggedOut, Text, Entered, Left, Loaded, Checked, Committed, Refused}
 use Rattle.config_core.specs.State.{State, Made}
 use Rattle.config_core.specs.Levels.{Position, at_top, is_level_at, moved_to, moved_up, moved_back}
-use Rattle.config_core.specs.Callers.{is_configuring, position_of, level_of, with_caller, with_position, without_mode}
+use Rattle.config_core.specs.Callers.{position_of, level_of, with_position, entered, out_of_mode, without_mode}
+use Rattle.config_core.specs.Access.{bar_to}
+use Rattle.config_core.specs.Status.{session_lines}
 use Rattle.config_core.specs.Entries.{commit_of, confirm_of, made_by, with_candidate, freshened, taken}
 use Rattle.config_core.specs.Showing.{refusal_of, load_refusal_of, NamesNone, NamesOne, IsShow}
 
@@ -125,9 +127,9 @@ pub record BreaksRule (s : State) (turned : Turned) : Type 0 where
 abbrev pub Checks : State → Turned → Turned → Type 0
 Checks s turned accepted = (Accepts s.candidate × (turned ≡ accepted)) ⊎ BreaksRule s turned
 
--- with `and-quit` the caller leaves the mode
+-- with `and-quit` the caller leaves the mode; behind its commit nothing is left to discard
 abbrev pub left_if : Bool → ℕ → State → State
-left_if quit caller s = if quit then without_mode s caller else s
+left_if quit caller s = if quit then out_of_mode s caller else s
 
 -- a caller's command makes an entry, unless the list is full
 abbrev pub makes : State → ℕ → Entry → Bool → Reply → Turned
@@ -141,31 +143,31 @@ abbrev pub checked : State → ℕ → Option Unconfirmed → Turned
 checked s caller None = answered s Checked
 checked s caller (Some run) = makes s caller (ConfirmOf (confirm_of s caller)) false Checked
 
--- a command of operational mode, and one of configuration mode, is refused in the other
-abbrev pub Operational : State → ℕ → Turned → Type 0 → Type 0
-Operational s caller turned Served = MatchBool (is_configuring s caller) (turned ≡ refused s WrongMode) Served
+-- a command is refused for what bars it, or does this
+abbrev pub Unless : Option Refusal → State → Turned → Type 0 → Type 0
+Unless None s turned Served = Served
+Unless (Some refusal) s turned Served = turned ≡ refused s refusal
 
-abbrev pub Configuring : State → ℕ → Turned → Type 0 → Type 0
-Configuring s caller turned Served = MatchBool (is_configuring s caller) Served (turned ≡ refused s WrongMode)
+-- what a command that nothing bars does at the state's own greatest moment
+abbrev pub Does : State → ℕ → Command → Turned → Type 0
+Does s caller (Configure mode) turned = turned ≡ answered (entered s caller mode) (Entered mode)
+Does s caller (ShowActive asked form) turned = Shows s (active_of s.kept) [] asked form turned
+Does s caller ShowCommits turned = Lists s turned
+Does s caller Logout turned = turned ≡ answered (without_mode s caller) LoggedOut
+Does s caller (Edit asked) turned = Moves s caller asked turned ⊎ IsLost s (level_of s caller) asked turned
+Does s caller (Up count) turned = turned ≡ answered (with_position s caller (moved_up (position_of s caller) count)) Done
+Does s caller Top turned = turned ≡ answered (with_position s caller at_top) Done
+Does s caller Exit turned = turned ≡ exited s caller (moved_back (position_of s caller))
+Does s caller ExitAll turned = turned ≡ answered (without_mode s caller) Left
+Does s caller (Show asked form) turned = Shows s s.candidate (level_of s caller) asked form turned
+Does s caller (Change op) turned = Changes s caller op turned ⊎ IsUnchanged s caller op turned
+Does s caller (Load way text) turned = Loads s way text turned ⊎ IsNotLoaded s way text turned
+Does s caller (Rollback n) turned = RollsTo s n (nth_last s.kept n) turned
+Does s caller CheckOnly turned = Checks s turned (checked s caller s.kept.pending)
+Does s caller (CommitAsked minutes comment quit) turned =
+    Checks s turned (makes s caller (CommitOf (commit_of s caller minutes comment)) quit (Committed minutes quit))
+Does s caller Status turned = turned ≡ answered s (Text (session_lines 1 s.callers))
 
--- what a command does at the state's own greatest moment
+-- what a command does, where nothing comes before it
 abbrev pub Serves : State → ℕ → Command → Turned → Type 0
-Serves s caller (Configure mode) turned =
-    Operational s caller turned (turned ≡ answered (with_caller s caller (Some mode) at_top) (Entered mode))
-Serves s caller (ShowActive asked form) turned = Operational s caller turned (Shows s (active_of s.kept) [] asked form turned)
-Serves s caller ShowCommits turned = Operational s caller turned (Lists s turned)
-Serves s caller Logout turned = turned ≡ answered (without_mode s caller) LoggedOut
-Serves s caller (Edit asked) turned = Configuring s caller turned (Moves s caller asked turned ⊎ IsLost s (level_of s caller) asked turned)
-Serves s caller (Up count) turned =
-    Configuring s caller turned (turned ≡ answered (with_position s caller (moved_up (position_of s caller) count)) Done)
-Serves s caller Top turned = Configuring s caller turned (turned ≡ answered (with_position s caller at_top) Done)
-Serves s caller Exit turned = Configuring s caller turned (turned ≡ exited s caller (moved_back (position_of s caller)))
-Serves s caller ExitAll turned = Configuring s caller turned (turned ≡ answered (without_mode s caller) Left)
-Serves s caller (Show asked form) turned = Configuring s caller turned (Shows s s.candidate (level_of s caller) asked form turned)
-Serves s caller (Change op) turned = Configuring s caller turned (Changes s caller op turned ⊎ IsUnchanged s caller op turned)
-Serves s caller (Load way text) turned = Configuring s caller turned (Loads s way text turned ⊎ IsNotLoaded s way text turned)
-Serves s caller (Rollback n) turned = Configuring s caller turned (RollsTo s n (nth_last s.kept n) turned)
-Serves s caller CheckOnly turned = Configuring s caller turned (Checks s turned (checked s caller s.kept.pending))
-Serves s caller (CommitAsked minutes comment quit) turned =
-    Configuring s caller turned
-    (Checks s turned (makes s caller (CommitOf (commit_of s caller minutes comment)) quit (Committed minutes quit)))
+Serves s caller command turned = Unless (bar_to s caller command) s turned (Does s caller command turned)

@@ -18,6 +18,8 @@ pub record State : Type 0 where
   -- the map that the sessions edit, and whether they changed it since it was the active one
   pub candidate : Statements
   pub is_modified : Bool
+  -- the session that is in exclusive mode
+  pub exclusive : Option ℕ
   -- the sessions, numbered from 1
   pub callers : List Caller
   -- the entry in flight: it isn't known to be kept
@@ -35,6 +37,7 @@ opening_of kept users = record {
   kept = kept;
   candidate = active_of kept;
   is_modified = false;
+  exclusive = None;
   callers = map operational users;
   flight = None;
   greatest = kept.moment;

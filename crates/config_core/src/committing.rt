@@ -9,7 +9,7 @@ ghost use Rattle.config_core.specs.Plan.{tree_in};
 ghost use Rattle.commands.specs.declared.command.Command.{Command};
 ghost use Rattle.config_core.specs.Callers.{IsCaller};
 ghost use Rattle.config_core.specs.Entries.{commit_of, confirm_of};
-ghost use Rattle.config_core.specs.Serving.{Serves, BreaksRule, checked, makes};
+ghost use Rattle.config_core.specs.Serving.{Does, BreaksRule, checked, makes};
 ghost use Rattle.config_core.specs.Machine.{later, reverted};
 ghost use Rattle.config_core.specs.Prepared.{Prepares, IsReady};
 
@@ -107,11 +107,8 @@ impl Core {
 
     pub(crate) fn prepare_check(&self, caller: u32, moment: Moment) -> Result<Prepared, NoMemory>
         requires { IsCaller self.now caller }
-        ensures { IfOk result (Prepares self.now moment (Serves (later self.now moment) caller Command.CheckOnly)) }
+        ensures { IfOk result (Prepares self.now moment (Does (later self.now moment) caller Command.CheckOnly)) }
     {
-        if !self.is_configuring(caller) {
-            return Ok(refused(caller, moment, Refusal::WrongMode));
-        }
         match check(self.alloc, &self.candidate) {
             Ok(_) => self.checked(caller, moment),
             Err(fault) => self.broken(caller, moment, fault),
@@ -153,11 +150,8 @@ impl Core {
         quit: bool,
     ) -> Result<Prepared, NoMemory>
         requires { IsCaller self.now caller }
-        ensures { IfOk result (Prepares self.now moment (Serves (later self.now moment) caller (Command.Commit minutes comment.now quit))) }
+        ensures { IfOk result (Prepares self.now moment (Does (later self.now moment) caller (Command.Commit minutes comment.now quit))) }
     {
-        if !self.is_configuring(caller) {
-            return Ok(refused(caller, moment, Refusal::WrongMode));
-        }
         match check(self.alloc, &self.candidate) {
             Ok(_) => self.committed(caller, moment, minutes, comment, quit),
             Err(fault) => self.broken(caller, moment, fault),

@@ -1,7 +1,7 @@
 ghost use Rattle.std.specs.Prelude.{◌≡◌, map, IfOk, IsOk};
 ghost use Rattle.config_core.specs.State.{opening_of, operational};
-ghost use Rattle.config_core.specs.Callers.{IsCaller, caller_of, level_of, is_configuring};
-ghost use Rattle.config_core.specs.Serving.{Serves};
+ghost use Rattle.config_core.specs.Callers.{IsCaller, caller_of, level_of};
+ghost use Rattle.config_core.specs.Serving.{Does, Serves};
 ghost use Rattle.config_core.specs.Machine.{Fits, later, waiting_of};
 ghost use Rattle.config_core.specs.Prepared.{IsPrepared, Prepares, need_in, put_off, IsSettling};
 
@@ -9,7 +9,7 @@ use crate::caller::Caller;
 use crate::effect::{Appending, Effect};
 use crate::event::{Event, Need};
 use crate::position::Position;
-use crate::prepared::{Prepared, step};
+use crate::prepared::{Prepared, refused, step};
 use crate::reply::{Refusal, Reply};
 use cfg_base::{Moment, NoMemory, Path, UserName, Users};
 use cfg_tree::Tree;
@@ -25,13 +25,15 @@ pub struct Core {
     pub(crate) ledger: Ledger,
     pub(crate) candidate: Tree,
     pub(crate) is_modified: bool,
+    /// The session that is in exclusive mode.
+    pub(crate) exclusive: Option<u32>,
     pub(crate) callers: Vec<Caller>,
     pub(crate) flight: Option<Appending>,
     pub(crate) greatest: Moment,
 }
 
 impl Model for Core {
-    ghost use Rattle.std.specs.Prelude.{IfSome};
+    ghost use Rattle.std.specs.Prelude.{◌<◌, ◌≤◌, IfSome, vec_len};
     ghost use Rattle.std.specs.Option.{option_map};
     ghost use Rattle.std.specs.Coded.{codes};
     ghost use Rattle.cfg_tree.specs.Statements.{statements_code};
@@ -47,12 +49,13 @@ impl Model for Core {
       kept = c.ledger;
       candidate = c.candidate;
       is_modified = c.is_modified;
+      exclusive = c.exclusive;
       callers = c.callers.items;
       flight = option_map made_of c.flight;
       greatest = c.greatest;
     } };
 
-    ghost invariant = { λ c. IfSome c.flight (IsReady c.ledger) };
+    ghost invariant = { λ c. IfSome c.flight (IsReady c.ledger) × IfSome c.exclusive (λ holder. (0 < holder) × (holder ≤ vec_len c.callers)) };
 }
 
 fn callers_of(alloc: Global, users: &[UserName]) -> Result<Vec<Caller>, NoMemory>
@@ -82,6 +85,7 @@ impl Core {
             ledger,
             candidate,
             is_modified: false,
+            exclusive: None,
             callers,
             flight: None,
             greatest,
@@ -137,7 +141,7 @@ impl Core {
             Event::Revert => self.prepare_revert(caller, moment),
             Event::Command(command) => {
                 if self.flight.is_some() {
-                    return Ok(self.prepare_put_off(caller, moment, command));
+                    return self.prepare_put_off(caller, moment, command);
                 }
                 self.prepare_command(caller, moment, command)
             }
@@ -154,18 +158,34 @@ impl Core {
         requires { IsCaller self.now caller }
         ensures { IfOk result (Prepares self.now moment (Serves (later self.now moment) caller command.now)) }
     {
+        match self.bar_to(caller, command)? {
+            Some(refusal) => Ok(refused(caller, moment, refusal)),
+            None => self.prepare_unbarred(caller, moment, command),
+        }
+    }
+
+    // A command that nothing bars.
+    fn prepare_unbarred(
+        &self,
+        caller: u32,
+        moment: Moment,
+        command: &Command,
+    ) -> Result<Prepared, NoMemory>
+        requires { IsCaller self.now caller }
+        ensures { IfOk result (Prepares self.now moment (Does (later self.now moment) caller command.now)) }
+    {
         match command {
             Command::Configure(mode) => Ok(self.prepare_configure(caller, moment, *mode)),
             Command::ShowActive { words, form } => {
                 self.prepare_show_active(caller, moment, words, *form)
             }
             Command::ShowCommits => self.prepare_show_commits(caller, moment),
-            Command::Logout => Ok(self.prepare_logout(caller, moment)),
+            Command::Logout => self.prepare_logout(caller, moment),
             Command::Edit(words) => self.prepare_edit(caller, moment, words),
             Command::Up(count) => self.prepare_up(caller, moment, *count),
             Command::Top => Ok(self.prepare_top(caller, moment)),
             Command::Exit => self.prepare_exit(caller, moment),
-            Command::ExitAll => Ok(self.prepare_exit_all(caller, moment)),
+            Command::ExitAll => self.prepare_exit_all(caller, moment),
             Command::Show { words, form } => self.prepare_show(caller, moment, words, *form),
             Command::Change(op) => self.prepare_change(caller, moment, op),
             Command::Load { way, text } => self.prepare_load(caller, moment, *way, text),
@@ -176,19 +196,25 @@ impl Core {
                 comment,
                 quit,
             } => self.prepare_commit(caller, moment, *minutes, comment, *quit),
+            Command::Status => self.prepare_status(caller, moment),
         }
     }
 
     // While an entry is in flight nothing is done, but that a logout leaves the mode.
-    fn prepare_put_off(&self, caller: u32, moment: Moment, command: &Command) -> Prepared
-        ensures { result ≡ put_off caller moment command.now }
+    fn prepare_put_off(
+        &self,
+        caller: u32,
+        moment: Moment,
+        command: &Command,
+    ) -> Result<Prepared, NoMemory>
+        ensures { IfOk result (λ plan. plan ≡ put_off self.now caller moment command.now) }
     {
         let effect = if matches!(command, Command::Logout) {
-            Effect::Leave
+            Effect::Leave(self.fresh_for(caller)?)
         } else {
             Effect::Stay
         };
-        step(caller, moment, effect, Reply::Refused(Refusal::DiskFault))
+        Ok(step(caller, moment, effect, Reply::Refused(Refusal::DiskFault)))
     }
 
     pub(crate) fn session(&self, caller: u32) -> &Caller
@@ -196,12 +222,5 @@ impl Core {
         ensures { result.now ≡ caller_of self.now caller }
     {
         &self.callers[caller as usize - 1]
-    }
-
-    pub(crate) fn is_configuring(&self, caller: u32) -> bool
-        requires { IsCaller self.now caller }
-        ensures { result ≡ is_configuring self.now caller }
-    {
-        self.session(caller).mode.is_some()
     }
 }

@@ -3,7 +3,7 @@
 ghost use Rattle.std.specs.Prelude.{◌≡◌, ◌==◌, ◌||◌, ◌&&◌, not, IfOk};
 ghost use Rattle.commands.specs.declared.command.Command.{Command};
 ghost use Rattle.config_core.specs.Callers.{IsCaller};
-ghost use Rattle.config_core.specs.Serving.{Serves};
+ghost use Rattle.config_core.specs.Serving.{Does};
 ghost use Rattle.config_core.specs.Machine.{later};
 ghost use Rattle.config_core.specs.Prepared.{Prepares};
 
@@ -40,11 +40,8 @@ impl Core {
         op: &Op,
     ) -> Result<Prepared, NoMemory>
         requires { IsCaller self.now caller }
-        ensures { IfOk result (Prepares self.now moment (Serves (later self.now moment) caller (Command.Change op.now))) }
+        ensures { IfOk result (Prepares self.now moment (Does (later self.now moment) caller (Command.Change op.now))) }
     {
-        if !self.is_configuring(caller) {
-            return Ok(refused(caller, moment, Refusal::WrongMode));
-        }
         let mut tree = self.candidate.copy()?;
         let level = self.session(caller).position.level();
         match apply(self.alloc, &mut tree, level, op) {
@@ -68,11 +65,8 @@ impl Core {
         text: &Bytes,
     ) -> Result<Prepared, NoMemory>
         requires { IsCaller self.now caller }
-        ensures { IfOk result (Prepares self.now moment (Serves (later self.now moment) caller (Command.Load way text.now))) }
+        ensures { IfOk result (Prepares self.now moment (Does (later self.now moment) caller (Command.Load way text.now))) }
     {
-        if !self.is_configuring(caller) {
-            return Ok(refused(caller, moment, Refusal::WrongMode));
-        }
         let mut tree = self.candidate.copy()?;
         match load(self.alloc, &mut tree, way, text.as_slice()) {
             Ok(changed) => {
@@ -94,11 +88,8 @@ impl Core {
         n: u32,
     ) -> Result<Prepared, NoMemory>
         requires { IsCaller self.now caller }
-        ensures { IfOk result (Prepares self.now moment (Serves (later self.now moment) caller (Command.Rollback n))) }
+        ensures { IfOk result (Prepares self.now moment (Does (later self.now moment) caller (Command.Rollback n))) }
     {
-        if !self.is_configuring(caller) {
-            return Ok(refused(caller, moment, Refusal::WrongMode));
-        }
         match self.ledger.rollback(n) {
             Ok(commit_tree) => {
                 let tree = commit_tree.copy()?;

@@ -19,8 +19,8 @@ pub struct Appending {
 #[derive(Debug, Drop)]
 pub enum Effect {
     Stay,
-    /// The caller is in operational mode.
-    Leave,
+    /// The caller is in operational mode, and the candidate becomes this map, where what the caller changed is discarded.
+    Leave(Option<Tree>),
     /// The caller edits so, at the top.
     Enter(Mode),
     /// The caller stands there.

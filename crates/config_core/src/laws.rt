@@ -1,12 +1,14 @@
-//! A step has one outcome, and leaves the active configuration accepted.
+//! A step has one outcome, leaves the active configuration accepted, and leaves the other callers where they are.
 
-ghost use Rattle.std.specs.Prelude.{◌≡◌, ℕ, List, IfSome};
+ghost use Rattle.std.specs.Prelude.{◌≡◌, ◌≢◌, ◌<◌, ℕ, List, false, IfSome};
 ghost use Rattle.cfg_tree.specs.Resolve.{IsLevelPath};
-ghost use Rattle.commit_ledger.specs.Kept.{Kept, factory};
+ghost use Rattle.commands.specs.declared.command.Command.{Command};
+ghost use Rattle.commit_ledger.specs.Kept.{Kept, active_of, factory};
 ghost use Rattle.config_core.specs.declared.event.Event.{Event};
 ghost use Rattle.config_core.specs.declared.event.Outcome.{Outcome};
+ghost use Rattle.config_core.specs.declared.reply.Reply.{Reply};
 ghost use Rattle.config_core.specs.State.{State, IsActiveAccepted, opening_of};
-ghost use Rattle.config_core.specs.Callers.{level_of};
+ghost use Rattle.config_core.specs.Callers.{caller_of, level_of};
 ghost use Rattle.config_core.specs.Serving.{Turned};
 ghost use Rattle.config_core.specs.Machine.{Fits, Steps};
 ghost use Rattle.config_core.specs.Soundness.{IsSoundKept, IsSoundMade, IsSoundState};
@@ -47,4 +49,20 @@ pub fn active_configuration_stays_accepted()
     ensures accepted { (s : State) → IsSoundState s → IsActiveAccepted s }
 {
     nothing_is_accepted();
+}
+
+/// Where a caller stands and how it edits is changed by nobody else, whatever comes of the other's event.
+pub fn others_stay_where_they_are()
+    ensures { (s : State) (caller other moment : ℕ) (event : Event) (outcome : Outcome) (turned : Turned)
+        → 0 < caller → 0 < other → other ≢ caller → Steps s caller moment event outcome turned
+        → caller_of turned.state other ≡ caller_of s other }
+{
+}
+
+/// What `rollback 0` loads is the active configuration, and nothing of it is a change.
+pub fn rollback_0_leaves_nothing_modified()
+    ensures { (s : State) (caller moment : ℕ) (turned : Turned)
+        → Steps s caller moment (Event.Command (Command.Rollback 0)) Outcome.Done turned → turned.reply ≡ Reply.Loaded
+        → (turned.state.candidate ≡ active_of turned.state.kept) × (turned.state.is_modified ≡ false) }
+{
 }

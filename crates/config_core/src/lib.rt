@@ -9,6 +9,7 @@
 //! (`reply_text`).
 #![tactic(auto)]
 
+mod access;
 mod caller;
 mod committing;
 mod core_state;
@@ -23,13 +24,17 @@ mod refusing;
 mod reply;
 mod settling;
 mod showing;
+mod status;
 mod viewing;
 
 pub use caller::Caller;
 pub use core_state::Core;
 pub use effect::{Appending, Effect};
 pub use event::{Event, Need, Outcome};
-pub use laws::{active_configuration_stays_accepted, steps_have_one_outcome};
+pub use laws::{
+    active_configuration_stays_accepted, others_stay_where_they_are,
+    rollback_0_leaves_nothing_modified, steps_have_one_outcome,
+};
 pub use position::Position;
 pub use prepared::Prepared;
 pub use reply::{Refusal, Reply};

@@ -5,10 +5,11 @@ ghost use Rattle.cfg_base.specs.declared.path.Step.{Step};
 ghost use Rattle.cfg_tree.specs.Resolve.{ResolvesTo};
 ghost use Rattle.cfg_tree.specs.Typed.{IsTypedPath};
 ghost use Rattle.commands.specs.declared.command.Command.{Command};
-ghost use Rattle.config_core.specs.Callers.{IsCaller};
-ghost use Rattle.config_core.specs.Serving.{Serves, edited, IsLost};
+ghost use Rattle.config_core.specs.declared.reply.Reply.TheVariants.{Left};
+ghost use Rattle.config_core.specs.Callers.{IsCaller, without_mode};
+ghost use Rattle.config_core.specs.Serving.{Does, answered, edited, IsLost};
 ghost use Rattle.config_core.specs.Machine.{later};
-ghost use Rattle.config_core.specs.Prepared.{Prepares};
+ghost use Rattle.config_core.specs.Prepared.{Prepares, fresh_for};
 
 use crate::core_state::Core;
 use crate::effect::Effect;
@@ -17,26 +18,35 @@ use crate::prepared::{Prepared, refused, step};
 use crate::refusing::{is_level_at, refusal_of};
 use crate::reply::{Refusal, Reply};
 use cfg_base::{Moment, NoMemory, Path, Words};
-use cfg_tree::{WordsFault, resolve};
+use cfg_tree::{Tree, WordsFault, resolve};
 use commands::Mode;
 use edit_ops::EditFault;
 
 impl Core {
     pub(crate) fn prepare_configure(&self, caller: u32, moment: Moment, mode: Mode) -> Prepared
         requires { IsCaller self.now caller }
-        ensures { Prepares self.now moment (Serves (later self.now moment) caller (Command.Configure mode)) result }
+        ensures { Prepares self.now moment (Does (later self.now moment) caller (Command.Configure mode)) result }
     {
-        if self.is_configuring(caller) {
-            return refused(caller, moment, Refusal::WrongMode);
-        }
         step(caller, moment, Effect::Enter(mode), Reply::Entered(mode))
     }
 
-    pub(crate) fn prepare_logout(&self, caller: u32, moment: Moment) -> Prepared
-        requires { IsCaller self.now caller }
-        ensures { Prepares self.now moment (Serves (later self.now moment) caller Command.Logout) result }
+    // The map of the last commit, where what the caller changed is discarded when it leaves the mode.
+    pub(crate) fn fresh_for(&self, caller: u32) -> Result<Option<Tree>, NoMemory>
+        ensures { IfOk result (λ fresh. fresh ≡ fresh_for self.now caller) }
     {
-        step(caller, moment, Effect::Leave, Reply::LoggedOut)
+        if self.holds(caller) {
+            Ok(Some(self.ledger.active().copy()?))
+        } else {
+            Ok(None)
+        }
+    }
+
+    pub(crate) fn prepare_logout(&self, caller: u32, moment: Moment) -> Result<Prepared, NoMemory>
+        requires { IsCaller self.now caller }
+        ensures { IfOk result (Prepares self.now moment (Does (later self.now moment) caller Command.Logout)) }
+    {
+        let fresh = self.fresh_for(caller)?;
+        Ok(step(caller, moment, Effect::Leave(fresh), Reply::LoggedOut))
     }
 
     // The refusal of words that name no statement.
@@ -69,11 +79,8 @@ impl Core {
         words: &Words,
     ) -> Result<Prepared, NoMemory>
         requires { IsCaller self.now caller }
-        ensures { IfOk result (Prepares self.now moment (Serves (later self.now moment) caller (Command.Edit words.now))) }
+        ensures { IfOk result (Prepares self.now moment (Does (later self.now moment) caller (Command.Edit words.now))) }
     {
-        if !self.is_configuring(caller) {
-            return Ok(refused(caller, moment, Refusal::WrongMode));
-        }
         match resolve(self.alloc, self.session(caller).position.level(), words) {
             Ok(target) => self.edited(caller, moment, target.path),
             Err(why) => self.lost(caller, moment, why),
@@ -87,22 +94,16 @@ impl Core {
         count: u32,
     ) -> Result<Prepared, NoMemory>
         requires { IsCaller self.now caller }
-        ensures { IfOk result (Prepares self.now moment (Serves (later self.now moment) caller (Command.Up count))) }
+        ensures { IfOk result (Prepares self.now moment (Does (later self.now moment) caller (Command.Up count))) }
     {
-        if !self.is_configuring(caller) {
-            return Ok(refused(caller, moment, Refusal::WrongMode));
-        }
         let position = self.session(caller).position.moved_up(self.alloc, count)?;
         Ok(step(caller, moment, Effect::Move(position), Reply::Done))
     }
 
     pub(crate) fn prepare_top(&self, caller: u32, moment: Moment) -> Prepared
         requires { IsCaller self.now caller }
-        ensures { Prepares self.now moment (Serves (later self.now moment) caller Command.Top) result }
+        ensures { Prepares self.now moment (Does (later self.now moment) caller Command.Top) result }
     {
-        if !self.is_configuring(caller) {
-            return refused(caller, moment, Refusal::WrongMode);
-        }
         step(
             caller,
             moment,
@@ -111,26 +112,29 @@ impl Core {
         )
     }
 
+    // The caller leaves the mode.
+    fn left(&self, caller: u32, moment: Moment) -> Result<Prepared, NoMemory>
+        requires { IsCaller self.now caller }
+        ensures { IfOk result (Prepares self.now moment (λ turned. turned ≡ answered (without_mode (later self.now moment) caller) Left)) }
+    {
+        let fresh = self.fresh_for(caller)?;
+        Ok(step(caller, moment, Effect::Leave(fresh), Reply::Left))
+    }
+
     pub(crate) fn prepare_exit(&self, caller: u32, moment: Moment) -> Result<Prepared, NoMemory>
         requires { IsCaller self.now caller }
-        ensures { IfOk result (Prepares self.now moment (Serves (later self.now moment) caller Command.Exit)) }
+        ensures { IfOk result (Prepares self.now moment (Does (later self.now moment) caller Command.Exit)) }
     {
-        if !self.is_configuring(caller) {
-            return Ok(refused(caller, moment, Refusal::WrongMode));
-        }
         match self.session(caller).position.moved_back(self.alloc)? {
             Some(position) => Ok(step(caller, moment, Effect::Move(position), Reply::Done)),
-            None => Ok(step(caller, moment, Effect::Leave, Reply::Left)),
+            None => self.left(caller, moment),
         }
     }
 
-    pub(crate) fn prepare_exit_all(&self, caller: u32, moment: Moment) -> Prepared
+    pub(crate) fn prepare_exit_all(&self, caller: u32, moment: Moment) -> Result<Prepared, NoMemory>
         requires { IsCaller self.now caller }
-        ensures { Prepares self.now moment (Serves (later self.now moment) caller Command.ExitAll) result }
+        ensures { IfOk result (Prepares self.now moment (Does (later self.now moment) caller Command.ExitAll)) }
     {
-        if !self.is_configuring(caller) {
-            return refused(caller, moment, Refusal::WrongMode);
-        }
-        step(caller, moment, Effect::Leave, Reply::Left)
+        self.left(caller, moment)
     }
 }

@@ -39,7 +39,7 @@ impl Prepared {
         match &self.effect {
             Effect::Append(appending) => Some(appending.ready.entry()),
             Effect::Stay
-            | Effect::Leave
+            | Effect::Leave(_)
             | Effect::Enter(_)
             | Effect::Move(_)
             | Effect::Edit { .. }

@@ -1,13 +1,17 @@
-use cfg_base::{Bytes, Path};
+use cfg_base::{Bytes, Path, UserName};
 use commands::Mode;
 use curly_grammar::TextFault;
 use edit_ops::EditFault;
 
 /// Why a command was refused; nothing changed but the moment.
-#[derive(Debug, Drop, PartialEq, Eq)]
+#[derive(Debug, Drop)]
 pub enum Refusal {
     /// The command belongs to the other mode.
     WrongMode,
+    /// A session of this user is in exclusive mode.
+    Locked(UserName),
+    /// The candidate has changes that aren't committed.
+    Modified,
     /// No row of the profile takes the last word.
     Unknown(Path),
     /// A name or a value isn't of its kind.
@@ -49,7 +53,7 @@ pub enum Refusal {
 }
 
 /// The answer to an event.
-#[derive(Debug, Drop, PartialEq, Eq)]
+#[derive(Debug, Drop)]
 pub enum Reply {
     Done,
     LoggedOut,

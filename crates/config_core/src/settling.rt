@@ -2,10 +2,10 @@
 
 ghost use Rattle.std.specs.Prelude.{◌≡◌, None};
 ghost use Rattle.config_core.specs.declared.effect.Effect.{Effect};
-ghost use Rattle.config_core.specs.Callers.{IsCaller, with_caller};
+ghost use Rattle.config_core.specs.Callers.{IsCaller, entered, out_of_mode, with_caller};
 ghost use Rattle.config_core.specs.Entries.{taken};
 ghost use Rattle.config_core.specs.Plan.{made_of};
-ghost use Rattle.config_core.specs.Prepared.{CanApply, Follows, IsReady, applied, effected, replied, settled_in, candidate_with, modified_with};
+ghost use Rattle.config_core.specs.Prepared.{CanApply, Follows, IsReady, applied, effected, replied, settled_in, candidate_with, discarded, modified_with};
 
 use crate::core_state::Core;
 use crate::effect::{Appending, Effect};
@@ -32,12 +32,13 @@ impl Core {
         self.greatest = moment;
         match effect {
             Effect::Stay => reply,
-            Effect::Leave => {
-                self.place(caller, None, Position::top(self.alloc));
+            Effect::Leave(fresh) => {
+                self.leave(caller);
+                self.discard(fresh);
                 reply
             }
             Effect::Enter(mode) => {
-                self.place(caller, Some(mode), Position::top(self.alloc));
+                self.enter(caller, mode);
                 reply
             }
             Effect::Move(position) => {
@@ -66,6 +67,38 @@ impl Core {
         session.position = position;
     }
 
+    // The caller edits so, at the top.
+    fn enter(&mut self, caller: u32, mode: Mode)
+        requires { IsCaller self.old caller }
+        ensures { self.new ≡ entered self.old caller mode }
+    {
+        self.place(caller, Some(mode), Position::top(self.alloc));
+        if mode == Mode::Exclusive {
+            self.exclusive = Some(caller);
+        }
+    }
+
+    // The caller is in operational mode, and not in exclusive mode any more.
+    fn leave(&mut self, caller: u32)
+        requires { IsCaller self.old caller }
+        ensures { self.new ≡ out_of_mode self.old caller }
+    {
+        self.place(caller, None, Position::top(self.alloc));
+        if self.holds(caller) {
+            self.exclusive = None;
+        }
+    }
+
+    // The candidate becomes this map of the last commit, and isn't modified.
+    fn discard(&mut self, fresh: Option<Tree>)
+        ensures { self.new ≡ discarded self.old fresh }
+    {
+        if let Some(tree) = fresh {
+            self.candidate = tree;
+            self.is_modified = false;
+        }
+    }
+
     fn settle(&mut self, is_kept: bool)
         ensures { self.new ≡ settled_in self.old.flight is_kept self.old }
     {
@@ -90,7 +123,7 @@ impl Core {
                 let quit = appending.quit;
                 self.take_in(appending);
                 if quit {
-                    self.place(caller, None, Position::top(self.alloc));
+                    self.leave(caller);
                 }
                 reply
             }

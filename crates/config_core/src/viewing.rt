@@ -4,15 +4,15 @@ ghost use Rattle.std.specs.Prelude.{◌≡◌, IfOk};
 ghost use Rattle.cfg_tree.specs.Resolve.{IsLevelPath};
 ghost use Rattle.commands.specs.declared.command.Command.{Command};
 ghost use Rattle.config_core.specs.Callers.{IsCaller};
-ghost use Rattle.config_core.specs.Serving.{Serves, Shows};
+ghost use Rattle.config_core.specs.Serving.{Does, Shows};
 ghost use Rattle.config_core.specs.Machine.{later};
 ghost use Rattle.config_core.specs.Prepared.{Prepares};
 
 use crate::core_state::Core;
 use crate::effect::Effect;
 use crate::position::Position;
-use crate::prepared::{Prepared, refused, step};
-use crate::reply::{Refusal, Reply};
+use crate::prepared::{Prepared, step};
+use crate::reply::Reply;
 use crate::showing::show;
 use cfg_base::{Moment, NoMemory, Path, Words};
 use cfg_tree::Tree;
@@ -45,11 +45,8 @@ impl Core {
         form: Form,
     ) -> Result<Prepared, NoMemory>
         requires { IsCaller self.now caller }
-        ensures { IfOk result (Prepares self.now moment (Serves (later self.now moment) caller (Command.ShowActive words.now form))) }
+        ensures { IfOk result (Prepares self.now moment (Does (later self.now moment) caller (Command.ShowActive words.now form))) }
     {
-        if self.is_configuring(caller) {
-            return Ok(refused(caller, moment, Refusal::WrongMode));
-        }
         let top = Position::top(self.alloc);
         let active = &self.ledger.last().tree;
         self.shows(caller, moment, active, top.level(), words, form)
@@ -63,11 +60,8 @@ impl Core {
         form: Form,
     ) -> Result<Prepared, NoMemory>
         requires { IsCaller self.now caller }
-        ensures { IfOk result (Prepares self.now moment (Serves (later self.now moment) caller (Command.Show words.now form))) }
+        ensures { IfOk result (Prepares self.now moment (Does (later self.now moment) caller (Command.Show words.now form))) }
     {
-        if !self.is_configuring(caller) {
-            return Ok(refused(caller, moment, Refusal::WrongMode));
-        }
         let level = self.session(caller).position.level();
         self.shows(caller, moment, &self.candidate, level, words, form)
     }
@@ -78,11 +72,8 @@ impl Core {
         moment: Moment,
     ) -> Result<Prepared, NoMemory>
         requires { IsCaller self.now caller }
-        ensures { IfOk result (Prepares self.now moment (Serves (later self.now moment) caller Command.ShowCommits)) }
+        ensures { IfOk result (Prepares self.now moment (Does (later self.now moment) caller Command.ShowCommits)) }
     {
-        if self.is_configuring(caller) {
-            return Ok(refused(caller, moment, Refusal::WrongMode));
-        }
         let lines = self.ledger.history_lines(self.alloc)?;
         Ok(step(caller, moment, Effect::Stay, Reply::Text(lines)))
     }

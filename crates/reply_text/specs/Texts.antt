@@ -2,9 +2,10 @@
 use Rattle.std.specs.Prelude.{ℕ, Bool, true, false, List, [], ◌∷◌, ◌++◌, ◌==◌, if◌then◌else◌, codes, decimal}
 use Rattle.std.specs.List.{join_by}
 use Rattle.cfg_base.specs.declared.path.Step.{Step}
-use Rattle.commands.specs.declared.command.Mode.TheVariants.{Shared}
+use Rattle.commands.specs.declared.command.Mode.{Mode}
+use Rattle.commands.specs.declared.command.Mode.TheVariants.{Shared, Exclusive}
 use Rattle.config_core.specs.declared.reply.Refusal.{Refusal}
-use Rattle.config_core.specs.declared.reply.Refusal.TheVariants.{WrongMode, Unknown, BadValue, Incomplete, Extra, NotNamed, NotOrdered, NotThere, AlreadyThere, NotALevel, Protected, TooMany, TooWide, NoRollback, Line, LineEdit, Check, Exhausted, DiskFault}
+use Rattle.config_core.specs.declared.reply.Refusal.TheVariants.{WrongMode, Locked, Modified, Unknown, BadValue, Incomplete, Extra, NotNamed, NotOrdered, NotThere, AlreadyThere, NotALevel, Protected, TooMany, TooWide, NoRollback, Line, LineEdit, Check, Exhausted, DiskFault}
 use Rattle.config_core.specs.declared.reply.Refusal.TheVariants as refusal
 use Rattle.config_core.specs.declared.reply.Reply.{Reply}
 use Rattle.config_core.specs.declared.reply.Reply.TheVariants.{Done, LoggedOut, Text, Entered, Left, Loaded, Checked, Committed, Refused}
@@ -74,6 +75,8 @@ in_line line = codes "line " ++ (decimal line ++ codes ": ")
 -- why a command was refused
 abbrev pub message_of : Refusal → List ℕ
 message_of WrongMode = codes "not in this mode"
+message_of (Locked user) = codes "configuration database locked by: " ++ user
+message_of Modified = codes "configuration database modified"
 message_of (Unknown path) = message_of_edit (edit.Unknown path)
 message_of (BadValue path) = message_of_edit (edit.BadValue path)
 message_of (Incomplete path) = message_of_edit (edit.Incomplete path)
@@ -110,12 +113,17 @@ abbrev pub complete_text : Bool → List ℕ
 complete_text true = codes "commit complete\nExiting configuration mode\n"
 complete_text false = codes "commit complete\n"
 
+-- who edits alone is told that what isn't committed will be discarded
+abbrev pub text_of_entry : Mode → List ℕ
+text_of_entry Shared = codes "Entering configuration mode\n"
+text_of_entry Exclusive = codes "warning: uncommitted changes will be discarded on exit\nEntering configuration mode\n"
+
 -- what is written of a reply
 abbrev pub text_of_reply : Reply → List ℕ
 text_of_reply Done = []
 text_of_reply LoggedOut = []
 text_of_reply (Text bytes) = bytes
-text_of_reply (Entered Shared) = codes "Entering configuration mode\n"
+text_of_reply (Entered mode) = text_of_entry mode
 text_of_reply Left = codes "Exiting configuration mode\n"
 text_of_reply Loaded = codes "load complete\n"
 text_of_reply Checked = codes "configuration check succeeds\n"

@@ -2,14 +2,14 @@
 
 ghost use Rattle.std.specs.Prelude.{◌≤◌, ◌∷◌, ◌++◌, [], OnErr, codes, decimal};
 ghost use Rattle.cfg_base.specs.Counts.{Rose};
-ghost use Rattle.config_core.specs.declared.reply.Refusal.TheVariants.{Check, Line, LineEdit, NoRollback};
+ghost use Rattle.config_core.specs.declared.reply.Refusal.TheVariants.{Check, Line, LineEdit, Locked, NoRollback};
 ghost use Rattle.io_edge.specs.Wrote.{Wrote};
 ghost use Rattle.reply_text.specs.Texts.{message_of, message_of_edit, message_of_text, text_of_refusal};
 
 use crate::writing::{
-    put_number_before, put_number_behind, put_number_between, put_path, put_told,
+    put_both, put_number_before, put_number_behind, put_number_between, put_path, put_told,
 };
-use cfg_base::Path;
+use cfg_base::{Path, UserName};
 use config_core::Refusal;
 use curly_grammar::TextFault;
 use edit_ops::EditFault;
@@ -105,6 +105,18 @@ fn put_check<K: Sink>(sink: &mut K, number: u8, path: &Path) -> Result<(), PutFa
     }
 }
 
+fn put_locked<K: Sink>(sink: &mut K, user: &UserName) -> Result<(), PutFailed>
+    ensures wrote { Wrote result (message_of (Locked user.now)) (K.held sink.old) (K.held sink.new) }
+    ensures cause { OnErr result (Rose (K.faults sink.old) (K.faults sink.new)) }
+    ensures later { K.faults sink.old ≤ K.faults sink.new }
+{
+    put_both(
+        sink,
+        b"configuration database locked by: ",
+        user.as_word().as_bytes(),
+    )
+}
+
 fn put_message<K: Sink>(sink: &mut K, refusal: &Refusal) -> Result<(), PutFailed>
     ensures wrote { Wrote result (message_of refusal.now) (K.held sink.old) (K.held sink.new) }
     ensures cause { OnErr result (Rose (K.faults sink.old) (K.faults sink.new)) }
@@ -112,6 +124,8 @@ fn put_message<K: Sink>(sink: &mut K, refusal: &Refusal) -> Result<(), PutFailed
 {
     match refusal {
         Refusal::WrongMode => put_all(sink, b"not in this mode"),
+        Refusal::Locked(user) => put_locked(sink, user),
+        Refusal::Modified => put_all(sink, b"configuration database modified"),
         Refusal::Unknown(path) => put_told(sink, b"unknown statement: ", path),
         Refusal::BadValue(path) => put_told(sink, b"bad value: ", path),
         Refusal::Incomplete(path) => put_told(sink, b"incomplete statement: ", path),

@@ -4,7 +4,7 @@ ghost use Rattle.std.specs.Prelude.{◌≤◌, OnErr};
 ghost use Rattle.cfg_base.specs.Counts.{Rose};
 ghost use Rattle.config_core.specs.declared.reply.Reply.TheVariants.{Committed};
 ghost use Rattle.io_edge.specs.Wrote.{Wrote};
-ghost use Rattle.reply_text.specs.Texts.{complete_text, deadline_text, no_memory_text, text_of_fault, text_of_reply};
+ghost use Rattle.reply_text.specs.Texts.{complete_text, deadline_text, no_memory_text, text_of_entry, text_of_fault, text_of_reply};
 
 use crate::fault::ShellFault;
 use crate::refusal::put_refusal;
@@ -52,6 +52,20 @@ fn put_committed<K: Sink>(sink: &mut K, minutes: u32, quit: bool) -> Result<(), 
     }
 }
 
+fn put_entry<K: Sink>(sink: &mut K, mode: Mode) -> Result<(), PutFailed>
+    ensures wrote { Wrote result (text_of_entry mode) (K.held sink.old) (K.held sink.new) }
+    ensures cause { OnErr result (Rose (K.faults sink.old) (K.faults sink.new)) }
+    ensures later { K.faults sink.old ≤ K.faults sink.new }
+{
+    match mode {
+        Mode::Shared => put_all(sink, b"Entering configuration mode\n"),
+        Mode::Exclusive => put_all(
+            sink,
+            b"warning: uncommitted changes will be discarded on exit\nEntering configuration mode\n",
+        ),
+    }
+}
+
 /// Writes the text of a reply.
 pub fn put_reply<K: Sink>(sink: &mut K, reply: &Reply) -> Result<(), PutFailed>
     ensures wrote { Wrote result (text_of_reply reply.now) (K.held sink.old) (K.held sink.new) }
@@ -61,7 +75,7 @@ pub fn put_reply<K: Sink>(sink: &mut K, reply: &Reply) -> Result<(), PutFailed>
     match reply {
         Reply::Done | Reply::LoggedOut => Ok(()),
         Reply::Text(text) => put_all(sink, text.as_slice()),
-        Reply::Entered(Mode::Shared) => put_all(sink, b"Entering configuration mode\n"),
+        Reply::Entered(mode) => put_entry(sink, *mode),
         Reply::Left => put_all(sink, b"Exiting configuration mode\n"),
         Reply::Loaded => put_all(sink, b"load complete\n"),
         Reply::Checked => put_all(sink, b"configuration check succeeds\n"),

@@ -32,7 +32,7 @@ left_callers s false caller = refl
 
 effected_callers : (effect : Effect) (caller : ℕ) (outcome : Outcome) (s : State) → length (effected effect caller outcome s).callers ≡ length s.callers
 effected_callers Stay caller outcome s = refl
-effected_callers Leave caller outcome s = length-set s.callers (caller - 1) _
+effected_callers (Leave fresh) caller outcome s = length-set s.callers (caller - 1) _
 effected_callers (Enter mode) caller outcome s = length-set s.callers (caller - 1) _
 effected_callers (Move position) caller outcome s = length-set s.callers (caller - 1) _
 effected_callers (Edit tree is_modified) caller outcome s = refl

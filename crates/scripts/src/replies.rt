@@ -1,11 +1,12 @@
 //! Replies of the machine.
 
-use crate::answers::{say, say_number, say_path, say_text};
+use crate::answers::{put_bytes, say, say_number, say_path, say_text};
 use crate::asking::{put_minutes, put_quit};
 use crate::check_calls::say_broken;
 use crate::fault::Fault;
 use crate::load_calls::say_line_fault;
 use crate::text_calls::{say_fault_of_line, say_text_fault};
+use cfg_base::UserName;
 use commands::Mode;
 use config_core::{Refusal, Reply};
 use curly_grammar::TextFault;
@@ -28,9 +29,19 @@ fn say_committed(out: &mut String, minutes: u32, quit: bool) -> Result<(), Fault
     put_quit(out, quit)
 }
 
+/// The user whose session is in exclusive mode.
+fn say_locked(out: &mut String, user: &UserName) -> Result<(), Fault> {
+    out.push_str("= locked by")?;
+    put_bytes(out, user.as_word().as_bytes())?;
+    out.push_str("\n")?;
+    Ok(())
+}
+
 fn say_refusal(out: &mut String, refusal: &Refusal) -> Result<(), Fault> {
     match refusal {
         Refusal::WrongMode => say(out, "wrong mode"),
+        Refusal::Locked(user) => say_locked(out, user),
+        Refusal::Modified => say(out, "modified"),
         Refusal::Unknown(path) => say_path(out, "unknown", path),
         Refusal::BadValue(path) => say_path(out, "bad value", path),
         Refusal::Incomplete(path) => say_path(out, "incomplete", path),
@@ -62,6 +73,7 @@ pub(crate) fn say_reply(out: &mut String, reply: &Reply) -> Result<(), Fault> {
             say_text(out, text.as_slice())
         }
         Reply::Entered(Mode::Shared) => say(out, "entered"),
+        Reply::Entered(Mode::Exclusive) => say(out, "entered exclusive"),
         Reply::Left => say(out, "left"),
         Reply::Loaded => say(out, "loaded"),
         Reply::Checked => say(out, "checked"),

@@ -58,7 +58,7 @@ left false caller s free = (free, refl)
 -- what is done leaves nothing in flight, and as many callers
 keeps : (e : Effect) (caller : ℕ) (s : State) → s.flight ≡ None → ((effected e caller Done s).flight ≡ None) × (length (effected e caller Done s).callers ≡ length s.callers)
 keeps effect.Stay caller s free = (free, refl)
-keeps effect.Leave caller s free = (free, moved s caller None at_top)
+keeps (effect.Leave fresh) caller s free = (free, moved s caller None at_top)
 keeps (effect.Enter mode) caller s free = (free, moved s caller (Some mode) at_top)
 keeps (effect.Move position) caller s free = (free, moved s caller (caller_of s caller).mode position)
 keeps (effect.Edit tree is_modified) caller s free = (free, refl)

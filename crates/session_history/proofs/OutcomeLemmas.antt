@@ -5,7 +5,7 @@ use Rattle.std.proofs.lemmas.List.Elements.{All-nil, All-cons, All-head, All-tai
 use Rattle.commands.specs.declared.command.Form.{Form}
 use Rattle.commands.specs.declared.command.Mode.{Mode}
 use Rattle.commands.specs.declared.command.Command.{Command}
-use Rattle.commands.specs.declared.command.Command.TheVariants.{Configure, ShowActive, ShowCommits, Logout, Edit, Up, Top, Exit, ExitAll, Show, Change, Load, Rollback, CheckOnly, Commit}
+use Rattle.commands.specs.declared.command.Command.TheVariants.{Configure, ShowActive, ShowCommits, Logout, Edit, Up, Top, Exit, ExitAll, Show, Change, Load, Rollback, CheckOnly, Commit, Status}
 use Rattle.cfg_base.specs.declared.path.Step.{Step}
 use Rattle.cfg_tree.specs.Statements.{Statements}
 use Rattle.cfg_tree.specs.Typed.{IsTypedPath}
@@ -26,12 +26,13 @@ use Rattle.config_core.specs.declared.reply.Reply.{Reply}
 use Rattle.config_core.specs.declared.reply.Reply.TheVariants.{Done}
 use Rattle.config_core.specs.Levels.{Position, AreLevels, at_top, is_level_place, is_level_at, moved_to, to_last}
 use Rattle.config_core.specs.State.{State, Made, operational}
-use Rattle.config_core.specs.Callers.{caller_in, position_of, level_of, with_caller, with_position, without_mode, is_configuring}
+use Rattle.config_core.specs.Callers.{caller_in, position_of, level_of, with_caller, with_position, out_of_mode, without_mode}
+use Rattle.config_core.specs.Access.{bar_to}
 use Rattle.config_core.specs.Entries.{commit_of, committed_by, confirm_of, made_by, revert_made, taken}
-use Rattle.config_core.specs.Serving.{Turned, answered, refused, exited, edited, Moves, IsLost, Lists, Changes, IsUnchanged, Loads, IsNotLoaded, Replaces, RollsTo, Shows, Checks, checked, left_if, makes, Serves}
+use Rattle.config_core.specs.Serving.{Turned, answered, refused, exited, edited, Moves, IsLost, Lists, Changes, IsUnchanged, Loads, IsNotLoaded, Replaces, RollsTo, Shows, Checks, checked, left_if, makes, Does, Serves}
 use Rattle.config_core.specs.Machine.{Waiting, InFlight, Missed, Free, Ends, Steps, StepsFrom, is_logout, later, left_by, reverted, settled, waiting_of}
 use Rattle.config_core.proofs.LevelLemmas.{top_alone, level_front}
-use Rattle.config_core.proofs.StepLemmas.{by_mode, shows_stay}
+use Rattle.config_core.proofs.StepLemmas.{by_bar, by_bool, shows_stay}
 use Rattle.session_history.specs.declared.history.Happened.{Happened}
 use Rattle.session_history.specs.Events.{Leads, IsAt}
 
@@ -105,7 +106,7 @@ makes_stands s caller entry quit reply stand = by_room (nat_lt s.kept.count MAX_
     after = taken s (made_by caller entry)
 
     by_quit : (q : Bool) → Stand (left_if q caller after).callers
-    by_quit true = left_stands after caller (taken_stands s (made_by caller entry) stand)
+    by_quit true = placed after caller _ _ (taken_stands s (made_by caller entry) stand) top_levels
     by_quit false = taken_stands s (made_by caller entry) stand
 
     by_room : (b : Bool) → Stands (cond b (record { state = left_if quit caller after; reply = reply; made = Some (made_by caller entry) }) (refused s Exhausted))
@@ -122,7 +123,7 @@ checked_stands s caller (Some run) stand = makes_stands s caller (ConfirmOf (con
 
 rolls_stand : (s : State) (n : ℕ) (commit : Option CommitMade) (turned : Turned) → Stand s.callers → RollsTo s n commit turned → Stands turned
 rolls_stand s n None turned stand rolls = stands_by turned _ rolls stand
-rolls_stand s n (Some commit) turned stand rolls = by_mode (n == 0) _ _ _ (λ is. stands_by turned _ is stand) replaced rolls
+rolls_stand s n (Some commit) turned stand rolls = by_bool (n == 0) _ _ _ (λ is. stands_by turned _ is stand) replaced rolls
   where
     replaced : Replaces s commit.tree turned → Stands turned
     replaced replaces = stands_by turned _ replaces.is stand
@@ -130,61 +131,39 @@ rolls_stand s n (Some commit) turned stand rolls = by_mode (n == 0) _ _ _ (λ is
 shows_stand : (s : State) (m : Statements) (level : List Step) (asked : List (List ℕ)) (form : Form) (turned : Turned) → Stand s.callers → Shows s m level asked form turned → Stands turned
 shows_stand s m level asked form turned stand shows = subst (λ x. Stand x.callers) (sym (shows_stay s m level asked form turned shows)) stand
 
-serves_stands : (s : State) (caller : ℕ) (command : Command) (turned : Turned) → Stand s.callers → Serves s caller command turned → Stands turned
-serves_stands s caller (Configure mode) turned stand serves =
-    by_mode (is_configuring s caller) _ _ _ (λ is. stands_by turned _ is stand) (λ is. stands_by turned _ is (placed s caller _ _ stand top_levels)) serves
-serves_stands s caller (ShowActive asked form) turned stand serves =
-    by_mode (is_configuring s caller) _ _ _ (λ is. stands_by turned _ is stand) (λ shows. shows_stand s (active_of s.kept) [] asked form turned stand shows) serves
-serves_stands s caller ShowCommits turned stand serves = by_mode (is_configuring s caller) _ _ _ (λ is. stands_by turned _ is stand) listed serves
-  where
-    listed : Lists s turned → Stands turned
-    listed lists = stands_by turned _ lists.is stand
-serves_stands s caller Logout turned stand serves = stands_by turned _ serves (left_stands s caller stand)
-serves_stands s caller (Edit asked) turned stand serves =
-    by_mode (is_configuring s caller) _ _ _ either_way (λ is. stands_by turned _ is stand) serves
-  where
-    either_way : Moves s caller asked turned ⊎ IsLost s (level_of s caller) asked turned → Stands turned
-    either_way (inl moves) =
-        stands_by turned _ moves.is (edited_stands s caller moves.target.path stand
-        (resolved_target (level_of s caller) asked moves.target (levels_of s caller stand).here moves.names).typed)
-    either_way (inr lost) = stands_by turned _ lost.is stand
-serves_stands s caller (Up count) turned stand serves =
-    by_mode (is_configuring s caller) _ _ _
-    (λ is. stands_by turned _ is (placed s caller _ _ stand (record {
+-- what a command does leaves every session at a level
+does_stand : (s : State) (caller : ℕ) (command : Command) (turned : Turned) → Stand s.callers → Does s caller command turned → Stands turned
+does_stand s caller (Configure mode) turned stand is = stands_by turned _ is (placed s caller _ _ stand top_levels)
+does_stand s caller (ShowActive asked form) turned stand shows = shows_stand s (active_of s.kept) [] asked form turned stand shows
+does_stand s caller ShowCommits turned stand lists = stands_by turned _ lists.is stand
+does_stand s caller Logout turned stand is = stands_by turned _ is (left_stands s caller stand)
+does_stand s caller (Edit asked) turned stand (inl moves) =
+    stands_by turned _ moves.is (edited_stands s caller moves.target.path stand
+    (resolved_target (level_of s caller) asked moves.target (levels_of s caller stand).here moves.names).typed)
+does_stand s caller (Edit asked) turned stand (inr lost) = stands_by turned _ lost.is stand
+does_stand s caller (Up count) turned stand is =
+    stands_by turned _ is (placed s caller _ _ stand (record {
       here = level_front (position_of s caller).level (length (position_of s caller).level - count) (levels_of s caller stand).here;
       before = All-nil IsLevelPath;
-    })))
-    (λ is. stands_by turned _ is stand) serves
-serves_stands s caller Top turned stand serves =
-    by_mode (is_configuring s caller) _ _ _ (λ is. stands_by turned _ is (placed s caller _ _ stand top_levels)) (λ is. stands_by turned _ is stand) serves
-serves_stands s caller Exit turned stand serves =
-    by_mode (is_configuring s caller) _ _ _
-    (λ is. stands_by turned _ is (back_stands s caller (position_of s caller).level (position_of s caller).remembered stand (levels_of s caller stand).before))
-    (λ is. stands_by turned _ is stand) serves
-serves_stands s caller ExitAll turned stand serves =
-    by_mode (is_configuring s caller) _ _ _ (λ is. stands_by turned _ is (left_stands s caller stand)) (λ is. stands_by turned _ is stand) serves
-serves_stands s caller (Show asked form) turned stand serves =
-    by_mode (is_configuring s caller) _ _ _ (λ shows. shows_stand s s.candidate (level_of s caller) asked form turned stand shows) (λ is. stands_by turned _ is stand) serves
-serves_stands s caller (Change op) turned stand serves =
-    by_mode (is_configuring s caller) _ _ _ either_way (λ is. stands_by turned _ is stand) serves
-  where
-    either_way : Changes s caller op turned ⊎ IsUnchanged s caller op turned → Stands turned
-    either_way (inl changes) = stands_by turned _ changes.is stand
-    either_way (inr same) = stands_by turned _ same.is stand
-serves_stands s caller (Load way text) turned stand serves =
-    by_mode (is_configuring s caller) _ _ _ either_way (λ is. stands_by turned _ is stand) serves
-  where
-    either_way : Loads s way text turned ⊎ IsNotLoaded s way text turned → Stands turned
-    either_way (inl loads) = stands_by turned _ loads.is stand
-    either_way (inr same) = stands_by turned _ same.is stand
-serves_stands s caller (Rollback n) turned stand serves =
-    by_mode (is_configuring s caller) _ _ _ (λ rolls. rolls_stand s n (nth_last s.kept n) turned stand rolls) (λ is. stands_by turned _ is stand) serves
-serves_stands s caller CheckOnly turned stand serves =
-    by_mode (is_configuring s caller) _ _ _ (λ checks. checks_stand s turned _ stand (checked_stands s caller s.kept.pending stand) checks) (λ is. stands_by turned _ is stand) serves
-serves_stands s caller (Commit minutes comment quit) turned stand serves =
-    by_mode (is_configuring s caller) _ _ _
-    (λ checks. checks_stand s turned _ stand (makes_stands s caller (CommitOf (commit_of s caller minutes comment)) quit _ stand) checks)
-    (λ is. stands_by turned _ is stand) serves
+    }))
+does_stand s caller Top turned stand is = stands_by turned _ is (placed s caller _ _ stand top_levels)
+does_stand s caller Exit turned stand is =
+    stands_by turned _ is (back_stands s caller (position_of s caller).level (position_of s caller).remembered stand (levels_of s caller stand).before)
+does_stand s caller ExitAll turned stand is = stands_by turned _ is (left_stands s caller stand)
+does_stand s caller (Show asked form) turned stand shows = shows_stand s s.candidate (level_of s caller) asked form turned stand shows
+does_stand s caller (Change op) turned stand (inl changes) = stands_by turned _ changes.is stand
+does_stand s caller (Change op) turned stand (inr same) = stands_by turned _ same.is stand
+does_stand s caller (Load way text) turned stand (inl loads) = stands_by turned _ loads.is stand
+does_stand s caller (Load way text) turned stand (inr same) = stands_by turned _ same.is stand
+does_stand s caller (Rollback n) turned stand rolls = rolls_stand s n (nth_last s.kept n) turned stand rolls
+does_stand s caller CheckOnly turned stand checks = checks_stand s turned _ stand (checked_stands s caller s.kept.pending stand) checks
+does_stand s caller (Commit minutes comment quit) turned stand checks =
+    checks_stand s turned _ stand (makes_stands s caller (CommitOf (commit_of s caller minutes comment)) quit _ stand) checks
+does_stand s caller Status turned stand is = stands_by turned _ is stand
+
+serves_stands : (s : State) (caller : ℕ) (command : Command) (turned : Turned) → Stand s.callers → Serves s caller command turned → Stands turned
+serves_stands s caller command turned stand serves =
+    by_bar (bar_to s caller command) s turned _ _ (λ refusal is. stands_by turned _ is stand) (does_stand s caller command turned stand) serves
 
 -- what is left of what was to be done
 ends_stand : (outcome : Outcome) (s : State) (done turned : Turned) → Stand s.callers → Stands done → Ends outcome s done turned → Stands turned

@@ -213,7 +213,7 @@ minutes_sound InMinutes comment quit parts items words e fit = third_time parts 
 
 -- what a form makes of a line is sound
 made_sound : (made : Makes) (parts : List Part) (items : List Item) (words : List (List ℕ)) → are_timed made parts ≡ true → ArePrintable (words_in items) → Fits parts items words → AsksSound (made_by made items words)
-made_sound makes.Configure parts items words e all fit = tt
+made_sound (makes.Configure mode) parts items words e all fit = tt
 made_sound (makes.ShowActive form) parts items words e all fit = tt
 made_sound makes.ShowCommits parts items words e all fit = tt
 made_sound makes.Logout parts items words e all fit = tt
@@ -232,6 +232,7 @@ made_sound (makes.Commit confirmed comment quit) parts items words e all fit = (
   minutes_sound confirmed comment quit parts items words e fit,
   comment_printable comment words (fit_printable parts items words all fit),
 )
+made_sound makes.Status parts items words e all fit = tt
 made_sound makes.Unserved parts items words e all fit = tt
 
 line_sound : (configuring : Bool) (items : List Item) (form : CommandForm) (words : List (List ℕ)) → IsIn configuring items form words → ArePrintable (words_in items) → AsksSound (made_by form.makes items words)

@@ -1,6 +1,5 @@
 -- What a form makes of a line. Junos OS CLI User Guide, on the commands of operational and of configuration mode.
 use Rattle.std.specs.Prelude.{ℕ, ◌-◌, List, [], ◌∷◌, length, slice_index_or, Bool, if◌then◌else◌, Option, None, Some, unwrap_or}
-use Rattle.commands.specs.declared.command.Mode.TheVariants.{Shared}
 use Rattle.commands.specs.declared.command.Command.{Command}
 use Rattle.commands.specs.declared.command.Command.TheVariants as command
 use Rattle.commands.specs.Sound.{IsSound}
@@ -36,7 +35,7 @@ commit_of confirmed comment quit words = command.Commit (minutes_in confirmed wo
 
 -- what a form makes of a line's tokens, which give these words; nothing where it isn't served
 abbrev pub made_by : Makes → List Item → List (List ℕ) → Option Words0
-made_by makes.Configure items words = Some (Whole (command.Configure Shared))
+made_by (makes.Configure mode) items words = Some (Whole (command.Configure mode))
 made_by (makes.ShowActive form) items words = Some (Whole (command.ShowActive words form))
 made_by makes.ShowCommits items words = Some (Whole command.ShowCommits)
 made_by makes.Logout items words = Some (Whole command.Logout)
@@ -52,6 +51,7 @@ made_by (makes.Load way) items words = Some (NeedsText way)
 made_by makes.Rollback items words = Some (Whole (command.Rollback (number_or 0 words)))
 made_by makes.CheckOnly items words = Some (Whole command.CheckOnly)
 made_by (makes.Commit confirmed comment quit) items words = Some (Whole (commit_of confirmed comment quit words))
+made_by makes.Status items words = Some (Whole command.Status)
 made_by makes.Unserved items words = None
 
 -- where it is a command, the command is sound

@@ -4,7 +4,7 @@ ghost use Rattle.std.specs.Prelude.{◌≡◌};
 ghost use Rattle.shell_words.specs.Form.{forms_of, parts_of};
 
 use crate::keyword::Keyword;
-use commands::{Form, LoadWay, Mover, Verb};
+use commands::{Form, LoadWay, Mode, Mover, Verb};
 
 /// Which tokens may stand at a place of a line.
 #[derive(Clone, Copy, Debug, PartialEq, Eq)]
@@ -47,7 +47,7 @@ pub(crate) enum Confirmed {
 /// What a line of a form asks.
 #[derive(Clone, Copy, Debug, PartialEq, Eq)]
 pub(crate) enum Makes {
-    Configure,
+    Configure(Mode),
     ShowActive(Form),
     ShowCommits,
     Logout,
@@ -70,6 +70,7 @@ pub(crate) enum Makes {
         comment: bool,
         quit: bool,
     },
+    Status,
     /// A command that isn't served yet.
     Unserved,
 }
@@ -143,9 +144,9 @@ macro_rules! form {
 }
 
 static OPERATIONAL: [CommandForm; 9] = [
-    form!(Makes::Configure; [Configure]),
+    form!(Makes::Configure(Mode::Shared); [Configure]),
     form!(Makes::Unserved; [Configure] [Private]),
-    form!(Makes::Unserved; [Configure] [Exclusive]),
+    form!(Makes::Configure(Mode::Exclusive); [Configure] [Exclusive]),
     form!(Makes::ShowActive(Form::Curly); [Show] [Configuration] [many until Pipe]),
     form!(Makes::ShowActive(Form::SetLines); [Show] [Configuration] [many until Pipe]
         [one mark Pipe] [Display] [verb Set]),
@@ -210,7 +211,7 @@ static CONFIGURING: [CommandForm; 43] = [
     form!(Makes::Rollback; [Rollback]),
     form!(Makes::Rollback; [Rollback] [one number 0 to 4294967295]),
     form!(Makes::Unserved; [Update]),
-    form!(Makes::Unserved; [Status]),
+    form!(Makes::Status; [Status]),
 ];
 
 /// The forms that a line has in configuration mode or in operational mode.

@@ -12,7 +12,7 @@ use crate::number::number_of;
 use crate::pair::change_in;
 use crate::walk::give;
 use cfg_base::{NoMemory, Word, Words};
-use commands::{Command, LoadWay, Mode};
+use commands::{Command, LoadWay};
 use std::alloc::Global;
 
 /// What a line asks.
@@ -98,7 +98,7 @@ pub(crate) fn made_by(
     ensures { IfOk result (λ made. made ≡ made_by form.now.makes items.now (given (parts_of form.now) items.now)) }
 {
     match form.makes {
-        Makes::Configure => Ok(whole(Command::Configure(Mode::Shared))),
+        Makes::Configure(mode) => Ok(whole(Command::Configure(mode))),
         Makes::ShowActive(shown) => {
             let words = words_of(alloc, form, items)?;
             Ok(whole(Command::ShowActive { words, form: shown }))
@@ -133,6 +133,7 @@ pub(crate) fn made_by(
             let words = words_of(alloc, form, items)?;
             Ok(whole(commit_of(alloc, confirmed, comment, quit, &words)?))
         }
+        Makes::Status => Ok(whole(Command::Status)),
         Makes::Unserved => Ok(None),
     }
 }

@@ -1,10 +1,8 @@
 use Rattle.std.proofs.Common.{◌≡◌, true, sym, ap, ◌∙◌}
-use Rattle.config_core.specs.Callers.{is_configuring}
 use Rattle.config_core.proofs.StepLemmas.{prepares_accepted}
 use Rattle.config_core.proofs.core_state.Core.prepare_check.Goals as goal
 
 pub returns-in-Ok : goal.returns-in-Ok
 returns-in-Ok c =
-    let configuring : is_configuring c.args.self.now c.args.caller ≡ true = sym c.is_configuring.ensures ∙ c.if-not-is_configuring.false in
-    prepares_accepted c.args.self.now c.self.inside.candidate c.args.caller c.args.moment c.in-Ok.field-0 _ c.checked.result configuring
+    prepares_accepted c.args.self.now c.self.inside.candidate c.args.caller c.args.moment c.in-Ok.field-0 _ c.checked.result
     (ap (λ s. s.candidate) c.self.view_is) c.in-Ok.ensures.ok c.checked.ensures

@@ -2,12 +2,12 @@ use Rattle.std.proofs.Common.{◌≡◌, rules, subst, sym}
 use Rattle.std.specs.Prelude.{IfOk}
 use Rattle.commands.specs.declared.command.Command.TheVariants.{Commit}
 use Rattle.config_core.specs.Machine.{later}
-use Rattle.config_core.specs.Serving.{Serves}
+use Rattle.config_core.specs.Serving.{Does}
 use Rattle.config_core.specs.Prepared.{Prepares}
-use Rattle.config_core.proofs.core_state.Core.prepare_command.Goals as goal
+use Rattle.config_core.proofs.core_state.Core.prepare_unbarred.Goals as goal
 
 pub returns-in-Commit : goal.returns-in-Commit
 returns-in-Commit c =
     let is : c.args.command.now ≡ Commit c.in-Commit.minutes c.in-Commit.comment c.in-Commit.quit = search rules in
-    subst (λ command. IfOk c.prepare_commit.result (Prepares c.args.self.now c.args.moment (Serves (later c.args.self.now c.args.moment) c.args.caller command)))
+    subst (λ command. IfOk c.prepare_commit.result (Prepares c.args.self.now c.args.moment (Does (later c.args.self.now c.args.moment) c.args.caller command)))
     (sym is) c.prepare_commit.ensures

@@ -1,0 +1,56 @@
+-- Who may do what: the commands of each mode, those that another session's exclusive mode bars, and those that uncommitted
+-- changes bar. Junos OS CLI User Guide, on operational and configuration mode and on configure exclusive; the order is this
+-- project's own.
+use Rattle.std.specs.Prelude.{ℕ, ◌==◌, ◌&&◌, List, Bool, true, false, not, if◌then◌else◌, Option, None, Some, is_some}
+use Rattle.commands.specs.declared.command.Command.{Command}
+use Rattle.commands.specs.declared.command.Command.TheVariants.{Configure, ShowActive, ShowCommits, Logout, Change, Load, Rollback, CheckOnly, Commit}
+use Rattle.commands.specs.declared.command.Mode.{Mode}
+use Rattle.commands.specs.declared.command.Mode.TheVariants.{Exclusive}
+use Rattle.config_core.specs.declared.reply.Refusal.{Refusal}
+use Rattle.config_core.specs.declared.reply.Refusal.TheVariants.{WrongMode, Locked, Modified}
+use Rattle.config_core.specs.State.{State}
+use Rattle.config_core.specs.Callers.{caller_of}
+
+-- a command is one of the mode that its session is in; a logout is one of both
+abbrev pub is_of_mode : Command → Option Mode → Bool
+is_of_mode Logout mode = true
+is_of_mode (Configure next) mode = not (is_some mode)
+is_of_mode (ShowActive asked form) mode = not (is_some mode)
+is_of_mode ShowCommits mode = not (is_some mode)
+is_of_mode command mode = is_some mode
+
+-- what another session's exclusive mode bars: changes, loads and rollbacks, every form of commit, and the exclusive mode
+abbrev pub wants_lock : Command → Bool
+wants_lock (Configure Exclusive) = true
+wants_lock (Change op) = true
+wants_lock (Load way text) = true
+wants_lock (Rollback n) = true
+wants_lock CheckOnly = true
+wants_lock (Commit minutes comment quit) = true
+wants_lock command = false
+
+-- what a modified candidate bars
+abbrev pub wants_unmodified : Command → Bool
+wants_unmodified (Configure Exclusive) = true
+wants_unmodified command = false
+
+-- the user of the session in exclusive mode, where it is another one
+abbrev pub locked_in : State → ℕ → Option ℕ → Option (List ℕ)
+locked_in s caller None = None
+locked_in s caller (Some holder) = if holder == caller then None else Some (caller_of s holder).user
+
+abbrev pub locked_by : State → ℕ → Option (List ℕ)
+locked_by s caller = locked_in s caller s.exclusive
+
+-- the first of the causes that holds
+abbrev pub first_bar : Bool → Option (List ℕ) → Bool → Option Refusal
+first_bar false user modified = Some WrongMode
+first_bar true (Some user) modified = Some (Locked user)
+first_bar true None true = Some Modified
+first_bar true None false = None
+
+-- why a caller may not ask a command, whatever the command would do
+abbrev pub bar_to : State → ℕ → Command → Option Refusal
+bar_to s caller command =
+    first_bar (is_of_mode command (caller_of s caller).mode) (if wants_lock command then locked_by s caller else None)
+    (wants_unmodified command && s.is_modified)
