@@ -56,13 +56,11 @@ pub fn others_stay_where_they_are()
     ensures { (s : State) (caller other moment : ℕ) (event : Event) (outcome : Outcome) (turned : Turned)
         → 0 < caller → 0 < other → other ≢ caller → Steps s caller moment event outcome turned
         → caller_of turned.state other ≡ caller_of s other }
-{
-}
+{}
 
 /// What `rollback 0` loads is the active configuration, and nothing of it is a change.
 pub fn rollback_0_leaves_nothing_modified()
     ensures { (s : State) (caller moment : ℕ) (turned : Turned)
         → Steps s caller moment (Event.Command (Command.Rollback 0)) Outcome.Done turned → turned.reply ≡ Reply.Loaded
         → (turned.state.candidate ≡ active_of turned.state.kept) × (turned.state.is_modified ≡ false) }
-{
-}
+{}
