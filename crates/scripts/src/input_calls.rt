@@ -56,7 +56,8 @@ fn ask_lines(alloc: Global, stage: Stage, args: &[Arg], out: &mut String) -> Res
     let [count, limit] = args else {
         return Err(Fault::Script("lines COUNT LIMIT"));
     };
-    let source = ListSource::new(stage.part.pieces, stage.part.failing_reads);
+    let part = stage.part;
+    let source = ListSource::new(part.pieces, part.failing_reads);
     let mut source = say_lines(alloc, source, number(count)?, number(limit)?, out)?;
     say_read(&mut source, out)
 }
