@@ -83,7 +83,8 @@ fn ask_reader_lines(
 
 /// put_all BYTES ..: each as a whole, into a sink of the stage's room
 fn ask_put_all(alloc: Global, stage: Stage, args: &[Arg], out: &mut String) -> Result<(), Fault> {
-    let mut sink = VecSink::new(alloc, stage.part.room, stage.part.failing_writes)?;
+    let part = stage.part;
+    let mut sink = VecSink::new(alloc, part.room, part.failing_writes)?;
     for bytes in args {
         match put_all(&mut sink, bytes) {
             Ok(()) => say(out, "done")?,
@@ -95,7 +96,8 @@ fn ask_put_all(alloc: Global, stage: Stage, args: &[Arg], out: &mut String) -> R
 
 /// write BYTES ..: each with one write, into a sink of the stage's room
 fn ask_write(alloc: Global, stage: Stage, args: &[Arg], out: &mut String) -> Result<(), Fault> {
-    let mut sink = VecSink::new(alloc, stage.part.room, stage.part.failing_writes)?;
+    let part = stage.part;
+    let mut sink = VecSink::new(alloc, part.room, part.failing_writes)?;
     for bytes in args {
         if bytes.is_empty() {
             return Err(Fault::Script("a write is of one byte at least"));
@@ -117,7 +119,8 @@ fn count_of(args: &[Arg]) -> Result<u64, Fault> {
 
 /// now COUNT: so many answers of the stage's clock
 fn ask_now(stage: Stage, args: &[Arg], out: &mut String) -> Result<(), Fault> {
-    let mut clock = ListClock::new(stage.part.clock);
+    let part = stage.part;
+    let mut clock = ListClock::new(part.clock);
     for _ in 0..count_of(args)? {
         say_number(out, clock.now().seconds())?;
     }
