@@ -78,6 +78,18 @@ own_of_run look kids row p s = by_live (is_live look (p ++ s ∷ [])) (raw look 
     by_live false [] = refl
     by_live false (x ∷ xs) = refl
 
+-- a run's own node has the path of its step
+pub own_path : (row : List Stated) (p : List Step) (s : Step) (run : List Offer) (node : Node) → run ≡ run_at (look_of row) (kids_of row) row p s → Some node ≡ own_of run → node.path ≡ p ++ s ∷ []
+own_path row p s run node is own = by_live (is_live (look_of row) (p ++ s ∷ [])) (own ∙ ap own_of is ∙ own_of_run (look_of row) (kids_of row) row p s)
+  where
+    path_or : Option Node → List Step
+    path_or None = []
+    path_or (Some n) = n.path
+
+    by_live : (b : Bool) → Some node ≡ cond b (Some (node_at (look_of row) row (p ++ s ∷ []))) None → node.path ≡ p ++ s ∷ []
+    by_live true e = ap path_or e
+    by_live false e = cc
+
 outside_more : (p : List Step) (s t : Step) → is_outside (p ++ s ∷ []) ≡ true → is_outside ((p ++ s ∷ []) ++ t ∷ []) ≡ true
 outside_more [] s t e = e
 outside_more (u ∷ p) s t e = e

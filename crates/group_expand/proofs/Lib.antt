@@ -15,6 +15,7 @@ pub mod NodeLemmas
 pub mod FittingLemmas
 pub mod OfferLemmas
 pub mod FrontsLemmas
+pub mod PlaceLemmas
 pub mod PlacedLemmas
 pub mod CutLemmas
 pub mod SearchLemmas

@@ -215,6 +215,18 @@ pub record IsRunWay (level left : List Offer) : Type 0 where
 pub way_start : (level : List Offer) → Climbs level → IsRunWay level level
 way_start level c = record { climbs_on = c; alike = λ s. inr refl }
 
+-- where offers are left, the level has some
+pub way_some : (level left : List Offer) → IsRunWay level left → 0 < length left → 0 < length level
+way_some (x ∷ level) left way some = omega arith
+way_some [] [] way some = absurd (omega (arith, some))
+way_some [] (o ∷ os) way some = absurd (elim (way.alike o.step) [ inl e ↦ none e | inr e ↦ none e ])
+  where
+    clash : {x : Offer} {xs : List Offer} → x ∷ xs ≡ [] → ⊥
+    clash e = cc
+
+    none : filter (is_for o.step) (o ∷ os) ≡ [] → ⊥
+    none e = clash (sym (ap (λ (b : Bool). cond b (o ∷ filter (is_for o.step) os) (filter (is_for o.step) os)) ((same_step o.step o.step).1 refl)) ∙ e)
+
 all_self : (s : Step) (os : List Offer) → filter (is_for s) (filter (λ x. not (is_for s x)) os) ≡ []
 all_self s [] = refl
 all_self s (o ∷ os) = by_test (is_for s o) refl (all_self s os)

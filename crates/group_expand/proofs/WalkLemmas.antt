@@ -43,7 +43,7 @@ none_listed : (names : List (List ℕ)) → filter (lists []) names ++ [] ≡ []
 none_listed [] = refl
 none_listed (name ∷ names) = none_listed names
 
-nothing_ordered : (head : Option (List ℕ)) (own : Option Node) → order_for head own [] [] ≡ []
+pub nothing_ordered : (head : Option (List ℕ)) (own : Option Node) → order_for head own [] [] ≡ []
 nothing_ordered None own = refl
 nothing_ordered (Some head) own = none_listed (order_if own)
 

@@ -1,6 +1,8 @@
 //! The expansion from the top down.
 
 ghost use Rattle.std.specs.Prelude.{◌≡◌, ◌<◌, ◌+◌, ◌++◌, ◌∷◌, [], length, true, IfOk, IsErrOf};
+ghost use Rattle.cfg_schema.specs.Place.{place_of};
+ghost use Rattle.cfg_tree.specs.Statements.{last_of, parent_of};
 ghost use Rattle.cfg_tree.specs.declared.limit.TheConstants.{MAX_EXPANDED};
 ghost use Rattle.group_expand.specs.Sources.{is_plain};
 ghost use Rattle.group_expand.specs.Placed.{run_at, look_of, kids_of, given_below, given_for, IsLevelAt};
@@ -9,10 +11,43 @@ use crate::fault::ExpandFault;
 use crate::given::{child, opened, pushed};
 use crate::offer::Offer;
 use crate::plan::Plan;
-use crate::run::{behind_run, first_run, first_step, run_gift};
+use crate::run::{behind_run, first_run, first_step, own_of, run_gift};
 use cfg_base::{Path, Step};
+use cfg_schema::Place;
 use cfg_tree::FullMaker;
 use std::alloc::Global;
+
+/// A path, where it is in the expansion, and all below it.
+#[cycle(expanding)]
+fn expand_path<'m>(
+    alloc: Global,
+    plan: &Plan<'_>,
+    levels: usize,
+    path: &Path,
+    above: &Option<Place>,
+    step: &Step,
+    run: &[Offer<'_>],
+    made: FullMaker<'m>,
+) -> Result<FullMaker<'m>, ExpandFault>
+    requires long { 0 < length path.now }
+    requires step { step.now ≡ last_of path.now }
+    requires above { above.now ≡ place_of (parent_of path.now) }
+    requires run { run.now ≡ run_at (look_of plan.now) (kids_of plan.now) plan.now (parent_of path.now) (last_of path.now) }
+    requires plain { is_plain path.now ≡ true }
+    ensures ok { IfOk result (λ maker. maker ≡ made.entry ++ given_for plan.now levels (parent_of path.now) (last_of path.now)) }
+    ensures wide { IsErrOf result ExpandFault.TooWide → MAX_EXPANDED < length made.entry + length (given_for plan.now levels (parent_of path.now) (last_of path.now)) }
+{
+    match run_gift(alloc, path, step, run)? {
+        None => Ok(made),
+        Some(gift) => {
+            let (given, level, place) = opened(alloc, plan, path, above, step, run, gift)?;
+            match pushed(made, path.clone()?, given) {
+                Ok(made) => expand_level(alloc, plan, levels, path, &place, &level, made),
+                Err(fault) => Err(fault),
+            }
+        }
+    }
+}
 
 /// A step of a level, where its path is in the expansion, and all below it.
 #[cycle(expanding)]
@@ -21,39 +56,38 @@ fn expand_run<'m>(
     plan: &Plan<'_>,
     levels: usize,
     above: &Path,
+    place: &Option<Place>,
     step: &Step,
     run: &[Offer<'_>],
     made: FullMaker<'m>,
 ) -> Result<FullMaker<'m>, ExpandFault>
+    requires place { place.now ≡ place_of above.now }
     requires run { run.now ≡ run_at (look_of plan.now) (kids_of plan.now) plan.now above.now step.now }
     requires plain { is_plain (above.now ++ step.now ∷ []) ≡ true }
     ensures ok { IfOk result (λ maker. maker ≡ made.entry ++ given_for plan.now levels above.now step.now) }
     ensures wide { IsErrOf result ExpandFault.TooWide → MAX_EXPANDED < length made.entry + length (given_for plan.now levels above.now step.now) }
 {
-    let path = child(above, step)?;
-    match run_gift(alloc, &path, step, run)? {
-        None => Ok(made),
-        Some(gift) => {
-            let (given, level) = opened(alloc, plan, &path, run, gift)?;
-            match pushed(made, path.clone()?, given) {
-                Ok(made) => expand_level(alloc, plan, levels, &path, &level, made),
-                Err(fault) => Err(fault),
-            }
-        }
+    // A statement of the configuration's own has its path already.
+    if let Some(node) = own_of(run) {
+        return expand_path(alloc, plan, levels, node.path(), place, step, run, made);
     }
+    let path = child(above, step)?;
+    expand_path(alloc, plan, levels, &path, place, step, run, made)
 }
 
-/// All that is in the expansion below a path.
+/// All that is in the expansion below a path of this place.
 #[cycle(expanding)]
 pub fn expand_level<'m>(
     alloc: Global,
     plan: &Plan<'_>,
     levels: usize,
     path: &Path,
+    place: &Option<Place>,
     level: &[Offer<'_>],
     made: FullMaker<'m>,
 ) -> Result<FullMaker<'m>, ExpandFault>
-    requires { IsLevelAt (look_of plan.now) (kids_of plan.now) plan.now path.now level.now }
+    requires level { IsLevelAt (look_of plan.now) (kids_of plan.now) plan.now path.now level.now }
+    requires place { 0 < length level.now → place.now ≡ place_of path.now }
     ensures ok { IfOk result (λ maker. maker ≡ made.entry ++ given_below plan.now levels path.now) }
     ensures wide { IsErrOf result ExpandFault.TooWide → MAX_EXPANDED < length made.entry + length (given_below plan.now levels path.now) }
 {
@@ -64,7 +98,16 @@ pub fn expand_level<'m>(
     let mut left = level;
     while !left.is_empty() {
         let step = first_step(left);
-        match expand_run(alloc, plan, levels - 1, path, step, first_run(left), maker) {
+        match expand_run(
+            alloc,
+            plan,
+            levels - 1,
+            path,
+            place,
+            step,
+            first_run(left),
+            maker,
+        ) {
             Ok(more) => maker = more,
             Err(fault) => return Err(fault),
         }

@@ -16,6 +16,7 @@ use crate::offer::Offer;
 use crate::plan::Plan;
 use crate::row::{Statement, row_of};
 use cfg_base::{MAX_STEPS, NoMemory, Path};
+use cfg_schema::Place;
 use cfg_tree::{Full, FullMaker, Tree};
 use std::alloc::Global;
 
@@ -40,7 +41,8 @@ fn expanded(alloc: Global, row: &[Statement<'_>]) -> Result<Full, ExpandFault>
     let level = top_level(alloc, &plan, &top)?;
     let none = Full::empty(alloc);
     let maker = FullMaker::beside(alloc, &none);
-    match expand_level(alloc, &plan, MAX_STEPS, &top, &level, maker) {
+    let place = Some(Place::top());
+    match expand_level(alloc, &plan, MAX_STEPS, &top, &place, &level, maker) {
         Ok(made) => Ok(made.finish()?),
         Err(fault) => Err(fault),
     }

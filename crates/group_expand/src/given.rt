@@ -1,7 +1,7 @@
 //! What is given at a path, and the level below it.
 
 ghost use Rattle.std.specs.Prelude.{◌≡◌, ◌<◌, ◌+◌, ◌++◌, ◌∷◌, [], length, true, Some, IfOk, IsErrOf};
-ghost use Rattle.cfg_schema.specs.Place.{place_of};
+ghost use Rattle.cfg_schema.specs.Place.{place_of, place_after, and_then};
 ghost use Rattle.cfg_tree.specs.Statements.{last_of, parent_of};
 ghost use Rattle.cfg_tree.specs.Tree.{ordered_head};
 ghost use Rattle.cfg_tree.specs.declared.limit.TheConstants.{MAX_EXPANDED};
@@ -20,6 +20,7 @@ use crate::order::order;
 use crate::plan::Plan;
 use crate::run::{Gift, own_of};
 use cfg_base::{NoMemory, Path, Step};
+use cfg_schema::Place;
 use cfg_tree::{FullMaker, Given};
 use std::alloc::Global;
 
@@ -58,19 +59,19 @@ pub fn level_below<'a>(
     level(alloc, children, &front)
 }
 
-/// What is given at a path.
+/// What is given at a path of this place.
 fn given(
     alloc: Global,
-    path: &Path,
+    place: &Option<Place>,
     run: &[Offer<'_>],
     children: &[Node<'_>],
     level: &[Offer<'_>],
     gift: Gift,
 ) -> Result<Given, NoMemory>
     requires { Climbs level.now }
-    ensures { IfOk result (λ given. given ≡ with_order (order_for (ordered_head (place_of path.now)) (own_of run.now) children.now level.now) gift) }
+    ensures { IfOk result (λ given. given ≡ with_order (order_for (ordered_head place.now) (own_of run.now) children.now level.now) gift) }
 {
-    let order = order(alloc, path, own_of(run), children, level)?;
+    let order = order(alloc, place, own_of(run), children, level)?;
     let Gift { words, group } = gift;
     Ok(Given {
         words,
@@ -79,25 +80,62 @@ fn given(
     })
 }
 
-/// What is given at a path that is in the expansion, and the level below it.
+/// The place of a step below another place, where there is one.
+fn place_after(above: &Option<Place>, step: &Step) -> Option<Place>
+    ensures { result ≡ and_then (λ here. place_after here step.now) above.now }
+{
+    match above {
+        None => None,
+        Some(here) => here.after(step),
+    }
+}
+
+/// The place of a path whose parent has this place. Where nothing stands below the path, it isn't looked for.
+fn place_below(
+    above: &Option<Place>,
+    path: &Path,
+    step: &Step,
+    children: &[Node<'_>],
+    level: &[Offer<'_>],
+) -> Option<Place>
+    requires long { 0 < length path.now }
+    requires step { step.now ≡ last_of path.now }
+    requires above { above.now ≡ place_of (parent_of path.now) }
+    ensures children { 0 < length children.now → result ≡ place_of path.now }
+    ensures level { 0 < length level.now → result ≡ place_of path.now }
+{
+    if children.is_empty() && level.is_empty() {
+        return None;
+    }
+    place_after(above, step)
+}
+
+/// What is given at a path that is in the expansion, the level below it, and the place of the path where that
+/// level has offers.
 pub fn opened<'a>(
     alloc: Global,
     plan: &Plan<'a>,
     path: &Path,
+    above: &Option<Place>,
+    step: &Step,
     run: &[Offer<'a>],
     gift: Gift,
-) -> Result<(Given, Vec<Offer<'a>>), NoMemory>
+) -> Result<(Given, Vec<Offer<'a>>, Option<Place>), NoMemory>
     requires long { 0 < length path.now }
+    requires step { step.now ≡ last_of path.now }
+    requires above { above.now ≡ place_of (parent_of path.now) }
     requires run { run.now ≡ run_at (look_of plan.now) (kids_of plan.now) plan.now (parent_of path.now) (last_of path.now) }
     requires plain { is_plain path.now ≡ true }
     requires gift { Some gift ≡ run_gift path.now (last_of path.now) run.now }
     ensures given { IfOk result (λ made. given_at (look_of plan.now) (kids_of plan.now) path.now ≡ Some made.0) }
     ensures level { IfOk result (λ made. IsLevelAt (look_of plan.now) (kids_of plan.now) plan.now path.now made.1.items) }
+    ensures place { IfOk result (λ made. 0 < length made.1.items → made.2 ≡ place_of path.now) }
 {
     let children = own_children(alloc, run)?;
     let level = level_below(alloc, plan, path, &children, run)?;
-    let given = given(alloc, path, run, &children, &level, gift)?;
-    Ok((given, level))
+    let place = place_below(above, path, step, &children, &level);
+    let given = given(alloc, &place, run, &children, &level, gift)?;
+    Ok((given, level, place))
 }
 
 /// One path more, where there is room.

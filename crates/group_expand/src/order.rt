@@ -5,7 +5,6 @@ ghost use Rattle.std.specs.BTreeSet as set;
 ghost use Rattle.std.specs.Option.{option_copied};
 ghost use Rattle.cfg_base.specs.Order.{word_cmp};
 ghost use Rattle.cfg_base.specs.Words.{lists, Knows};
-ghost use Rattle.cfg_schema.specs.Place.{place_of};
 ghost use Rattle.cfg_tree.specs.Tree.{ordered_head};
 ghost use Rattle.group_expand.specs.Runs.{has_source, is_inherited, inherited_in, names_with, order_if, order_for, name_of};
 ghost use Rattle.group_expand.specs.Offer.{Climbs};
@@ -14,18 +13,22 @@ use crate::node::Node;
 use crate::offer::Offer;
 use crate::run::{behind_run, first_run, own_of};
 use crate::step::is_apply;
-use cfg_base::{NoMemory, Path, Step, Word, WordList, learn};
+use cfg_base::{NoMemory, Step, Word, WordList, learn};
 use cfg_schema::{Place, head};
 use std::alloc::Global;
 use std::collections::BTreeSet;
 
-/// The head of the row below a path whose names keep the user's order, where there is such a row.
-fn ordered_head(path: &Path) -> Option<&'static [u8]>
-    ensures { option_copied result ≡ ordered_head (place_of path.now) }
+/// The head of the row below a place whose names keep the user's order, where there is such a row.
+fn ordered_head(place: &Option<Place>) -> Option<&'static [u8]>
+    ensures { option_copied result ≡ ordered_head place.now }
 {
-    let place = Place::of(path.steps())?;
-    let row = place.ordered_row()?;
-    Some(head(row))
+    match place {
+        None => None,
+        Some(here) => match here.ordered_row() {
+            None => None,
+            Some(row) => Some(head(row)),
+        },
+    }
 }
 
 /// The names of the nodes with a head.
@@ -133,18 +136,18 @@ fn order_with(
     Ok(order)
 }
 
-/// The order of a level by the row of its path.
+/// The order of a level by the row of its place.
 fn order_by_row(
     alloc: Global,
-    path: &Path,
+    place: &Option<Place>,
     own: Option<&Node<'_>>,
     children: &[Node<'_>],
     level: &[Offer<'_>],
 ) -> Result<WordList, NoMemory>
     requires { Climbs level.now }
-    ensures { IfOk result (λ order. order ≡ order_for (ordered_head (place_of path.now)) (option_copied own.entry) children.now level.now) }
+    ensures { IfOk result (λ order. order ≡ order_for (ordered_head place.now) (option_copied own.entry) children.now level.now) }
 {
-    match ordered_head(path) {
+    match ordered_head(place) {
         None => Ok(WordList::new(alloc)),
         Some(head) => order_with(alloc, head, own, children, level),
     }
@@ -153,17 +156,17 @@ fn order_by_row(
 /// The order of a level.
 pub fn order(
     alloc: Global,
-    path: &Path,
+    place: &Option<Place>,
     own: Option<&Node<'_>>,
     children: &[Node<'_>],
     level: &[Offer<'_>],
 ) -> Result<WordList, NoMemory>
     requires { Climbs level.now }
-    ensures { IfOk result (λ order. order ≡ order_for (ordered_head (place_of path.now)) (option_copied own.entry) children.now level.now) }
+    ensures { IfOk result (λ order. order ≡ order_for (ordered_head place.now) (option_copied own.entry) children.now level.now) }
 {
     // Where nothing stands below, the row doesn't matter.
     if children.is_empty() && level.is_empty() {
         return Ok(WordList::new(alloc));
     }
-    order_by_row(alloc, path, own, children, level)
+    order_by_row(alloc, place, own, children, level)
 }

@@ -6,10 +6,13 @@ use Rattle.group_expand.proofs.StepsLemmas.{IsRunWay}
 use Rattle.group_expand.proofs.below.+expanding.Given as goal
 
 abbrev pub decreases-expand_level : goal.decreases-expand_level
-decreases-expand_level l = 2 * l.levels
+decreases-expand_level l = 3 * l.levels
 
 abbrev pub decreases-expand_run : goal.decreases-expand_run
-decreases-expand_run l = 2 * l.levels + 1
+decreases-expand_run l = 3 * l.levels + 2
+
+abbrev pub decreases-expand_path : goal.decreases-expand_path
+decreases-expand_path l = 3 * l.levels + 1
 
 abbrev pub invariant-expand_level-loop-left : goal.invariant-expand_level-loop-left
 invariant-expand_level-loop-left l =
