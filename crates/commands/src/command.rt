@@ -2,13 +2,16 @@
 
 use cfg_base::{Bytes, Word, Words};
 
-/// How a session edits the one candidate that sessions share.
+/// How a session edits.
 #[derive(Clone, Copy, Debug, PartialEq, Eq)]
 pub enum Mode {
-    /// Together with the others.
+    /// The candidate that sessions share, together with the others.
     Shared,
-    /// Alone: no other session changes or commits the candidate, and what isn't committed is discarded when the session
-    /// leaves the mode.
+    /// A candidate of its own, of which a commit merges what it changed into the active configuration. What isn't
+    /// committed is gone when the session leaves the mode.
+    Private,
+    /// The shared candidate, alone: no other session changes or commits it, and what isn't committed is discarded when the
+    /// session leaves the mode.
     Exclusive,
 }
 
@@ -118,6 +121,8 @@ pub enum Command {
         comment: Word,
         quit: bool,
     },
+    /// Merges what others committed since into the session's own candidate, which is then based on the last commit.
+    Update,
     /// Lists the sessions that are in configuration mode.
     Status,
 }

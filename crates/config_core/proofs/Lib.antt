@@ -6,3 +6,4 @@ pub mod ShowingLemmas
 pub mod SoundLemmas
 pub mod OtherLemmas
 pub mod RollbackLemmas
+pub mod ModeLemmas

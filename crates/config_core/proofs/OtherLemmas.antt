@@ -1,15 +1,16 @@
 -- What a caller does leaves the other callers as they were.
-use Rattle.std.proofs.Common.{◌≡◌, ◌≢◌, ◌⊎◌, ◌-◌, ◌<◌, ◌==◌, ℕ, zero, suc, List, [], ◌∷◌, Bool, true, false, cond, refl, sym, ap, subst, ◌∙◌, inl, inr, Option, None, Some, nat_lt, slice_get, slice_set, arith}
+use Rattle.std.proofs.Common.{◌≡◌, ◌≢◌, ◌-◌, ◌<◌, ◌==◌, ℕ, zero, suc, List, [], ◌∷◌, Bool, true, false, cond, refl, sym, ap, subst, ◌∙◌, inl, inr, Option, None, Some, nat_lt, slice_get, slice_set, arith}
 use Rattle.commands.specs.declared.command.Command.{Command}
-use Rattle.commands.specs.declared.command.Command.TheVariants.{Configure, ShowActive, ShowCommits, Logout, Edit, Up, Top, Exit, ExitAll, Show, Change, Load, Rollback, CheckOnly, Commit as CommitAsked, Status}
+use Rattle.commands.specs.declared.command.Command.TheVariants.{Configure, ShowActive, ShowCommits, Logout, Edit, Up, Top, Exit, ExitAll, Show, Change, Load, Rollback, CheckOnly, Commit as CommitAsked, Update, Status}
 use Rattle.commands.specs.declared.command.Mode.{Mode}
+use Rattle.std.specs.Prelude.{IfSome}
+use Rattle.candidate.specs.Edits.{CandidateView}
 use Rattle.cfg_base.specs.declared.path.Step.{Step}
 use Rattle.commit_ledger.specs.declared.entry.Commit.{Commit}
 use Rattle.commit_ledger.specs.declared.entry.Entry.{Entry}
 use Rattle.commit_ledger.specs.declared.entry.Entry.TheVariants.{Commit as CommitOf, Confirm as ConfirmOf}
 use Rattle.commit_ledger.specs.declared.limit.TheConstants.{MAX_ENTRIES}
-use Rattle.commit_ledger.specs.Kept.{Unconfirmed, nth_last}
-use Rattle.config_core.specs.declared.caller.Caller.{Caller}
+use Rattle.commit_ledger.specs.Kept.{Unconfirmed, nth_last, is_revert_due}
 use Rattle.config_core.specs.declared.event.Event.{Event}
 use Rattle.config_core.specs.declared.event.Event.TheVariants.{Settle, Revert, Command as CommandOf}
 use Rattle.config_core.specs.declared.event.Outcome.{Outcome}
@@ -18,13 +19,13 @@ use Rattle.config_core.specs.declared.reply.Refusal.TheVariants.{NotALevel, Exha
 use Rattle.config_core.specs.declared.reply.Reply.{Reply}
 use Rattle.config_core.specs.declared.reply.Reply.TheVariants.{Done as SaysDone}
 use Rattle.config_core.specs.Levels.{Position, is_level_at, moved_to}
-use Rattle.config_core.specs.State.{State, Made}
+use Rattle.config_core.specs.State.{State, Made, HasNoneInFlight}
 use Rattle.config_core.specs.Access.{bar_to}
-use Rattle.config_core.specs.Callers.{caller_in, caller_of, level_of, position_of, with_caller, with_position, out_of_mode, without_mode}
-use Rattle.config_core.specs.Entries.{commit_of, confirm_of, made_by, revert_made, committed_by, taken}
-use Rattle.config_core.specs.Serving.{Turned, answered, refused, exited, edited, makes, left_if, checked, Moves, IsLost, Changes, IsUnchanged, Loads, IsNotLoaded, Replaces, RollsTo, Checks, Does, Serves}
-use Rattle.config_core.specs.Machine.{Waiting, InFlight, Missed, Free, waiting_of, is_logout, settled, reverted, left_by, Ends, StepsFrom, Steps, later}
-use Rattle.config_core.proofs.StepLemmas.{by_bar, by_bool}
+use Rattle.config_core.specs.Callers.{caller_in, caller_of, own_in, own_of, owns_with, position_of, with_caller, with_candidate, with_position, entered, out_of_mode, without_mode}
+use Rattle.config_core.specs.Entries.{commit_of, confirm_of, made_by, fresh_in, own_after, taken}
+use Rattle.config_core.specs.Serving.{Turned, answered, refused, exited, edited, makes, left_if, checked, Replaces, RollsTo, Does, Serves}
+use Rattle.config_core.specs.Machine.{Waiting, InFlight, Missed, Free, waiting_for, waiting_of, is_logout, settled, reverted, Ends, StepsFrom, Steps, later}
+use Rattle.config_core.proofs.StepLemmas.{by_bar, by_bool, by_check}
 
 get_other : {X : Type 0} (xs : List X) (i j : ℕ) (x : X) → i ≢ j → slice_get (slice_set xs i x) j ≡ slice_get xs j
 get_other [] i j x apart = refl
@@ -33,29 +34,67 @@ get_other (y ∷ xs) zero (suc j) x apart = refl
 get_other (y ∷ xs) (suc i) zero x apart = refl
 get_other (y ∷ xs) (suc i) (suc j) x apart = get_other xs i j x (λ e. apart (ap suc e))
 
--- an entry leaves the callers as they were
-pub same_callers : (maker : Option ℕ) (entry : Entry) (s : State) → (committed_by maker entry s).callers ≡ s.callers
-same_callers maker (CommitOf commit) s = refl
-same_callers maker (ConfirmOf confirm) s = refl
+-- a maker's place isn't that one
+abbrev IsElsewhere : ℕ → Option ℕ → Type 0
+IsElsewhere other None = Unit {0}
+IsElsewhere other (Some maker) = maker - 1 ≢ other - 1
 
 module _ (s : State) (caller other : ℕ) (apart : caller - 1 ≢ other - 1) where
+  -- what is in flight, where something is, was made elsewhere
+  abbrev AreElsewhere : Type 0
+  AreElsewhere = (made : Made) → s.flight ≡ Some made → IsElsewhere other made.maker
+
+  -- the other caller is as it was, and so is its own candidate where what is in flight was made elsewhere
   abbrev Stays : State → Type 0
-  Stays after = caller_of after other ≡ caller_of s other
+  Stays after = (caller_of after other ≡ caller_of s other) × (AreElsewhere → own_of after other ≡ own_of s other)
+
+  as_it_was : Stays s
+  as_it_was = (refl, λ elsewhere. refl)
 
   stays_by : (turned to : Turned) → turned ≡ to → Stays to.state → Stays turned.state
   stays_by turned to is stays = subst (λ (t : Turned). Stays t.state) (sym is) stays
 
-  same_stay : (t : State) → t.callers ≡ s.callers → Stays t
-  same_stay t same = ap (λ (callers : List Caller). caller_in (slice_get callers (other - 1))) same
+  -- the caller is put elsewhere
+  called : (t : State) (mode : Option Mode) (position : Position) → caller_of t other ≡ caller_of s other
+      → caller_of (with_caller t caller mode position) other ≡ caller_of s other
+  called t mode position stays = ap caller_in (get_other t.callers (caller - 1) (other - 1) _ apart) ∙ stays
 
-  placed : (t : State) (mode : Option Mode) (position : Position) → Stays t → Stays (with_caller t caller mode position)
-  placed t mode position stays = ap caller_in (get_other t.callers (caller - 1) (other - 1) _ apart) ∙ stays
+  moved : (position : Position) → Stays (with_position s caller position)
+  moved position = (called s _ position refl, λ elsewhere. refl)
 
-  taken_stay : (made : Made) → Stays (taken s made)
-  taken_stay made = same_stay (taken s made) (same_callers made.maker made.entry s)
+  owned : (owns : List (Option CandidateView)) (own : Option CandidateView)
+      → own_in (slice_get (slice_set owns (caller - 1) own) (other - 1)) ≡ own_in (slice_get owns (other - 1))
+  owned owns own = ap own_in (get_other owns (caller - 1) (other - 1) own apart)
+
+  enters : (mode : Mode) → Stays (entered s caller mode)
+  enters mode = (called s _ _ refl, λ elsewhere. owned s.own _)
+
+  leaves : (t : State) → Stays t → Stays (out_of_mode t caller)
+  leaves t stays = (called t _ _ stays.0, λ elsewhere. owned t.own None ∙ stays.1 elsewhere)
+
+  left_mode : Stays (without_mode s caller)
+  left_mode = leaves s as_it_was
+
+  -- a candidate is put elsewhere
+  put_owns : (place : ℕ) (own : Option CandidateView) (next : CandidateView) → place - 1 ≢ other - 1
+      → own_in (slice_get (owns_with own s.own place next) (other - 1)) ≡ own_of s other
+  put_owns place None next elsewhere = refl
+  put_owns place (Some own) next elsewhere = ap own_in (get_other s.own (place - 1) (other - 1) (Some next) elsewhere)
+
+  edits : (next : CandidateView) → Stays (with_candidate s caller next)
+  edits next = (refl, λ elsewhere. put_owns caller (own_of s caller) next apart)
+
+  made_owns : (maker : Option ℕ) (new : Option CandidateView) → IsElsewhere other maker
+      → own_in (slice_get (own_after s maker new) (other - 1)) ≡ own_of s other
+  made_owns maker None elsewhere = refl
+  made_owns None (Some new) elsewhere = refl
+  made_owns (Some maker) (Some new) elsewhere = put_owns maker (own_of s maker) new elsewhere
+
+  taken_stay : (entry : Entry) → Stays (taken s (made_by caller entry))
+  taken_stay entry = (refl, λ elsewhere. made_owns (Some caller) (fresh_in entry) apart)
 
   quit_stays : (quit : Bool) (t : State) → Stays t → Stays (left_if quit caller t)
-  quit_stays true t stays = placed t _ _ stays
+  quit_stays true t stays = leaves t stays
   quit_stays false t stays = stays
 
   makes_stay : (entry : Entry) (quit : Bool) (reply : Reply) → Stays (makes s caller entry quit reply).state
@@ -63,88 +102,118 @@ module _ (s : State) (caller other : ℕ) (apart : caller - 1 ≢ other - 1) whe
     where
       by_room : (b : Bool)
           → Stays (cond b (record { state = left_if quit caller (taken s (made_by caller entry)); reply = reply; made = Some (made_by caller entry) }) (refused s Exhausted)).state
-      by_room true = quit_stays quit (taken s (made_by caller entry)) (taken_stay (made_by caller entry))
-      by_room false = refl
+      by_room true = quit_stays quit (taken s (made_by caller entry)) (taken_stay entry)
+      by_room false = as_it_was
 
   checked_stays : (run : Option Unconfirmed) → Stays (checked s caller run).state
-  checked_stays None = refl
+  checked_stays None = as_it_was
   checked_stays (Some run) = makes_stay (ConfirmOf (confirm_of s caller)) false _
 
   exited_stays : (back : Option Position) → Stays (exited s caller back).state
-  exited_stays None = placed s _ _ refl
-  exited_stays (Some position) = placed s _ _ refl
+  exited_stays None = left_mode
+  exited_stays (Some position) = moved position
 
   edited_stays : (path : List Step) → Stays (edited s caller path).state
   edited_stays path = by_level (is_level_at path)
     where
       by_level : (b : Bool) → Stays (cond b (answered (with_position s caller (moved_to (position_of s caller) path)) SaysDone) (refused s (NotALevel path))).state
-      by_level true = placed s _ _ refl
-      by_level false = refl
+      by_level true = moved _
+      by_level false = as_it_was
 
   module _ (turned : Turned) where
-    checks_stay : (after : Turned) → Stays after.state → Checks s turned after → Stays turned.state
-    checks_stay after stays (inl checks) = stays_by turned after checks.1 stays
-    checks_stay after stays (inr broken) = stays_by turned _ broken.is refl
+    unchanged : (to : Turned) → to.state ≡ s → turned ≡ to → Stays turned.state
+    unchanged to same is = stays_by turned to is (subst Stays (sym same) as_it_was)
 
-    rolls_stay : (n : ℕ) (commit : Option Commit) → RollsTo s n commit turned → Stays turned.state
-    rolls_stay n None rolls = stays_by turned _ rolls refl
+    rolls_stay : (n : ℕ) (commit : Option Commit) → RollsTo s caller n commit turned → Stays turned.state
+    rolls_stay n None rolls = unchanged _ refl rolls
     rolls_stay n (Some commit) rolls =
-        by_bool (n == 0) _ _ (Stays turned.state) (λ is. stays_by turned _ is refl) (λ (r : Replaces s commit.tree turned). stays_by turned _ r.is refl) rolls
+        by_bool (n == 0) _ _ (Stays turned.state) (λ is. stays_by turned _ is (edits _))
+        (λ (r : Replaces s caller commit.tree turned). stays_by turned _ r.is (edits r.next)) rolls
 
     does_stay : (command : Command) → Does s caller command turned → Stays turned.state
-    does_stay (Configure mode) is = stays_by turned _ is (placed s _ _ refl)
-    does_stay (ShowActive asked form) shows = stays_by turned _ shows.is refl
-    does_stay ShowCommits lists = stays_by turned _ lists.is refl
-    does_stay Logout is = stays_by turned _ is (placed s _ _ refl)
+    does_stay (Configure mode) is = stays_by turned _ is (enters mode)
+    does_stay (ShowActive asked form) shows = unchanged _ refl shows.is
+    does_stay ShowCommits lists = unchanged _ refl lists.is
+    does_stay Logout is = stays_by turned _ is left_mode
     does_stay (Edit asked) (inl moves) = stays_by turned _ moves.is (edited_stays moves.target.path)
-    does_stay (Edit asked) (inr lost) = stays_by turned _ lost.is refl
-    does_stay (Up count) is = stays_by turned _ is (placed s _ _ refl)
-    does_stay Top is = stays_by turned _ is (placed s _ _ refl)
+    does_stay (Edit asked) (inr lost) = unchanged _ refl lost.is
+    does_stay (Up count) is = stays_by turned _ is (moved _)
+    does_stay Top is = stays_by turned _ is (moved _)
     does_stay Exit is = stays_by turned _ is (exited_stays _)
-    does_stay ExitAll is = stays_by turned _ is (placed s _ _ refl)
-    does_stay (Show asked form) shows = stays_by turned _ shows.is refl
-    does_stay (Change op) (inl changes) = stays_by turned _ changes.is refl
-    does_stay (Change op) (inr unchanged) = stays_by turned _ unchanged.is refl
-    does_stay (Load way text) (inl loads) = stays_by turned _ loads.is refl
-    does_stay (Load way text) (inr fault) = stays_by turned _ fault.is refl
+    does_stay ExitAll is = stays_by turned _ is left_mode
+    does_stay (Show asked form) shows = unchanged _ refl shows.is
+    does_stay (Change op) (inl changes) = stays_by turned _ changes.is (edits changes.next)
+    does_stay (Change op) (inr same) = unchanged _ refl same.is
+    does_stay (Load way text) (inl loads) = stays_by turned _ loads.replaces.is (edits loads.replaces.next)
+    does_stay (Load way text) (inr fault) = unchanged _ refl fault.is
     does_stay (Rollback n) rolls = rolls_stay n (nth_last s.kept n) rolls
-    does_stay CheckOnly checks = checks_stay _ (checked_stays s.kept.pending) checks
-    does_stay (CommitAsked minutes comment quit) checks = checks_stay _ (makes_stay (CommitOf (commit_of s caller minutes comment)) quit _) checks
-    does_stay Status is = stays_by turned _ is refl
+    does_stay CheckOnly checks =
+        by_check s (own_of s caller) turned _ (λ t. Stays t.state) (λ m accepted. checked_stays s.kept.pending) (λ refusal. as_it_was) checks
+    does_stay (CommitAsked minutes comment quit) checks =
+        by_check s (own_of s caller) turned _ (λ t. Stays t.state)
+        (λ m accepted. makes_stay (CommitOf (commit_of s caller m minutes comment)) quit _) (λ refusal. as_it_was) checks
+    does_stay Update (inl updates) = stays_by turned _ updates.is (edits updates.next)
+    does_stay Update (inr unmerged) = unchanged _ refl unmerged.is
+    does_stay Status is = unchanged _ refl is
 
     serves_stay : (command : Command) → Serves s caller command turned → Stays turned.state
-    serves_stay command = by_bar (bar_to s caller command) s turned _ _ (λ refusal is. stays_by turned _ is refl) (does_stay command)
+    serves_stay command = by_bar (bar_to s caller command) s turned _ _ (λ refusal is. unchanged _ refl is) (does_stay command)
 
   ends_stay : (outcome : Outcome) (done turned : Turned) → Stays done.state → Ends outcome s done turned → Stays turned.state
   ends_stay Done done turned stays is = stays_by turned done is stays
-  ends_stay Fault done turned stays put = stays_by turned _ put.is refl
+  ends_stay Fault done turned stays put = stays_by turned _ put.is (refl, λ elsewhere. refl)
 
-  settled_stay : (made : Made) (is_kept : Bool) → Stays (settled s made is_kept)
-  settled_stay made true = taken_stay made
-  settled_stay made false = refl
+  -- what was in flight is settled
+  settled_stay : (made : Made) (is_kept : Bool) → s.flight ≡ Some made → Stays (settled s made is_kept)
+  settled_stay made true flying = (refl, λ elsewhere. made_owns made.maker (fresh_in made.entry) (elsewhere made flying))
+  settled_stay made false flying = (refl, λ elsewhere. refl)
 
   left_stays : (logout : Bool) → Stays (cond logout (without_mode s caller) s)
-  left_stays true = placed s _ _ refl
-  left_stays false = refl
+  left_stays true = left_mode
+  left_stays false = as_it_was
 
-  from_stays : (waiting : Waiting) (event : Event) (outcome : Outcome) (turned : Turned) → StepsFrom waiting s caller event outcome turned
-      → Stays turned.state
-  from_stays (InFlight made) (Settle is_kept) Done turned is = stays_by turned _ is (settled_stay made is_kept)
-  from_stays (InFlight made) (CommandOf command) Fault turned is = stays_by turned _ is (left_stays (is_logout command))
-  from_stays (InFlight made) (Settle is_kept) Fault turned is = absurd is
-  from_stays (InFlight made) (CommandOf command) Done turned is = absurd is
-  from_stays (InFlight made) Revert outcome turned is = absurd is
-  from_stays Missed Revert outcome turned is = ends_stay outcome (reverted s) turned (taken_stay (revert_made s)) is
-  from_stays Missed (Settle is_kept) outcome turned is = absurd is
-  from_stays Missed (CommandOf command) outcome turned is = absurd is
-  from_stays Free (CommandOf command) outcome turned is = ends_stay outcome is.done turned (serves_stay is.done command is.serves) is.ends
-  from_stays Free (Settle is_kept) outcome turned is = absurd is
-  from_stays Free Revert outcome turned is = absurd is
+  from_stays : (waiting : Waiting) (event : Event) (outcome : Outcome) (turned : Turned)
+      → ((made : Made) → waiting ≡ InFlight made → s.flight ≡ Some made) → StepsFrom waiting s caller event outcome turned → Stays turned.state
+  from_stays (InFlight made) (Settle is_kept) Done turned flying is = stays_by turned _ is (settled_stay made is_kept (flying made refl))
+  from_stays (InFlight made) (CommandOf command) Fault turned flying is = stays_by turned _ is (left_stays (is_logout command))
+  from_stays (InFlight made) (Settle is_kept) Fault turned flying is = absurd is
+  from_stays (InFlight made) (CommandOf command) Done turned flying is = absurd is
+  from_stays (InFlight made) Revert outcome turned flying is = absurd is
+  from_stays Missed Revert outcome turned flying is = ends_stay outcome (reverted s) turned (refl, λ elsewhere. refl) is
+  from_stays Missed (Settle is_kept) outcome turned flying is = absurd is
+  from_stays Missed (CommandOf command) outcome turned flying is = absurd is
+  from_stays Free (CommandOf command) outcome turned flying is = ends_stay outcome is.done turned (serves_stay is.done command is.serves) is.ends
+  from_stays Free (Settle is_kept) outcome turned flying is = absurd is
+  from_stays Free Revert outcome turned flying is = absurd is
 
 numbers_apart : (caller other : ℕ) → 0 < caller → 0 < other → other ≢ caller → caller - 1 ≢ other - 1
 numbers_apart caller other one two apart same = apart (omega (arith, one, two, same))
 
-pub steps_leave_others : (s : State) (caller other moment : ℕ) (event : Event) (outcome : Outcome) (turned : Turned) → 0 < caller → 0 < other → other ≢ caller
-    → Steps s caller moment event outcome turned → caller_of turned.state other ≡ caller_of s other
-steps_leave_others s caller other moment event outcome turned one two apart steps =
-    from_stays (later s moment) caller other (numbers_apart caller other one two apart) (waiting_of s moment) event outcome turned steps
+-- a maker that is another caller stands elsewhere
+elsewhere_by : (maker : Option ℕ) (other : ℕ) → 0 < other → IfSome maker (λ m. (0 < m) × (other ≢ m)) → IsElsewhere other maker
+elsewhere_by None other two is = tt
+elsewhere_by (Some maker) other two is = numbers_apart maker other is.0 two is.1
+
+made_elsewhere : (flight : Option Made) (other : ℕ) → 0 < other → IfSome flight (λ made. IfSome made.maker (λ maker. (0 < maker) × (other ≢ maker)))
+    → (made : Made) → flight ≡ Some made → IsElsewhere other made.maker
+made_elsewhere flight other two is made flying =
+    elsewhere_by made.maker other two (subst (λ (f : Option Made). IfSome f (λ m. IfSome m.maker (λ maker. (0 < maker) × (other ≢ maker)))) flying is)
+
+-- what stands before the next command
+flying_when : (flight : Option Made) (missed : Bool) (made : Made) → waiting_for flight missed ≡ InFlight made → flight ≡ Some made
+flying_when (Some one) missed made is = cc
+flying_when None true made is = absurd (cc)
+flying_when None false made is = absurd (cc)
+
+module _ (s : State) (caller other moment : ℕ) (event : Event) (outcome : Outcome) (turned : Turned) (one : 0 < caller) (two : 0 < other)
+    (apart : other ≢ caller) (steps : Steps s caller moment event outcome turned) where
+  stays_so : Stays (later s moment) caller other (numbers_apart caller other one two apart) turned.state
+  stays_so =
+      from_stays (later s moment) caller other (numbers_apart caller other one two apart) (waiting_of s moment) event outcome turned
+      (flying_when s.flight (is_revert_due s.kept moment)) steps
+
+  pub steps_leave_others : caller_of turned.state other ≡ caller_of s other
+  steps_leave_others = stays_so.0
+
+  pub steps_leave_candidates : HasNoneInFlight s other → own_of turned.state other ≡ own_of s other
+  steps_leave_candidates none = stays_so.1 (made_elsewhere s.flight other two none)

@@ -1,9 +1,8 @@
 -- A step has one outcome.
 use Rattle.std.proofs.Common.{◌≡◌, ◌≢◌, ◌⊎◌, ℕ, Bool, true, false, ◌==◌, List, [], length, refl, sym, ap, subst, ◌∙◌, inl, inr, Some, None, Result, Ok, Err}
 use Rattle.std.specs.Prelude.{MatchBool, Option}
-use Rattle.std.proofs.lemmas.Bool.Decides.{same_from_decides}
 use Rattle.commands.specs.declared.command.Command.{Command}
-use Rattle.commands.specs.declared.command.Command.TheVariants.{Configure, ShowActive, ShowCommits, Logout, Edit, Up, Top, Exit, ExitAll, Show, Change, Load, Rollback, CheckOnly, Commit as CommitAsked, Status}
+use Rattle.commands.specs.declared.command.Command.TheVariants.{Configure, ShowActive, ShowCommits, Logout, Edit, Up, Top, Exit, ExitAll, Show, Change, Load, Rollback, CheckOnly, Commit as CommitAsked, Update, Status}
 use Rattle.commands.specs.declared.command.Form.{Form}
 use Rattle.commands.specs.declared.command.Form.TheVariants.{Curly, SetLines, Inherited}
 use Rattle.commands.specs.declared.command.LoadWay.{LoadWay}
@@ -19,6 +18,10 @@ use Rattle.cfg_tree.proofs.TopLemmas.{top_is_level}
 use Rattle.edit_ops.specs.declared.fault.EditFault.{EditFault}
 use Rattle.edit_ops.specs.declared.fault.EditFault.TheVariants as edit
 use Rattle.edit_ops.specs.Answer.{edit_fault, IsChange, IsEditFault}
+use Rattle.candidate.specs.Edits.{CandidateView, IsCandidateChange, IsEdited}
+use Rattle.private_merge.specs.declared.fault.MergeFault.{MergeFault}
+use Rattle.private_merge.specs.declared.fault.MergeFault.TheVariants as merge
+use Rattle.private_merge.specs.Merge.{IsMerge, IsMergeFault}
 use Rattle.group_expand.specs.Expansion.{IsExpansion}
 use Rattle.load_ops.specs.declared.fault.LoadFault.{LoadFault}
 use Rattle.load_ops.specs.declared.fault.LoadFault.TheVariants as load
@@ -31,17 +34,15 @@ use Rattle.config_core.specs.declared.event.Outcome.TheVariants as outcomes
 use Rattle.config_core.specs.declared.reply.Refusal.{Refusal}
 use Rattle.config_core.specs.declared.reply.Refusal.TheVariants.{Check, DiskFault}
 use Rattle.config_core.specs.declared.reply.Reply.{Reply}
-use Rattle.config_core.specs.declared.reply.Reply.TheVariants.{Done, Text, Loaded, Committed, Refused}
+use Rattle.config_core.specs.declared.reply.Reply.TheVariants.{Done, Text, Loaded, Refused}
 use Rattle.commit_ledger.specs.declared.entry.Commit.{Commit}
-use Rattle.commit_ledger.specs.declared.entry.Entry.TheVariants.{Commit as CommitOf}
 use Rattle.commit_ledger.specs.Kept.{Kept, active_of, nth_last}
 use Rattle.commit_ledger.specs.Listing.{IsListing}
-use Rattle.config_core.specs.State.{State, Made}
-use Rattle.config_core.specs.Showing.{refusal_of, load_refusal_of, NamesNone, NamesOne, path_alone, AsksFor, shown_full, ShowsBelow, ShowsAnswer, IsShow}
+use Rattle.config_core.specs.State.{State, Made, fresh_of}
+use Rattle.config_core.specs.Showing.{refusal_of, load_refusal_of, merge_refusal_of, NamesNone, NamesOne, path_alone, AsksFor, shown_full, ShowsBelow, ShowsAnswer, IsShow}
 use Rattle.config_core.specs.Access.{bar_to}
-use Rattle.config_core.specs.Callers.{level_of}
-use Rattle.config_core.specs.Entries.{commit_of, with_candidate}
-use Rattle.config_core.specs.Serving.{Turned, answered, refused, edited, Moves, IsLost, Shows, Lists, Changes, IsUnchanged, Loads, IsNotLoaded, Replaces, RollsTo, Checks, checked, makes, Unless, Does, Serves}
+use Rattle.config_core.specs.Callers.{level_of, own_of, candidate_of, with_candidate}
+use Rattle.config_core.specs.Serving.{Turned, answered, refused, edited, Moves, IsLost, Shows, Lists, Changes, IsUnchanged, Loads, IsNotLoaded, Replaces, RollsTo, IsOwnMerge, IsNotMerged, Updates, Checks, ChecksMerged, ChecksWhole, checked, committed, Unless, Does, Serves}
 use Rattle.config_core.specs.Machine.{Waiting, InFlight, Missed, Free, waiting_of, Ends, IsPutInFlight, StepsFrom, later, reverted, Steps}
 
 both_served : (b : Bool) (P Q P' Q' R : Type 0) → (P → P' → R) → (Q → Q' → R) → MatchBool b P Q → MatchBool b P' Q' → R
@@ -79,6 +80,9 @@ has_cause fault refusal told e = some_none refusal (sym (ap refusal_of e) ∙ to
 
 load_has_cause : (fault : LoadFault) (refusal : Refusal) → load_refusal_of fault ≡ Some refusal → fault ≢ load.NoMemory
 load_has_cause fault refusal told e = some_none refusal (sym (ap load_refusal_of e) ∙ told)
+
+merge_has_cause : (fault : MergeFault) (refusal : Refusal) → merge_refusal_of fault ≡ Some refusal → fault ≢ merge.NoMemory
+merge_has_cause fault refusal told e = some_none refusal (sym (ap merge_refusal_of e) ∙ told)
 
 why_has_cause : (why : WordsFault) (refusal : Refusal) → refusal_of (edit_fault why) ≡ Some refusal → misnamed why ≢ misnamed words.NoMemory
 why_has_cause why refusal told e = has_cause (edit_fault why) refusal told (ap edit_fault (same_why why words.NoMemory e))
@@ -146,13 +150,59 @@ module _ (level : List Step)
 module _ (first_once : (m : Statements) (number other : ℕ) (path again : List Step) → IsFirst m number path → IsFirst m other again
     → (number ≡ other) × (path ≡ again))
     (accepted_or_first : (m : Statements) (number : ℕ) (path : List Step) → Accepts m → IsFirst m number path → ⊥) where
-  checks_once : (s : State) (accepted one other : Turned) → Checks s one accepted → Checks s other accepted → one ≡ other
-  checks_once s accepted one other (inl a) (inl b) = a.1 ∙ sym b.1
-  checks_once s accepted one other (inl a) (inr b) = absurd (accepted_or_first s.candidate b.number b.path a.0 b.first)
-  checks_once s accepted one other (inr a) (inl b) = absurd (accepted_or_first s.candidate a.number a.path b.0 a.first)
-  checks_once s accepted one other (inr a) (inr b) =
-      let same = first_once s.candidate a.number b.number a.path b.path a.first b.first in
+  checks_once : (s : State) (m : Statements) (accepted one other : Turned) → Checks s m one accepted → Checks s m other accepted → one ≡ other
+  checks_once s m accepted one other (inl a) (inl b) = a.1 ∙ sym b.1
+  checks_once s m accepted one other (inl a) (inr b) = absurd (accepted_or_first m b.number b.path a.0 b.first)
+  checks_once s m accepted one other (inr a) (inl b) = absurd (accepted_or_first m a.number a.path b.0 a.first)
+  checks_once s m accepted one other (inr a) (inr b) =
+      let same = first_once m a.number b.number a.path b.path a.first b.first in
       a.is ∙ ap (λ (n : ℕ). refused s (Check n a.path)) same.0 ∙ ap (λ (p : List Step). refused s (Check b.number p)) same.1 ∙ sym b.is
+
+  -- so has the check of a merge
+  module _ (merge_once : (base active mine one other : Statements) → IsMerge base active mine one → IsMerge base active mine other → one ≡ other)
+      (unmerged_once : (base active mine : Statements) (one other : MergeFault) → IsMergeFault base active mine one
+      → IsMergeFault base active mine other → one ≢ merge.NoMemory → other ≢ merge.NoMemory → one ≡ other)
+      (merge_or_fault : (base active mine merged : Statements) (fault : MergeFault) → IsMerge base active mine merged
+      → IsMergeFault base active mine fault → fault ≡ merge.NoMemory) (s : State) where
+    -- what is merged isn't refused
+    merged_or_not : (own : CandidateView) (merged : Statements) (turned : Turned) → IsOwnMerge s own merged → IsNotMerged s own turned → ⊥
+    merged_or_not own merged turned a b =
+        merge_has_cause b.fault b.refusal b.told (merge_or_fault own.base (active_of s.kept) own.map merged b.fault a b.cause)
+
+    not_merged_once : (own : CandidateView) (one other : Turned) → IsNotMerged s own one → IsNotMerged s own other → one ≡ other
+    not_merged_once own one other a b =
+        let same = unmerged_once own.base (active_of s.kept) own.map a.fault b.fault a.cause b.cause
+        (merge_has_cause a.fault a.refusal a.told) (merge_has_cause b.fault b.refusal b.told)
+        in a.is ∙ ap (refused s) (same_some a.refusal b.refusal (sym a.told ∙ ap merge_refusal_of same ∙ b.told)) ∙ sym b.is
+
+    merged_once : (own : CandidateView) (accepted : Statements → Turned) (one other : Turned) → ChecksMerged s own one accepted
+        → ChecksMerged s own other accepted → one ≡ other
+    merged_once own accepted one other a b =
+        checks_once s b.merged (accepted b.merged) one other
+        (subst (λ (m : Statements). Checks s m one (accepted m)) (merge_once own.base (active_of s.kept) own.map a.merged b.merged a.merge b.merge) a.checks)
+        b.checks
+
+    whole_once : (own : Option CandidateView) (accepted : Statements → Turned) (one other : Turned) → ChecksWhole s own one accepted
+        → ChecksWhole s own other accepted → one ≡ other
+    whole_once None accepted one other a b = checks_once s s.shared.map (accepted s.shared.map) one other a b
+    whole_once (Some own) accepted one other (inl a) (inl b) = merged_once own accepted one other a b
+    whole_once (Some own) accepted one other (inl a) (inr b) = absurd (merged_or_not own a.merged other a.merge b)
+    whole_once (Some own) accepted one other (inr a) (inl b) = absurd (merged_or_not own b.merged one b.merge a)
+    whole_once (Some own) accepted one other (inr a) (inr b) = not_merged_once own one other a b
+
+    -- an update leaves one candidate
+    module _ (edit_once : (old one other : CandidateView) (made : Statements) → IsEdited old one made → IsEdited old other made → one ≡ other)
+        (caller : ℕ) where
+      updates_once : (one other : Turned) → Updates s caller one ⊎ IsNotMerged s (candidate_of s caller) one
+          → Updates s caller other ⊎ IsNotMerged s (candidate_of s caller) other → one ≡ other
+      updates_once one other (inl a) (inl b) =
+          let same = merge_once (candidate_of s caller).base (active_of s.kept) (candidate_of s caller).map a.merged b.merged a.merge b.merge in
+          let next = edit_once (fresh_of s.kept.last) a.next b.next b.merged
+          (subst (λ (m : Statements). IsEdited (fresh_of s.kept.last) a.next m) same a.edited) b.edited
+          in a.is ∙ ap (λ (c : CandidateView). answered (with_candidate s caller c) Done) next ∙ sym b.is
+      updates_once one other (inl a) (inr b) = absurd (merged_or_not (candidate_of s caller) a.merged other a.merge b)
+      updates_once one other (inr a) (inl b) = absurd (merged_or_not (candidate_of s caller) b.merged one b.merge a)
+      updates_once one other (inr a) (inr b) = not_merged_once (candidate_of s caller) one other a b
 
 module _ (s : State) (caller : ℕ)
     (words_once : (level : List Step) (asked : List (List ℕ)) (one other : Result Target WordsFault) → IsLevelPath level → ResolvesTo level asked one
@@ -168,13 +218,19 @@ module _ (s : State) (caller : ℕ)
     (load_or_fault : (way : LoadWay) (old new : Statements) (text : List ℕ) (told : Bool) (fault : LoadFault) → IsLoad way old text new told
     → IsLoadFault way old text fault → fault ≡ load.NoMemory)
     (listing_once : (kept : Kept) (one other : List ℕ) → IsListing kept one → IsListing kept other → one ≡ other)
+    (merge_once : (base active mine one other : Statements) → IsMerge base active mine one → IsMerge base active mine other → one ≡ other)
+    (unmerged_once : (base active mine : Statements) (one other : MergeFault) → IsMergeFault base active mine one
+    → IsMergeFault base active mine other → one ≢ merge.NoMemory → other ≢ merge.NoMemory → one ≡ other)
+    (merge_or_fault : (base active mine merged : Statements) (fault : MergeFault) → IsMerge base active mine merged
+    → IsMergeFault base active mine fault → fault ≡ merge.NoMemory)
+    (edit_once : (old one other : CandidateView) (made : Statements) → IsEdited old one made → IsEdited old other made → one ≡ other)
     (is_level : IsLevelPath (level_of s caller))
-    (map_once : (op : Op) (one other : Statements) (told again : Bool) → IsChange s.candidate one (level_of s caller) op told
-    → IsChange s.candidate other (level_of s caller) op again → (one ≡ other) × (told ≡ again))
-    (fault_once : (op : Op) (one other : EditFault) → IsEditFault s.candidate (level_of s caller) op one
-    → IsEditFault s.candidate (level_of s caller) op other → one ≢ edit.NoMemory → other ≢ edit.NoMemory → one ≡ other)
-    (map_or_fault : (op : Op) (n : Statements) (told : Bool) (fault : EditFault) → IsChange s.candidate n (level_of s caller) op told
-    → IsEditFault s.candidate (level_of s caller) op fault → fault ≡ edit.NoMemory) where
+    (change_once : (op : Op) (one other : CandidateView) → IsCandidateChange (candidate_of s caller) one (level_of s caller) op
+    → IsCandidateChange (candidate_of s caller) other (level_of s caller) op → one ≡ other)
+    (fault_once : (op : Op) (one other : EditFault) → IsEditFault (candidate_of s caller).map (level_of s caller) op one
+    → IsEditFault (candidate_of s caller).map (level_of s caller) op other → one ≢ edit.NoMemory → other ≢ edit.NoMemory → one ≡ other)
+    (change_or_fault : (op : Op) (n : CandidateView) (fault : EditFault) → IsCandidateChange (candidate_of s caller) n (level_of s caller) op
+    → IsEditFault (candidate_of s caller).map (level_of s caller) op fault → fault ≡ edit.NoMemory) where
   once_at : (level : List Step) → IsLevelPath level → (asked : List (List ℕ)) (one other : Result Target WordsFault) → ResolvesTo level asked one
       → ResolvesTo level asked other → one ≢ misnamed words.NoMemory → other ≢ misnamed words.NoMemory → one ≡ other
   once_at level is asked one other = words_once level asked one other is
@@ -187,39 +243,38 @@ module _ (s : State) (caller : ℕ)
   changes_once : (op : Op) (one other : Turned) → Changes s caller op one ⊎ IsUnchanged s caller op one
       → Changes s caller op other ⊎ IsUnchanged s caller op other → one ≡ other
   changes_once op one other (inl a) (inl b) =
-      let same = map_once op a.next b.next a.told b.told a.change b.change in
-      a.is ∙ ap (λ (n : Statements). answered (with_candidate s n a.told) Done) same.0 ∙ ap (λ (told : Bool). answered (with_candidate s b.next told) Done) same.1 ∙ sym b.is
+      a.is ∙ ap (λ (n : CandidateView). answered (with_candidate s caller n) Done) (change_once op a.next b.next a.change b.change) ∙ sym b.is
   changes_once op one other (inl a) (inr b) =
-      absurd (has_cause b.fault b.refusal b.told (map_or_fault op a.next a.told b.fault a.change b.cause))
+      absurd (has_cause b.fault b.refusal b.told (change_or_fault op a.next b.fault a.change b.cause))
   changes_once op one other (inr a) (inl b) =
-      absurd (has_cause a.fault a.refusal a.told (map_or_fault op b.next b.told a.fault b.change a.cause))
+      absurd (has_cause a.fault a.refusal a.told (change_or_fault op b.next a.fault b.change a.cause))
   changes_once op one other (inr a) (inr b) =
       let same = fault_once op a.fault b.fault a.cause b.cause (has_cause a.fault a.refusal a.told) (has_cause b.fault b.refusal b.told)
       in a.is ∙ ap (refused s) (same_some a.refusal b.refusal (sym a.told ∙ ap refusal_of same ∙ b.told)) ∙ sym b.is
 
-  loads_once : (way : LoadWay) (text : List ℕ) (one other : Turned) → Loads s way text one ⊎ IsNotLoaded s way text one
-      → Loads s way text other ⊎ IsNotLoaded s way text other → one ≡ other
+  replaces_once : (made : Statements) (one other : Turned) → Replaces s caller made one → Replaces s caller made other → one ≡ other
+  replaces_once made one other a b =
+      a.is ∙ ap (λ (n : CandidateView). answered (with_candidate s caller n) Loaded) (edit_once (candidate_of s caller) a.next b.next made a.edited b.edited)
+      ∙ sym b.is
+
+  loads_once : (way : LoadWay) (text : List ℕ) (one other : Turned) → Loads s caller way text one ⊎ IsNotLoaded s caller way text one
+      → Loads s caller way text other ⊎ IsNotLoaded s caller way text other → one ≡ other
   loads_once way text one other (inl a) (inl b) =
-      let same = load_once way s.candidate a.next b.next text a.told b.told a.load b.load in
-      a.is ∙ ap (λ (n : Statements). answered (with_candidate s n a.told) Loaded) same.0
-      ∙ ap (λ (told : Bool). answered (with_candidate s b.next told) Loaded) same.1 ∙ sym b.is
+      let same = load_once way (candidate_of s caller).map a.made b.made text a.told b.told a.load b.load in
+      replaces_once b.made one other (subst (λ (m : Statements). Replaces s caller m one) same.0 a.replaces) b.replaces
   loads_once way text one other (inl a) (inr b) =
-      absurd (load_has_cause b.fault b.refusal b.told (load_or_fault way s.candidate a.next text a.told b.fault a.load b.cause))
+      absurd (load_has_cause b.fault b.refusal b.told (load_or_fault way (candidate_of s caller).map a.made text a.told b.fault a.load b.cause))
   loads_once way text one other (inr a) (inl b) =
-      absurd (load_has_cause a.fault a.refusal a.told (load_or_fault way s.candidate b.next text b.told a.fault b.load a.cause))
+      absurd (load_has_cause a.fault a.refusal a.told (load_or_fault way (candidate_of s caller).map b.made text b.told a.fault b.load a.cause))
   loads_once way text one other (inr a) (inr b) =
-      let same = load_fault_once way s.candidate text a.fault b.fault a.cause b.cause (load_has_cause a.fault a.refusal a.told)
+      let same = load_fault_once way (candidate_of s caller).map text a.fault b.fault a.cause b.cause (load_has_cause a.fault a.refusal a.told)
       (load_has_cause b.fault b.refusal b.told)
       in a.is ∙ ap (refused s) (same_some a.refusal b.refusal (sym a.told ∙ ap load_refusal_of same ∙ b.told)) ∙ sym b.is
 
   lists_once : (one other : Turned) → Lists s one → Lists s other → one ≡ other
   lists_once one other a b = a.is ∙ ap (λ (text : List ℕ). answered s (Text text)) (listing_once s.kept a.text b.text a.listing b.listing) ∙ sym b.is
 
-  replaces_once : (next : Statements) (one other : Turned) → Replaces s next one → Replaces s next other → one ≡ other
-  replaces_once next one other a b =
-      a.is ∙ ap (λ (told : Bool). answered (with_candidate s next told) Loaded) (same_from_decides a.told b.told a.tells b.tells) ∙ sym b.is
-
-  rolls_once : (n : ℕ) (commit : Option Commit) (one other : Turned) → RollsTo s n commit one → RollsTo s n commit other → one ≡ other
+  rolls_once : (n : ℕ) (commit : Option Commit) (one other : Turned) → RollsTo s caller n commit one → RollsTo s caller n commit other → one ≡ other
   rolls_once n None one other a b = a ∙ sym b
   rolls_once n (Some commit) one other a b =
       both_served (n == 0) _ _ _ _ (one ≡ other) (both_are _ one other) (replaces_once commit.tree one other) a b
@@ -240,13 +295,16 @@ module _ (s : State) (caller : ℕ)
     does_once Top = both_are _ one other
     does_once Exit = both_are _ one other
     does_once ExitAll = both_are _ one other
-    does_once (Show asked form) = shows_once (level_of s caller) (once_at (level_of s caller) is_level) full_once s s.candidate asked form one other
+    does_once (Show asked form) = shows_once (level_of s caller) (once_at (level_of s caller) is_level) full_once s (candidate_of s caller).map asked form one other
     does_once (Change op) = changes_once op one other
     does_once (Load way text) = loads_once way text one other
     does_once (Rollback n) = rolls_once n (nth_last s.kept n) one other
-    does_once CheckOnly = checks_once first_once accepted_or_first s (checked s caller s.kept.pending) one other
+    does_once CheckOnly =
+        whole_once first_once accepted_or_first merge_once unmerged_once merge_or_fault s (own_of s caller) (λ m. checked s caller s.kept.pending) one other
     does_once (CommitAsked minutes comment quit) =
-        checks_once first_once accepted_or_first s (makes s caller (CommitOf (commit_of s caller minutes comment)) quit (Committed minutes quit)) one other
+        whole_once first_once accepted_or_first merge_once unmerged_once merge_or_fault s (own_of s caller)
+        (λ m. committed s caller m minutes comment quit) one other
+    does_once Update = updates_once first_once accepted_or_first merge_once unmerged_once merge_or_fault s edit_once caller one other
     does_once Status = both_are _ one other
 
     -- a command has one outcome
@@ -287,8 +345,6 @@ pub steps_once :
     → ((m : Statements) (number other : ℕ) (path again : List Step) → IsFirst m number path → IsFirst m other again
     → (number ≡ other) × (path ≡ again))
     → ((m : Statements) (number : ℕ) (path : List Step) → Accepts m → IsFirst m number path → ⊥)
-    → ((m one other : Statements) (level : List Step) (op : Op) (told again : Bool) → IsLevelPath level → IsChange m one level op told
-    → IsChange m other level op again → (one ≡ other) × (told ≡ again))
     → ((m : Statements) (level : List Step) (op : Op) (one other : EditFault) → IsLevelPath level → IsEditFault m level op one
     → IsEditFault m level op other → one ≢ edit.NoMemory → other ≢ edit.NoMemory → one ≡ other)
     → ((m n : Statements) (level : List Step) (op : Op) (told : Bool) (fault : EditFault) → IsLevelPath level → IsChange m n level op told
@@ -300,13 +356,22 @@ pub steps_once :
     → ((way : LoadWay) (old new : Statements) (text : List ℕ) (told : Bool) (fault : LoadFault) → IsLoad way old text new told
     → IsLoadFault way old text fault → fault ≡ load.NoMemory)
     → ((kept : Kept) (one other : List ℕ) → IsListing kept one → IsListing kept other → one ≡ other)
+    → ((base active mine one other : Statements) → IsMerge base active mine one → IsMerge base active mine other → one ≡ other)
+    → ((base active mine : Statements) (one other : MergeFault) → IsMergeFault base active mine one
+    → IsMergeFault base active mine other → one ≢ merge.NoMemory → other ≢ merge.NoMemory → one ≡ other)
+    → ((base active mine merged : Statements) (fault : MergeFault) → IsMerge base active mine merged
+    → IsMergeFault base active mine fault → fault ≡ merge.NoMemory)
+    → ((old one other : CandidateView) (made : Statements) → IsEdited old one made → IsEdited old other made → one ≡ other)
+    → ((old one other : CandidateView) (level : List Step) (op : Op) → IsLevelPath level → IsCandidateChange old one level op
+    → IsCandidateChange old other level op → one ≡ other)
     → (s : State) (caller moment : ℕ) (event : Event) (outcome : Outcome) (one other : Turned) → IsLevelPath (level_of s caller)
     → Steps s caller moment event outcome one → Steps s caller moment event outcome other → one ≡ other
-steps_once words_once full_once first_once accepted_or_first map_once fault_once map_or_fault load_once load_fault_once load_or_fault listing_once s caller moment event
-    outcome one other is_level =
+steps_once words_once full_once first_once accepted_or_first fault_once map_or_fault load_once load_fault_once load_or_fault listing_once merge_once unmerged_once
+    merge_or_fault edit_once change_once s caller moment event outcome one other is_level =
     from_once (waiting_of s moment) (later s moment) caller event outcome one other
-    (λ command done again. serves_once (later s moment) caller words_once full_once first_once accepted_or_first load_once load_fault_once load_or_fault listing_once is_level
-    (λ op m n told more. map_once s.candidate m n (level_of s caller) op told more is_level)
-    (λ op f g. fault_once s.candidate (level_of s caller) op f g is_level)
-    (λ op n told fault. map_or_fault s.candidate n (level_of s caller) op told fault is_level)
+    (λ command done again. serves_once (later s moment) caller words_once full_once first_once accepted_or_first load_once load_fault_once load_or_fault listing_once
+    merge_once unmerged_once merge_or_fault edit_once is_level
+    (λ op m n. change_once (candidate_of s caller) m n (level_of s caller) op is_level)
+    (λ op f g. fault_once (candidate_of s caller).map (level_of s caller) op f g is_level)
+    (λ op n fault change. map_or_fault (candidate_of s caller).map n.map (level_of s caller) op change.told fault is_level change.change)
     done again command)

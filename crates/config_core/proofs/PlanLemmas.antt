@@ -3,8 +3,7 @@ use Rattle.std.proofs.Common.{if◌then◌else◌, ◌≡◌, ℕ, Bool, true, f
 use Rattle.std.specs.Prelude.{IsSome}
 use Rattle.commands.specs.declared.command.Command.{Command}
 use Rattle.commit_ledger.specs.Kept.{Unconfirmed, is_missed, is_revert_due}
-use Rattle.config_core.specs.declared.event.Event.{Event}
-use Rattle.config_core.specs.declared.event.Event.TheVariants.{Settle as SettleOf, Revert, Command as CommandOf}
+use Rattle.config_core.specs.declared.event.Event.TheVariants.{Revert, Command as CommandOf}
 use Rattle.config_core.specs.declared.event.Outcome.{Outcome}
 use Rattle.config_core.specs.declared.event.Outcome.TheVariants.{Done, Fault}
 use Rattle.config_core.specs.declared.reply.Reply.{Reply}
@@ -13,7 +12,7 @@ use Rattle.config_core.specs.declared.effect.Effect.TheVariants.{Stay, Leave, En
 use Rattle.config_core.specs.State.{State, Made}
 use Rattle.config_core.specs.Plan.{Plan, made_of, made_in}
 use Rattle.config_core.specs.Serving.{Turned, refused, Serves}
-use Rattle.config_core.specs.Machine.{Waiting, InFlight, Missed, Free, waiting_for, waiting_of, is_logout, FitsIn, StepsFrom, Ends, IsPutInFlight, Steps, later, reverted}
+use Rattle.config_core.specs.Machine.{InFlight, Missed, Free, waiting_for, waiting_of, is_logout, FitsIn, StepsFrom, Ends, Steps, later, reverted}
 use Rattle.config_core.specs.Prepared.{effected, replied, ended, turned_by, put_off, fresh_for, Follows, Prepares, IsPrepared, CanEnd}
 use Rattle.config_core.specs.Callers.{IsCaller, without_mode}
 use Rattle.config_core.specs.declared.reply.Refusal.TheVariants.{DiskFault}
@@ -31,17 +30,17 @@ ends_free : (command : Command) (caller : ℕ) (s : State) (effect : Effect) (re
     → CanEnd Free (CommandOf command) (made_in effect) outcome → Ends outcome s (done_by effect caller reply s) (left_by effect caller reply outcome s)
 ends_free command caller s Stay reply Done can = refl
 ends_free command caller s (Leave fresh) reply Done can = refl
-ends_free command caller s (Enter mode) reply Done can = refl
+ends_free command caller s (Enter mode own) reply Done can = refl
 ends_free command caller s (Move position) reply Done can = refl
-ends_free command caller s (Edit tree is_modified) reply Done can = refl
+ends_free command caller s (Edit next) reply Done can = refl
 ends_free command caller s (Settle is_kept) reply Done can = refl
 ends_free command caller s (Append a) reply Done can = refl
 ends_free command caller s (Append a) reply Fault can = record { made = made_of a; makes = refl; is = refl }
 ends_free command caller s Stay reply Fault can = absurd can
 ends_free command caller s (Leave fresh) reply Fault can = absurd can
-ends_free command caller s (Enter mode) reply Fault can = absurd can
+ends_free command caller s (Enter mode own) reply Fault can = absurd can
 ends_free command caller s (Move position) reply Fault can = absurd can
-ends_free command caller s (Edit tree is_modified) reply Fault can = absurd can
+ends_free command caller s (Edit next) reply Fault can = absurd can
 ends_free command caller s (Settle is_kept) reply Fault can = absurd can
 
 -- a command that fits with nothing in flight has nothing before it
@@ -80,11 +79,11 @@ ends_missed s caller (Append a) reply done made Fault is makes =
     record { made = made_of a; makes = sym (ap (λ (t : Turned). t.made) is); is = refl }
 ends_missed s caller Stay reply done made outcome is makes = absurd (let e : None ≡ Some made = ap (λ (t : Turned). t.made) is ∙ makes in cc)
 ends_missed s caller (Leave fresh) reply done made outcome is makes = absurd (let e : None ≡ Some made = ap (λ (t : Turned). t.made) is ∙ makes in cc)
-ends_missed s caller (Enter mode) reply done made outcome is makes =
+ends_missed s caller (Enter mode own) reply done made outcome is makes =
     absurd (let e : None ≡ Some made = ap (λ (t : Turned). t.made) is ∙ makes in cc)
 ends_missed s caller (Move position) reply done made outcome is makes =
     absurd (let e : None ≡ Some made = ap (λ (t : Turned). t.made) is ∙ makes in cc)
-ends_missed s caller (Edit tree is_modified) reply done made outcome is makes =
+ends_missed s caller (Edit next) reply done made outcome is makes =
     absurd (let e : None ≡ Some made = ap (λ (t : Turned). t.made) is ∙ makes in cc)
 ends_missed s caller (Settle is_kept) reply done made outcome is makes =
     absurd (let e : None ≡ Some made = ap (λ (t : Turned). t.made) is ∙ makes in cc)

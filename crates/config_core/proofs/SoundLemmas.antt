@@ -1,5 +1,5 @@
 -- What holds of every state stays so.
-use Rattle.std.proofs.Common.{◌≡◌, ◌≢◌, ◌⊎◌, ◌==◌, ◌+◌, ◌<◌, ◌≤◌, ℕ, zero, suc, List, [], Bool, true, false, if◌then◌else◌, refl, sym, ◌∙◌, ap, subst, nat_lt, Option, None, Some, inl, inr, arith, rules}
+use Rattle.std.proofs.Common.{◌≡◌, ◌≢◌, ◌⊎◌, ◌==◌, ◌+◌, ◌<◌, ◌≤◌, ℕ, zero, suc, List, Bool, true, false, if◌then◌else◌, refl, sym, subst, nat_lt, Option, None, Some, inl, inr, arith, rules}
 use Rattle.std.specs.Prelude.{IsSome, IfSome}
 use Rattle.std.specs.FinMap as map
 use Rattle.std.proofs.lemmas.List.Elements.{All-nil}
@@ -7,7 +7,7 @@ use Rattle.commands.specs.Sound.{IsSound}
 use Rattle.commands.specs.declared.command.Command.{Command}
 use Rattle.commands.specs.declared.command.LoadWay.{LoadWay}
 use Rattle.commands.specs.declared.command.Op.{Op}
-use Rattle.commands.specs.declared.command.Command.TheVariants.{Configure, ShowActive, ShowCommits, Logout, Edit, Up, Top, Exit, ExitAll, Show, Change, Load, Rollback, CheckOnly, Commit as CommitAsked, Status}
+use Rattle.commands.specs.declared.command.Command.TheVariants.{Configure, ShowActive, ShowCommits, Logout, Edit, Up, Top, Exit, ExitAll, Show, Change, Load, Rollback, CheckOnly, Commit as CommitAsked, Update, Status}
 use Rattle.cfg_base.specs.declared.path.Step.{Step}
 use Rattle.cfg_lex.specs.Printed.{IsPrintable}
 use Rattle.cfg_tree.specs.Statements.{Statements}
@@ -16,7 +16,7 @@ use Rattle.commit_ledger.specs.declared.entry.Commit.{Commit}
 use Rattle.commit_ledger.specs.declared.entry.Entry.{Entry}
 use Rattle.commit_ledger.specs.declared.entry.Entry.TheVariants.{Commit as CommitOf, Confirm as ConfirmOf}
 use Rattle.commit_ledger.specs.declared.limit.TheConstants.{MAX_ENTRIES}
-use Rattle.commit_ledger.specs.Kept.{Kept, Unconfirmed, KeepsMaps, append_entry, target_of, factory, nth_last, is_missed, is_revert_due}
+use Rattle.commit_ledger.specs.Kept.{Kept, Unconfirmed, factory, nth_last, is_missed, is_revert_due}
 use Rattle.commit_ledger.proofs.KeptLemmas.{keeps_more, target_is_kept}
 use Rattle.config_core.specs.declared.event.Event.{Event}
 use Rattle.config_core.specs.declared.event.Event.TheVariants.{Settle, Revert, Command as CommandOf}
@@ -26,12 +26,12 @@ use Rattle.config_core.specs.declared.reply.Reply.{Reply}
 use Rattle.config_core.specs.Levels.{Position, is_level_at}
 use Rattle.config_core.specs.State.{State, Made}
 use Rattle.config_core.specs.Access.{bar_to}
-use Rattle.config_core.specs.Callers.{level_of, without_mode}
+use Rattle.config_core.specs.Callers.{level_of, own_of, candidate_of, without_mode}
 use Rattle.config_core.specs.Entries.{commit_of, confirm_of, made_by, revert_made, taken}
-use Rattle.config_core.specs.Serving.{Turned, answered, exited, edited, makes, left_if, checked, Moves, IsLost, Changes, IsUnchanged, Loads, IsNotLoaded, Replaces, RollsTo, Checks, Shows, Does, Serves}
+use Rattle.config_core.specs.Serving.{Turned, exited, edited, makes, left_if, checked, Moves, IsLost, Changes, IsUnchanged, Loads, IsNotLoaded, Replaces, RollsTo, IsNotMerged, Updates, Does, Serves}
 use Rattle.config_core.specs.Machine.{Waiting, InFlight, Missed, Free, waiting_for, waiting_of, is_logout, settled, reverted, left_by, Ends, IsPutInFlight, StepsFrom, Steps, later, Fits, IsAskable}
-use Rattle.config_core.specs.Soundness.{IsSoundCommit, IsSoundEntry, IsSoundMade, IsSoundKept, AreSound, IsSoundState}
-use Rattle.config_core.proofs.StepLemmas.{by_bar, by_bool}
+use Rattle.config_core.specs.Soundness.{IsSoundMade, IsSoundKept, IsSoundState}
+use Rattle.config_core.proofs.StepLemmas.{by_bar, by_bool, by_check}
 
 -- a step leaves a state that is sound, and an entry that may be the next one, or none
 abbrev Keeps : State → Turned → Type 0
@@ -98,9 +98,9 @@ module _ (s : State) (sound : IsSoundState s) where
       either s (nat_lt s.kept.count MAX_ENTRIES) _ _
       (λ room. let made = is (below s.kept.count MAX_ENTRIES room) in (left_sound quit caller (taken s (made_by caller entry)) (taken_sound s entry (Some caller) sound made), made)) (sound, tt)
 
-  commit_is_sound : (caller minutes : ℕ) (comment : List ℕ) → minutes ≤ 65535 → IsPrintable comment → Accepts s.candidate → s.kept.count < MAX_ENTRIES
-      → IsSoundMade s.kept s.greatest (made_by caller (CommitOf (commit_of s caller minutes comment)))
-  commit_is_sound caller minutes comment short printable accepted room = record {
+  commit_is_sound : (caller : ℕ) (m : Statements) (minutes : ℕ) (comment : List ℕ) → minutes ≤ 65535 → IsPrintable comment → Accepts m
+      → s.kept.count < MAX_ENTRIES → IsSoundMade s.kept s.greatest (made_by caller (CommitOf (commit_of s caller m minutes comment)))
+  commit_is_sound caller m minutes comment short printable accepted room = record {
     entry = record {
       follows = record { number = refl; moment = sound.no_later; room = (search (arith, room), λ h. room) };
       minutes = short;
@@ -137,10 +137,6 @@ module _ (s : State) (sound : IsSoundState s) where
   checked_keeps caller (Some run) is =
       makes_keep caller (ConfirmOf (confirm_of s caller)) false _ (confirm_is_sound caller (subst IsSome (sym is) refl))
 
-  checks_keep : (turned after : Turned) → (Accepts s.candidate → Keeps s after) → Checks s turned after → Keeps s turned
-  checks_keep turned after more (inl checks) = same turned after (more checks.0) checks.1
-  checks_keep turned after more (inr broken) = same turned _ (sound, tt) broken.is
-
   exited_keeps : (caller : ℕ) (back : Option Position) → Keeps s (exited s caller back)
   exited_keeps caller None = (sound, tt)
   exited_keeps caller (Some position) = (sound, tt)
@@ -149,10 +145,10 @@ module _ (s : State) (sound : IsSoundState s) where
   edited_keeps caller path = either s (is_level_at path) _ _ (λ e. (sound, tt)) (sound, tt)
 
   module _ (caller : ℕ) (turned : Turned) where
-    rolls_keep : (n : ℕ) (commit : Option Commit) → RollsTo s n commit turned → Keeps s turned
+    rolls_keep : (n : ℕ) (commit : Option Commit) → RollsTo s caller n commit turned → Keeps s turned
     rolls_keep n None rolls = same turned _ (sound, tt) rolls
     rolls_keep n (Some commit) rolls =
-        by_bool (n == 0) _ _ (Keeps s turned) (same turned _ (sound, tt)) (λ (r : Replaces s commit.tree turned). same turned _ (sound, tt) r.is) rolls
+        by_bool (n == 0) _ _ (Keeps s turned) (same turned _ (sound, tt)) (λ (r : Replaces s caller commit.tree turned). same turned _ (sound, tt) r.is) rolls
 
     moves_keep : (asked : List (List ℕ)) → Moves s caller asked turned ⊎ IsLost s (level_of s caller) asked turned → Keeps s turned
     moves_keep asked (inl moves) = same turned _ (edited_keeps caller moves.target.path) moves.is
@@ -162,9 +158,13 @@ module _ (s : State) (sound : IsSoundState s) where
     changes_keep op (inl changes) = same turned _ (sound, tt) changes.is
     changes_keep op (inr unchanged) = same turned _ (sound, tt) unchanged.is
 
-    loads_keep : (way : LoadWay) (text : List ℕ) → Loads s way text turned ⊎ IsNotLoaded s way text turned → Keeps s turned
-    loads_keep way text (inl loads) = same turned _ (sound, tt) loads.is
+    loads_keep : (way : LoadWay) (text : List ℕ) → Loads s caller way text turned ⊎ IsNotLoaded s caller way text turned → Keeps s turned
+    loads_keep way text (inl loads) = same turned _ (sound, tt) loads.replaces.is
     loads_keep way text (inr fault) = same turned _ (sound, tt) fault.is
+
+    updates_keep : Updates s caller turned ⊎ IsNotMerged s (candidate_of s caller) turned → Keeps s turned
+    updates_keep (inl updates) = same turned _ (sound, tt) updates.is
+    updates_keep (inr unmerged) = same turned _ (sound, tt) unmerged.is
 
     does_keep : (command : Command) → IsSound command → Does s caller command turned → Keeps s turned
     does_keep (Configure mode) is = same turned _ (sound, tt)
@@ -180,9 +180,13 @@ module _ (s : State) (sound : IsSoundState s) where
     does_keep (Change op) is = changes_keep op
     does_keep (Load way text) is = loads_keep way text
     does_keep (Rollback n) is = rolls_keep n (nth_last s.kept n)
-    does_keep CheckOnly is = checks_keep turned _ (λ accepted. checked_keeps caller s.kept.pending refl)
+    does_keep CheckOnly is =
+        by_check s (own_of s caller) turned _ (Keeps s) (λ m accepted. checked_keeps caller s.kept.pending refl) (λ refusal. (sound, tt))
     does_keep (CommitAsked minutes comment quit) is =
-        checks_keep turned _ (λ accepted. makes_keep caller (CommitOf (commit_of s caller minutes comment)) quit _ (commit_is_sound caller minutes comment is.0 is.1 accepted))
+        by_check s (own_of s caller) turned _ (Keeps s) (λ m accepted.
+        makes_keep caller (CommitOf (commit_of s caller m minutes comment)) quit _ (commit_is_sound caller m minutes comment is.0 is.1 accepted))
+        (λ refusal. (sound, tt))
+    does_keep Update is = updates_keep
     does_keep Status is = same turned _ (sound, tt)
 
     serves_keep : (command : Command) → IsSound command → Serves s caller command turned → Keeps s turned

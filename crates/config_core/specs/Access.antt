@@ -1,38 +1,46 @@
 -- Who may do what: the commands of each mode, those that another session's exclusive mode bars, and those that uncommitted
--- changes bar. Junos OS CLI User Guide, on operational and configuration mode and on configure exclusive; the order is this
--- project's own.
+-- changes bar. Junos OS CLI User Guide, on operational and configuration mode, on configure private and on configure exclusive;
+-- the order is this project's own.
 use Rattle.std.specs.Prelude.{ℕ, ◌==◌, ◌&&◌, List, Bool, true, false, not, if◌then◌else◌, Option, None, Some, is_some}
 use Rattle.commands.specs.declared.command.Command.{Command}
-use Rattle.commands.specs.declared.command.Command.TheVariants.{Configure, ShowActive, ShowCommits, Logout, Change, Load, Rollback, CheckOnly, Commit}
+use Rattle.commands.specs.declared.command.Command.TheVariants.{Configure, ShowActive, ShowCommits, Logout, Change, Load, Rollback, CheckOnly, Commit, Update}
 use Rattle.commands.specs.declared.command.Mode.{Mode}
-use Rattle.commands.specs.declared.command.Mode.TheVariants.{Exclusive}
+use Rattle.commands.specs.declared.command.Mode.TheVariants.{Private, Exclusive}
 use Rattle.config_core.specs.declared.reply.Refusal.{Refusal}
 use Rattle.config_core.specs.declared.reply.Refusal.TheVariants.{WrongMode, Locked, Modified}
 use Rattle.config_core.specs.State.{State}
 use Rattle.config_core.specs.Callers.{caller_of}
 
--- a command is one of the mode that its session is in; a logout is one of both
+abbrev pub is_private : Option Mode → Bool
+is_private (Some Private) = true
+is_private mode = false
+
+-- a command is one of the mode that its session is in; a logout is one of both, an update one of private mode alone
 abbrev pub is_of_mode : Command → Option Mode → Bool
 is_of_mode Logout mode = true
 is_of_mode (Configure next) mode = not (is_some mode)
 is_of_mode (ShowActive asked form) mode = not (is_some mode)
 is_of_mode ShowCommits mode = not (is_some mode)
+is_of_mode Update mode = is_private mode
 is_of_mode command mode = is_some mode
 
--- what another session's exclusive mode bars: changes, loads and rollbacks, every form of commit, and the exclusive mode
-abbrev pub wants_lock : Command → Bool
-wants_lock (Configure Exclusive) = true
-wants_lock (Change op) = true
-wants_lock (Load way text) = true
-wants_lock (Rollback n) = true
-wants_lock CheckOnly = true
-wants_lock (Commit minutes comment quit) = true
-wants_lock command = false
+-- what another session's exclusive mode bars: the exclusive mode, every form of commit, and but in private mode changes, loads
+-- and rollbacks
+abbrev pub wants_lock : Command → Option Mode → Bool
+wants_lock (Configure Exclusive) mode = true
+wants_lock (Change op) mode = not (is_private mode)
+wants_lock (Load way text) mode = not (is_private mode)
+wants_lock (Rollback n) mode = not (is_private mode)
+wants_lock CheckOnly mode = true
+wants_lock (Commit minutes comment quit) mode = true
+wants_lock command mode = false
 
--- what a modified candidate bars
-abbrev pub wants_unmodified : Command → Bool
-wants_unmodified (Configure Exclusive) = true
-wants_unmodified command = false
+-- what a modified shared candidate bars: the private and the exclusive mode, and a private commit
+abbrev pub wants_unmodified : Command → Option Mode → Bool
+wants_unmodified (Configure Private) mode = true
+wants_unmodified (Configure Exclusive) mode = true
+wants_unmodified (Commit minutes comment quit) mode = is_private mode
+wants_unmodified command mode = false
 
 -- the user of the session in exclusive mode, where it is another one
 abbrev pub locked_in : State → ℕ → Option ℕ → Option (List ℕ)
@@ -49,8 +57,11 @@ first_bar true (Some user) modified = Some (Locked user)
 first_bar true None true = Some Modified
 first_bar true None false = None
 
--- why a caller may not ask a command, whatever the command would do
+-- why a caller that edits so may not ask a command, whatever the command would do
+abbrev pub bar_in : State → ℕ → Command → Option Mode → Option Refusal
+bar_in s caller command mode =
+    first_bar (is_of_mode command mode) (if wants_lock command mode then locked_by s caller else None)
+    (wants_unmodified command mode && s.shared.modified)
+
 abbrev pub bar_to : State → ℕ → Command → Option Refusal
-bar_to s caller command =
-    first_bar (is_of_mode command (caller_of s caller).mode) (if wants_lock command then locked_by s caller else None)
-    (wants_unmodified command && s.is_modified)
+bar_to s caller command = bar_in s caller command (caller_of s caller).mode

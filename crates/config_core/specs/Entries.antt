@@ -1,25 +1,26 @@
 -- The entries that events make, and what an entry makes of the state.
 -- Junos OS CLI User Guide, on commit, on commit confirmed and its confirmation, and on the comment of a commit.
-use Rattle.std.specs.Prelude.{ℕ, ◌+◌, ◌||◌, List, Bool, false, if◌then◌else◌, Option, Some, None, is_some}
+use Rattle.std.specs.Prelude.{ℕ, ◌+◌, List, if◌then◌else◌, Option, Some, None}
+use Rattle.candidate.specs.Edits.{CandidateView}
 use Rattle.cfg_tree.specs.Statements.{Statements}
 use Rattle.commit_ledger.specs.declared.entry.Commit.{Commit}
 use Rattle.commit_ledger.specs.declared.entry.Confirm.{Confirm}
 use Rattle.commit_ledger.specs.declared.entry.Entry.{Entry}
 use Rattle.commit_ledger.specs.declared.entry.Entry.TheVariants.{Commit as CommitOf, Confirm as ConfirmOf}
 use Rattle.commit_ledger.specs.declared.entry.Via.TheVariants.{Cli}
-use Rattle.commit_ledger.specs.Kept.{active_of, append_entry, revert_of}
-use Rattle.config_core.specs.State.{State, Made}
-use Rattle.config_core.specs.Callers.{caller_of}
+use Rattle.commit_ledger.specs.Kept.{append_entry, revert_of}
+use Rattle.config_core.specs.State.{State, Made, fresh_of}
+use Rattle.config_core.specs.Callers.{caller_of, own_of, shared_with, owns_with}
 
--- the commit that a caller makes of the candidate
-abbrev pub commit_of : State → ℕ → ℕ → List ℕ → Commit
-commit_of s caller minutes comment = record {
+-- the commit of a configuration that a caller makes
+abbrev pub commit_of : State → ℕ → Statements → ℕ → List ℕ → Commit
+commit_of s caller m minutes comment = record {
   number = s.kept.last.number + 1;
   user = (caller_of s caller).user;
   via = Cli;
   moment = s.greatest;
   comment = comment;
-  tree = s.candidate;
+  tree = m;
   minutes = minutes;
 }
 
@@ -35,28 +36,32 @@ made_by caller entry = record { entry = entry; maker = Some caller }
 abbrev pub revert_made : State → Made
 revert_made s = record { entry = CommitOf (revert_of s.kept s.greatest); maker = None }
 
--- the candidate becomes this map, which is another one or isn't; one that was modified stays so
-abbrev pub with_candidate : State → Statements → Bool → State
-with_candidate s next changed = record s { candidate = next; is_modified = s.is_modified || changed }
+-- the candidate of an entry that is a commit, without edits
+abbrev pub fresh_in : Entry → Option CandidateView
+fresh_in (CommitOf commit) = Some (fresh_of commit)
+fresh_in (ConfirmOf confirm) = None
 
--- the candidate is the active map, and isn't modified
-abbrev pub freshened : State → State
-freshened s = record s { candidate = active_of s.kept; is_modified = false }
+-- a shared candidate that isn't modified follows a commit; a modified one stays as it is
+abbrev pub followed : CandidateView → CandidateView → CandidateView
+followed shared new = if shared.modified then shared else new
 
--- the candidate that a caller commits isn't modified any more
-abbrev pub committed_by : Option ℕ → Entry → State → State
-committed_by maker (CommitOf commit) s = record s { is_modified = if is_some maker then false else s.is_modified }
-committed_by maker (ConfirmOf confirm) s = s
+-- the shared candidate behind an entry: it follows a commit, and the candidate that a caller commits is the commit's
+abbrev pub shared_after : State → Option ℕ → Option CandidateView → CandidateView
+shared_after s maker None = s.shared
+shared_after s None (Some new) = followed s.shared new
+shared_after s (Some caller) (Some new) = shared_with (own_of s caller) (followed s.shared new) new
 
--- a candidate that isn't modified follows each commit; a modified one keeps its map
-abbrev pub candidate_after : State → Entry → Statements
-candidate_after s (CommitOf commit) = if s.is_modified then s.candidate else commit.tree
-candidate_after s (ConfirmOf confirm) = s.candidate
-
--- the list has one more entry, and nothing is in flight
-abbrev pub appended : State → Entry → State
-appended s entry = record s { kept = append_entry s.kept entry; candidate = candidate_after s entry; flight = None }
+-- the private sessions' own candidates behind an entry: but for that which its caller commits they stay as they are
+abbrev pub own_after : State → Option ℕ → Option CandidateView → List (Option CandidateView)
+own_after s maker None = s.own
+own_after s None (Some new) = s.own
+own_after s (Some caller) (Some new) = owns_with (own_of s caller) s.own caller new
 
 -- all that an entry does but for leaving the mode
 abbrev pub taken : State → Made → State
-taken s made = appended (committed_by made.maker made.entry s) made.entry
+taken s made = record s {
+  kept = append_entry s.kept made.entry;
+  shared = shared_after s made.maker (fresh_in made.entry);
+  own = own_after s made.maker (fresh_in made.entry);
+  flight = None;
+}

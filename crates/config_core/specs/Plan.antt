@@ -1,8 +1,5 @@
 -- What a prepared step holds: whose it is, at which moment, what it does where it is done, and the reply.
 use Rattle.std.specs.Prelude.{ℕ, Option, Some, None}
-use Rattle.cfg_tree.specs.Statements.{Statements}
-use Rattle.commit_ledger.specs.declared.entry.Entry.{Entry}
-use Rattle.commit_ledger.specs.declared.entry.Entry.TheVariants.{Commit as CommitOf, Confirm as ConfirmOf}
 use Rattle.config_core.specs.declared.effect.Appending.{Appending}
 use Rattle.config_core.specs.declared.effect.Effect.{Effect}
 use Rattle.config_core.specs.declared.effect.Effect.TheVariants.{Append}
@@ -23,8 +20,3 @@ made_of a = record { entry = a.ready.entry; maker = a.maker }
 abbrev pub made_in : Effect → Option Made
 made_in (Append a) = Some (made_of a)
 made_in effect = None
-
--- the map of a commit
-abbrev pub tree_in : Entry → Option Statements
-tree_in (CommitOf commit) = Some commit.tree
-tree_in (ConfirmOf confirm) = None

@@ -1,9 +1,11 @@
 -- A step that is prepared and not yet carried out.
-use Rattle.std.specs.Prelude.{◌≡◌, ◌&&◌, ℕ, Bool, true, false, not, if◌then◌else◌, Option, Some, None}
+use Rattle.std.specs.Prelude.{◌≡◌, ℕ, Bool, true, if◌then◌else◌, Option, Some, None}
+use Rattle.std.specs.Option.{option_map}
+use Rattle.candidate.specs.Edits.{CandidateView}
 use Rattle.commands.specs.declared.command.Command.{Command}
-use Rattle.cfg_tree.specs.Statements.{Statements}
-use Rattle.commit_ledger.specs.Kept.{Kept, active_of, target_for, NumberFits, RoomFor}
+use Rattle.commit_ledger.specs.Kept.{Kept, target_for, NumberFits, RoomFor}
 use Rattle.config_core.specs.declared.effect.Appending.{Appending}
+use Rattle.config_core.specs.declared.effect.Fresh.{Fresh}
 use Rattle.config_core.specs.declared.effect.Effect.{Effect}
 use Rattle.config_core.specs.declared.effect.Effect.TheVariants.{Stay, Leave, Enter, Move, Edit, Settle, Append}
 use Rattle.config_core.specs.declared.event.Event.{Event}
@@ -15,10 +17,10 @@ use Rattle.config_core.specs.declared.event.Outcome.TheVariants.{Done, Fault}
 use Rattle.config_core.specs.declared.reply.Refusal.TheVariants.{DiskFault}
 use Rattle.config_core.specs.declared.reply.Reply.{Reply}
 use Rattle.config_core.specs.declared.reply.Reply.TheVariants.{Refused}
-use Rattle.config_core.specs.Plan.{Plan, made_of, made_in, tree_in}
-use Rattle.config_core.specs.State.{State, Made}
-use Rattle.config_core.specs.Callers.{IsCaller, holds, with_position, entered, without_mode}
-use Rattle.config_core.specs.Entries.{taken}
+use Rattle.config_core.specs.Plan.{Plan, made_of, made_in}
+use Rattle.config_core.specs.State.{State, Made, fresh_of}
+use Rattle.config_core.specs.Callers.{IsCaller, holds, own_for, with_candidate, with_position, entered, without_mode}
+use Rattle.config_core.specs.Entries.{fresh_in, shared_after, own_after, taken}
 use Rattle.config_core.specs.Serving.{Turned, left_if}
 use Rattle.config_core.specs.Machine.{Waiting, InFlight, Missed, Free, waiting_of, is_logout, settled, later, Steps}
 
@@ -31,9 +33,9 @@ settled_in (Some made) is_kept s = settled s made is_kept
 abbrev pub effected : Effect → ℕ → Outcome → State → State
 effected Stay caller outcome s = s
 effected (Leave fresh) caller outcome s = without_mode s caller
-effected (Enter mode) caller outcome s = entered s caller mode
+effected (Enter mode own) caller outcome s = entered s caller mode
 effected (Move position) caller outcome s = with_position s caller position
-effected (Edit tree is_modified) caller outcome s = record s { candidate = tree; is_modified = is_modified }
+effected (Edit next) caller outcome s = with_candidate s caller next
 effected (Settle is_kept) caller outcome s = settled_in s.flight is_kept s
 effected (Append a) caller Done s = left_if a.quit caller (taken s (made_of a))
 effected (Append a) caller Fault s = record s { flight = Some (made_of a) }
@@ -55,24 +57,28 @@ ended plan outcome s = record { state = applied plan outcome s; reply = replied 
 abbrev pub turned_by : Plan → State → Turned
 turned_by plan s = record { state = applied plan Done s; reply = plan.reply; made = made_in plan.effect }
 
+-- one candidate twice: for the sessions that share theirs, and for the one that is committed
+abbrev pub twice : CandidateView → Fresh
+twice new = record { shared = new; own = new }
+
 -- what is to be appended was made ready over that value, and the list has room for it
 pub record IsReady (kept : Kept) (a : Appending) : Type 0 where
   pub target : a.ready.target ≡ target_for kept a.ready.entry
   pub number : NumberFits kept a.ready.entry
   pub room : RoomFor kept a.ready.entry
-  pub fresh : a.fresh ≡ tree_in a.ready.entry
+  pub fresh : a.fresh ≡ option_map twice (fresh_in a.ready.entry)
 
--- the map that the candidate becomes when a caller leaves the mode, where what it changed is discarded
-abbrev pub fresh_for : State → ℕ → Option Statements
-fresh_for s caller = if holds s.exclusive caller then Some (active_of s.kept) else None
+-- the shared candidate when a caller leaves the mode, where what it changed is discarded
+abbrev pub fresh_for : State → ℕ → Option CandidateView
+fresh_for s caller = if holds s.exclusive caller then Some (fresh_of s.kept.last) else None
 
 -- the step was prepared of such a state
 abbrev pub CanApply : Effect → ℕ → State → Type 0
 CanApply Stay caller s = Unit {0}
 CanApply (Leave fresh) caller s = IsCaller s caller × (fresh ≡ fresh_for s caller)
-CanApply (Enter mode) caller s = IsCaller s caller
+CanApply (Enter mode own) caller s = IsCaller s caller × (own ≡ own_for mode s.kept)
 CanApply (Move position) caller s = IsCaller s caller
-CanApply (Edit tree is_modified) caller s = Unit {0}
+CanApply (Edit next) caller s = Unit {0}
 CanApply (Settle is_kept) caller s = Unit {0}
 CanApply (Append a) caller s = IsReady s.kept a × (a.quit ≡ true → IsCaller s caller)
 
@@ -120,16 +126,21 @@ IsSettling (SettleOf is_kept) = Unit {0}
 IsSettling Revert = ⊥
 IsSettling (CommandOf command) = ⊥
 
--- the candidate, and whether it is modified, when a commit of this map comes
-abbrev pub candidate_with : Statements → Bool → Option Statements → Bool → Statements
-candidate_with candidate is_modified None is_committed = candidate
-candidate_with candidate is_modified (Some tree) is_committed = if is_modified && not is_committed then candidate else tree
+-- the candidate of a commit that is to be appended
+abbrev pub new_in : Option Fresh → Option CandidateView
+new_in None = None
+new_in (Some fresh) = Some fresh.own
 
-abbrev pub modified_with : Bool → Option Statements → Bool → Bool
-modified_with is_modified None is_committed = is_modified
-modified_with is_modified (Some tree) is_committed = is_modified && not is_committed
+-- the candidate that a caller commits is this one
+abbrev pub committed_by : State → Option ℕ → CandidateView → State
+committed_by s None new = s
+committed_by s (Some caller) new = with_candidate s caller new
 
--- the candidate becomes a map that isn't modified, where there is one
-abbrev pub discarded : State → Option Statements → State
+-- the candidates behind an entry
+abbrev pub with_new : State → Option ℕ → Option CandidateView → State
+with_new s maker new = record s { shared = shared_after s maker new; own = own_after s maker new }
+
+-- the shared candidate becomes another one, where there is one
+abbrev pub discarded : State → Option CandidateView → State
 discarded s None = s
-discarded s (Some tree) = record s { candidate = tree; is_modified = false }
+discarded s (Some fresh) = record s { shared = fresh }

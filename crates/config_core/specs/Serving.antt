@@ -1,18 +1,21 @@
 -- What a command does, where nothing comes before it.
 -- Junos OS CLI User Guide, on entering and leaving configuration mode, on moves through levels, on changes of the candidate,
--- on load and rollback, on commit, commit confirmed and commit check, and on show.
-use Rattle.std.specs.Prelude.{◌≡◌, ◌≢◌, ◌⊎◌, ℕ, ◌==◌, nat_lt, List, [], Bool, false, Decides, if◌then◌else◌, MatchBool, Option, None, Some}
+-- on load and rollback, on commit, commit confirmed and commit check, on private candidates and update, and on show.
+use Rattle.std.specs.Prelude.{◌≡◌, ◌⊎◌, ℕ, ◌==◌, nat_lt, List, [], Bool, false, if◌then◌else◌, MatchBool, Option, None, Some}
 use Rattle.commands.specs.declared.command.Form.{Form}
 use Rattle.commands.specs.declared.command.LoadWay.{LoadWay}
 use Rattle.commands.specs.declared.command.Op.{Op}
 use Rattle.commands.specs.declared.command.Command.{Command}
-use Rattle.commands.specs.declared.command.Command.TheVariants.{Configure, ShowActive, ShowCommits, Logout, Edit, Up, Top, Exit, ExitAll, Show, Change, Load, Rollback, CheckOnly, Commit as CommitAsked, Status}
+use Rattle.commands.specs.declared.command.Command.TheVariants.{Configure, ShowActive, ShowCommits, Logout, Edit, Up, Top, Exit, ExitAll, Show, Change, Load, Rollback, CheckOnly, Commit as CommitAsked, Update, Status}
 use Rattle.cfg_base.specs.declared.path.Step.{Step}
 use Rattle.cfg_tree.specs.Statements.{Statements}
 use Rattle.edit_ops.specs.declared.fault.EditFault.{EditFault}
-use Rattle.edit_ops.specs.Answer.{IsChange, IsEditFault}
+use Rattle.edit_ops.specs.Answer.{IsEditFault}
+use Rattle.candidate.specs.Edits.{CandidateView, IsCandidateChange, IsEdited}
 use Rattle.load_ops.specs.declared.fault.LoadFault.{LoadFault}
 use Rattle.load_ops.specs.Answer.{IsLoad, IsLoadFault}
+use Rattle.private_merge.specs.declared.fault.MergeFault.{MergeFault}
+use Rattle.private_merge.specs.Merge.{IsMerge, IsMergeFault}
 use Rattle.commit_check.specs.Accepts.{Accepts, IsFirst}
 use Rattle.commit_ledger.specs.declared.entry.Commit.{Commit}
 use Rattle.commit_ledger.specs.declared.entry.Entry.{Entry}
@@ -24,13 +27,13 @@ use Rattle.config_core.specs.declared.reply.Refusal.{Refusal}
 use Rattle.config_core.specs.declared.reply.Refusal.TheVariants.{NotALevel, NoRollback, Check, Exhausted}
 use Rattle.config_core.specs.declared.reply.Reply.{Reply}
 use Rattle.config_core.specs.declared.reply.Reply.TheVariants.{Done, LoggedOut, Text, Entered, Left, Loaded, Checked, Committed, Refused}
-use Rattle.config_core.specs.State.{State, Made}
+use Rattle.config_core.specs.State.{State, Made, fresh_of}
 use Rattle.config_core.specs.Levels.{Position, at_top, is_level_at, moved_to, moved_up, moved_back}
-use Rattle.config_core.specs.Callers.{position_of, level_of, with_position, entered, out_of_mode, without_mode}
+use Rattle.config_core.specs.Callers.{position_of, level_of, own_of, candidate_of, with_position, with_candidate, entered, out_of_mode, without_mode}
 use Rattle.config_core.specs.Access.{bar_to}
 use Rattle.config_core.specs.Status.{session_lines}
-use Rattle.config_core.specs.Entries.{commit_of, confirm_of, made_by, with_candidate, freshened, taken}
-use Rattle.config_core.specs.Showing.{refusal_of, load_refusal_of, NamesNone, NamesOne, IsShow}
+use Rattle.config_core.specs.Entries.{commit_of, confirm_of, made_by, taken}
+use Rattle.config_core.specs.Showing.{refusal_of, load_refusal_of, merge_refusal_of, NamesNone, NamesOne, IsShow}
 
 -- what an event leaves: the state after it, its reply, and the entry that it makes
 pub record Turned : Type 0 where
@@ -75,57 +78,92 @@ pub record Lists (s : State) (turned : Turned) : Type 0 where
   pub listing : IsListing s.kept text
   pub is : turned ≡ answered s (Text text)
 
--- a change makes another candidate of the candidate, or leaves it as it was
+-- a change makes another candidate of the one that the caller edits, or leaves it as it was
 pub record Changes (s : State) (caller : ℕ) (op : Op) (turned : Turned) : Type 0 where
-  pub next : Statements
-  pub told : Bool
-  pub change : IsChange s.candidate next (level_of s caller) op told
-  pub is : turned ≡ answered (with_candidate s next told) Done
+  pub next : CandidateView
+  pub change : IsCandidateChange (candidate_of s caller) next (level_of s caller) op
+  pub is : turned ≡ answered (with_candidate s caller next) Done
 
 -- or it is refused
 pub record IsUnchanged (s : State) (caller : ℕ) (op : Op) (turned : Turned) : Type 0 where
   pub fault : EditFault
   pub refusal : Refusal
-  pub cause : IsEditFault s.candidate (level_of s caller) op fault
+  pub cause : IsEditFault (candidate_of s caller).map (level_of s caller) op fault
   pub told : refusal_of fault ≡ Some refusal
   pub is : turned ≡ refused s refusal
 
--- a load makes another candidate of the candidate and of a text, or leaves it as it was
-pub record Loads (s : State) (way : LoadWay) (text : List ℕ) (turned : Turned) : Type 0 where
-  pub next : Statements
+-- a map takes the place of the caller's candidate's
+pub record Replaces (s : State) (caller : ℕ) (made : Statements) (turned : Turned) : Type 0 where
+  pub next : CandidateView
+  pub edited : IsEdited (candidate_of s caller) next made
+  pub is : turned ≡ answered (with_candidate s caller next) Loaded
+
+-- a load makes another candidate of the one that the caller edits and of a text, or leaves it as it was
+pub record Loads (s : State) (caller : ℕ) (way : LoadWay) (text : List ℕ) (turned : Turned) : Type 0 where
+  pub made : Statements
   pub told : Bool
-  pub load : IsLoad way s.candidate text next told
-  pub is : turned ≡ answered (with_candidate s next told) Loaded
+  pub load : IsLoad way (candidate_of s caller).map text made told
+  pub replaces : Replaces s caller made turned
 
 -- or it is refused
-pub record IsNotLoaded (s : State) (way : LoadWay) (text : List ℕ) (turned : Turned) : Type 0 where
+pub record IsNotLoaded (s : State) (caller : ℕ) (way : LoadWay) (text : List ℕ) (turned : Turned) : Type 0 where
   pub fault : LoadFault
   pub refusal : Refusal
-  pub cause : IsLoadFault way s.candidate text fault
+  pub cause : IsLoadFault way (candidate_of s caller).map text fault
   pub told : load_refusal_of fault ≡ Some refusal
   pub is : turned ≡ refused s refusal
 
--- a commit's map takes the place of the candidate's
-pub record Replaces (s : State) (next : Statements) (turned : Turned) : Type 0 where
-  pub told : Bool
-  pub tells : Decides told (next ≢ s.candidate)
-  pub is : turned ≡ answered (with_candidate s next told) Loaded
+-- the caller's candidate is that of the last commit, without edits
+abbrev pub freshened : State → ℕ → State
+freshened s caller = with_candidate s caller (fresh_of s.kept.last)
 
 -- rollback 0 leaves the active map, unmodified; another one the map of that commit; one that isn't kept is refused
-abbrev pub RollsTo : State → ℕ → Option Commit → Turned → Type 0
-RollsTo s n None turned = turned ≡ refused s (NoRollback n (kept_commits s.kept))
-RollsTo s n (Some commit) turned = MatchBool (n == 0) (turned ≡ answered (freshened s) Loaded) (Replaces s commit.tree turned)
+abbrev pub RollsTo : State → ℕ → ℕ → Option Commit → Turned → Type 0
+RollsTo s caller n None turned = turned ≡ refused s (NoRollback n (kept_commits s.kept))
+RollsTo s caller n (Some commit) turned =
+    MatchBool (n == 0) (turned ≡ answered (freshened s caller) Loaded) (Replaces s caller commit.tree turned)
 
--- the candidate breaks a rule, and is refused for the first fault
-pub record BreaksRule (s : State) (turned : Turned) : Type 0 where
+-- what a caller's candidate changed is merged into the active configuration
+abbrev pub IsOwnMerge : State → CandidateView → Statements → Type 0
+IsOwnMerge s own merged = IsMerge own.base (active_of s.kept) own.map merged
+
+-- or it conflicts with it, or makes too many statements
+pub record IsNotMerged (s : State) (own : CandidateView) (turned : Turned) : Type 0 where
+  pub fault : MergeFault
+  pub refusal : Refusal
+  pub cause : IsMergeFault own.base (active_of s.kept) own.map fault
+  pub told : merge_refusal_of fault ≡ Some refusal
+  pub is : turned ≡ refused s refusal
+
+-- an update leaves what is merged, as an edit of the last commit
+pub record Updates (s : State) (caller : ℕ) (turned : Turned) : Type 0 where
+  pub merged : Statements
+  pub merge : IsOwnMerge s (candidate_of s caller) merged
+  pub next : CandidateView
+  pub edited : IsEdited (fresh_of s.kept.last) next merged
+  pub is : turned ≡ answered (with_candidate s caller next) Done
+
+-- a configuration breaks a rule, and is refused for the first fault
+pub record BreaksRule (s : State) (m : Statements) (turned : Turned) : Type 0 where
   pub number : ℕ
   pub path : List Step
-  pub first : IsFirst s.candidate number path
+  pub first : IsFirst m number path
   pub is : turned ≡ refused s (Check number path)
 
--- the candidate is checked: where it is accepted this comes of it
-abbrev pub Checks : State → Turned → Turned → Type 0
-Checks s turned accepted = (Accepts s.candidate × (turned ≡ accepted)) ⊎ BreaksRule s turned
+-- a configuration is checked: where it is accepted this comes of it
+abbrev pub Checks : State → Statements → Turned → Turned → Type 0
+Checks s m turned accepted = (Accepts m × (turned ≡ accepted)) ⊎ BreaksRule s m turned
+
+-- what an own candidate changed is merged, and the whole is checked
+pub record ChecksMerged (s : State) (own : CandidateView) (turned : Turned) (accepted : Statements → Turned) : Type 0 where
+  pub merged : Statements
+  pub merge : IsOwnMerge s own merged
+  pub checks : Checks s merged turned (accepted merged)
+
+-- what a caller would commit is checked: the shared candidate, or what is merged of its own one
+abbrev pub ChecksWhole : State → Option CandidateView → Turned → (Statements → Turned) → Type 0
+ChecksWhole s None turned accepted = Checks s s.shared.map turned (accepted s.shared.map)
+ChecksWhole s (Some own) turned accepted = ChecksMerged s own turned accepted ⊎ IsNotMerged s own turned
 
 -- with `and-quit` the caller leaves the mode; behind its commit nothing is left to discard
 abbrev pub left_if : Bool → ℕ → State → State
@@ -143,6 +181,11 @@ abbrev pub checked : State → ℕ → Option Unconfirmed → Turned
 checked s caller None = answered s Checked
 checked s caller (Some run) = makes s caller (ConfirmOf (confirm_of s caller)) false Checked
 
+-- what a commit of an accepted configuration does
+abbrev pub committed : State → ℕ → Statements → ℕ → List ℕ → Bool → Turned
+committed s caller m minutes comment quit =
+    makes s caller (CommitOf (commit_of s caller m minutes comment)) quit (Committed minutes quit)
+
 -- a command is refused for what bars it, or does this
 abbrev pub Unless : Option Refusal → State → Turned → Type 0 → Type 0
 Unless None s turned Served = Served
@@ -159,13 +202,14 @@ Does s caller (Up count) turned = turned ≡ answered (with_position s caller (m
 Does s caller Top turned = turned ≡ answered (with_position s caller at_top) Done
 Does s caller Exit turned = turned ≡ exited s caller (moved_back (position_of s caller))
 Does s caller ExitAll turned = turned ≡ answered (without_mode s caller) Left
-Does s caller (Show asked form) turned = Shows s s.candidate (level_of s caller) asked form turned
+Does s caller (Show asked form) turned = Shows s (candidate_of s caller).map (level_of s caller) asked form turned
 Does s caller (Change op) turned = Changes s caller op turned ⊎ IsUnchanged s caller op turned
-Does s caller (Load way text) turned = Loads s way text turned ⊎ IsNotLoaded s way text turned
-Does s caller (Rollback n) turned = RollsTo s n (nth_last s.kept n) turned
-Does s caller CheckOnly turned = Checks s turned (checked s caller s.kept.pending)
+Does s caller (Load way text) turned = Loads s caller way text turned ⊎ IsNotLoaded s caller way text turned
+Does s caller (Rollback n) turned = RollsTo s caller n (nth_last s.kept n) turned
+Does s caller CheckOnly turned = ChecksWhole s (own_of s caller) turned (λ m. checked s caller s.kept.pending)
 Does s caller (CommitAsked minutes comment quit) turned =
-    Checks s turned (makes s caller (CommitOf (commit_of s caller minutes comment)) quit (Committed minutes quit))
+    ChecksWhole s (own_of s caller) turned (λ m. committed s caller m minutes comment quit)
+Does s caller Update turned = Updates s caller turned ⊎ IsNotMerged s (candidate_of s caller) turned
 Does s caller Status turned = turned ≡ answered s (Text (session_lines 1 s.callers))
 
 -- what a command does, where nothing comes before it

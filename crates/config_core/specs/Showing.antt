@@ -25,6 +25,8 @@ use Rattle.set_text.specs.declared.fault.LineFault.{LineFault}
 use Rattle.set_text.specs.declared.fault.LineFault.TheVariants as line
 use Rattle.load_ops.specs.declared.fault.LoadFault.{LoadFault}
 use Rattle.load_ops.specs.declared.fault.LoadFault.TheVariants as load
+use Rattle.private_merge.specs.declared.fault.MergeFault.{MergeFault}
+use Rattle.private_merge.specs.declared.fault.MergeFault.TheVariants as merge
 use Rattle.group_expand.specs.Expansion.{IsExpansion}
 use Rattle.config_core.specs.declared.reply.Refusal.{Refusal}
 use Rattle.config_core.specs.declared.reply.Refusal.TheVariants as refuse
@@ -64,6 +66,12 @@ load_refusal_of (load.Edit number fault) = Some (refuse.LineEdit number fault)
 load_refusal_of (load.Protected path) = Some (refuse.Protected path)
 load_refusal_of load.TooMany = Some refuse.TooMany
 load_refusal_of load.NoMemory = None
+
+-- what isn't merged is refused so
+abbrev pub merge_refusal_of : MergeFault → Option Refusal
+merge_refusal_of (merge.Conflict path) = Some (refuse.Conflict path)
+merge_refusal_of merge.TooMany = Some refuse.TooMany
+merge_refusal_of merge.NoMemory = None
 
 -- words that name no statement from a level on are refused, and the answer is made of the refusal
 pub record NamesNone {A : Type 0} (answer_of : Refusal → A) (level : List Step) (asked : List (List ℕ)) (answer : A) : Type 0 where

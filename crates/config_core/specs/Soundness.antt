@@ -1,6 +1,7 @@
 -- What holds of every state that the machine reaches, and of every entry that it makes.
 -- Junos OS CLI User Guide, on the active configuration, which only a commit that was checked replaces.
-use Rattle.std.specs.Prelude.{ℕ, ◌≤◌, Option, IsSome, IfSome}
+use Rattle.std.specs.Prelude.{◌≡◌, ℕ, ◌≤◌, List, [], ◌∷◌, Option, IsSome, IfSome, is_some}
+use Rattle.candidate.specs.Edits.{CandidateView}
 use Rattle.cfg_lex.specs.Printed.{IsPrintable}
 use Rattle.commit_check.specs.Accepts.{Accepts}
 use Rattle.commit_ledger.specs.declared.entry.Commit.{Commit}
@@ -10,6 +11,8 @@ use Rattle.commit_ledger.specs.declared.entry.Entry.TheVariants.{Commit as Commi
 use Rattle.commit_ledger.specs.declared.limit.TheConstants.{MAX_ENTRIES}
 use Rattle.commit_ledger.specs.Kept.{Kept, KeepsMaps}
 use Rattle.commit_ledger.specs.Rules.{CommitFollows, ConfirmFollows}
+use Rattle.config_core.specs.declared.caller.Caller.{Caller}
+use Rattle.config_core.specs.Access.{is_private}
 use Rattle.config_core.specs.State.{State, Made}
 
 -- a commit may be the next entry: by its number, its moment and the room for it; its minutes, its comment and its map are such
@@ -53,3 +56,9 @@ pub record AreSound (entries : Kept) (flying : Option Made) (greatest : ℕ) : T
 
 abbrev pub IsSoundState : State → Type 0
 IsSoundState s = AreSound s.kept s.flight s.greatest
+
+-- a session has a candidate of its own exactly in private mode
+abbrev pub OwnByMode : List (Option CandidateView) → List Caller → Type 0
+OwnByMode [] [] = Unit {0}
+OwnByMode (own ∷ owns) (c ∷ callers) = (is_some own ≡ is_private c.mode) × OwnByMode owns callers
+OwnByMode owns callers = ⊥

@@ -1,11 +1,12 @@
 -- The list of the sessions in configuration mode. Junos OS CLI User Guide, on status; the layout is this project's own.
 use Rattle.std.specs.Prelude.{ℕ, ◌+◌, List, [], ◌∷◌, ◌++◌, Option, None, Some, codes, decimal}
 use Rattle.commands.specs.declared.command.Mode.{Mode}
-use Rattle.commands.specs.declared.command.Mode.TheVariants.{Shared, Exclusive}
+use Rattle.commands.specs.declared.command.Mode.TheVariants.{Shared, Private, Exclusive}
 use Rattle.config_core.specs.declared.caller.Caller.{Caller}
 
 abbrev pub mode_text : Mode → List ℕ
 mode_text Shared = codes "shared\n"
+mode_text Private = codes "private\n"
 mode_text Exclusive = codes "exclusive\n"
 
 -- the line of a session that is in configuration mode: its number, its user and its mode

@@ -1,33 +1,39 @@
 //! Commits, their check and their confirmation, and what a missed deadline commits.
 
 ghost use Rattle.std.specs.Prelude.{◌≡◌, IsSome, IfOk};
+ghost use Rattle.std.specs.Option.{option_map};
 ghost use Rattle.cfg_base.specs.Kind.{IsName};
 ghost use Rattle.commit_check.specs.Accepts.{IsCheckFault};
 ghost use Rattle.commit_ledger.specs.Kept.{NumberFits, RoomFor, revert_of};
 ghost use Rattle.config_core.specs.declared.effect.Appending.{Appending};
-ghost use Rattle.config_core.specs.Plan.{tree_in};
 ghost use Rattle.commands.specs.declared.command.Command.{Command};
 ghost use Rattle.config_core.specs.Callers.{IsCaller};
-ghost use Rattle.config_core.specs.Entries.{commit_of, confirm_of};
-ghost use Rattle.config_core.specs.Serving.{Does, BreaksRule, checked, makes};
+ghost use Rattle.config_core.specs.Entries.{commit_of, confirm_of, fresh_in};
+ghost use Rattle.config_core.specs.Serving.{Does, BreaksRule, Checks, checked, committed, makes};
 ghost use Rattle.config_core.specs.Machine.{later, reverted};
-ghost use Rattle.config_core.specs.Prepared.{Prepares, IsReady};
+ghost use Rattle.config_core.specs.Prepared.{Prepares, IsReady, twice};
 
 use crate::core_state::Core;
-use crate::effect::{Appending, Effect};
+use crate::effect::{Appending, Effect, Fresh};
+use crate::own::fresh_of;
 use crate::prepared::{Prepared, refused, step};
 use crate::reply::{Refusal, Reply};
 use cfg_base::{Moment, NoMemory, Word};
 use cfg_tree::Tree;
 use commit_check::{CheckFault, check};
 use commit_ledger::{Commit, Confirm, Entry, MAX_ENTRIES, Via};
+use private_merge::merge;
 
-// The map of a commit, for the candidate.
-fn tree_of(entry: &Entry) -> Result<Option<Tree>, NoMemory>
-    ensures { IfOk result (λ tree. tree ≡ tree_in entry.now) }
+// The candidate of a commit, for the sessions that share theirs and for the one that commits.
+fn fresh_in(entry: &Entry) -> Result<Option<Fresh>, NoMemory>
+    ensures { IfOk result (λ fresh. fresh ≡ option_map twice (fresh_in entry.now)) }
 {
     match entry {
-        Entry::Commit(commit) => Ok(Some(commit.tree.copy()?)),
+        Entry::Commit(commit) => {
+            let shared = fresh_of(commit)?;
+            let own = fresh_of(commit)?;
+            Ok(Some(Fresh { shared, own }))
+        }
         Entry::Confirm(_) => Ok(None),
     }
 }
@@ -40,7 +46,7 @@ impl Core {
         ensures ready { IfOk result (IsReady self.now.kept) }
         ensures is { IfOk result (λ a. (a.ready.entry ≡ entry) × (a.maker ≡ maker) × (a.quit ≡ quit)) }
     {
-        let fresh = tree_of(&entry)?;
+        let fresh = fresh_in(&entry)?;
         let ready = self.ledger.prepare(entry)?;
         Ok(Appending {
             ready,
@@ -70,10 +76,16 @@ impl Core {
         Ok(step(caller, moment, Effect::Append(appending), reply))
     }
 
-    // The refusal of a candidate that breaks a rule.
-    fn broken(&self, caller: u32, moment: Moment, fault: CheckFault) -> Result<Prepared, NoMemory>
-        requires { IsCheckFault self.now.candidate fault }
-        ensures { IfOk result (Prepares self.now moment (BreaksRule (later self.now moment))) }
+    // The refusal of a configuration that breaks a rule.
+    fn broken(
+        &self,
+        caller: u32,
+        moment: Moment,
+        tree: &Tree,
+        fault: CheckFault,
+    ) -> Result<Prepared, NoMemory>
+        requires { IsCheckFault tree.now fault }
+        ensures { IfOk result (Prepares self.now moment (BreaksRule (later self.now moment) tree.now)) }
     {
         match fault {
             CheckFault::Rule { number, path } => {
@@ -83,7 +95,7 @@ impl Core {
         }
     }
 
-    // What the check of an accepted candidate does.
+    // What the check of an accepted configuration does.
     fn checked(&self, caller: u32, moment: Moment) -> Result<Prepared, NoMemory>
         requires { IsCaller self.now caller }
         ensures { IfOk result (Prepares self.now moment (λ turned. turned ≡ checked (later self.now moment) caller self.now.kept.pending)) }
@@ -105,28 +117,48 @@ impl Core {
         )
     }
 
+    fn check_of(&self, caller: u32, moment: Moment, tree: &Tree) -> Result<Prepared, NoMemory>
+        requires { IsCaller self.now caller }
+        ensures { IfOk result (Prepares self.now moment (λ turned. Checks (later self.now moment) tree.now turned
+            (checked (later self.now moment) caller self.now.kept.pending))) }
+    {
+        match check(self.alloc, tree) {
+            Ok(_) => self.checked(caller, moment),
+            Err(fault) => self.broken(caller, moment, tree, fault),
+        }
+    }
+
     pub(crate) fn prepare_check(&self, caller: u32, moment: Moment) -> Result<Prepared, NoMemory>
         requires { IsCaller self.now caller }
         ensures { IfOk result (Prepares self.now moment (Does (later self.now moment) caller Command.CheckOnly)) }
     {
-        match check(self.alloc, &self.candidate) {
-            Ok(_) => self.checked(caller, moment),
-            Err(fault) => self.broken(caller, moment, fault),
+        let Some(own) = self.own(caller) else {
+            return self.check_of(caller, moment, self.shared.tree());
+        };
+        match merge(
+            self.alloc,
+            own.base_tree(),
+            self.ledger.active(),
+            own.tree(),
+        ) {
+            Ok(merged) => self.check_of(caller, moment, &merged),
+            Err(fault) => self.unmerged(caller, moment, own, fault),
         }
     }
 
-    // The commit of a candidate that is accepted.
+    // The commit of a configuration that is accepted.
     fn committed(
         &self,
         caller: u32,
         moment: Moment,
+        tree: &Tree,
         minutes: u32,
         comment: &Word,
         quit: bool,
     ) -> Result<Prepared, NoMemory>
         requires { IsCaller self.now caller }
-        ensures { IfOk result (Prepares self.now moment (λ turned. turned ≡ makes (later self.now moment) caller
-            (Entry.Commit (commit_of (later self.now moment) caller minutes comment.now)) quit (Reply.Committed minutes quit))) }
+        ensures { IfOk result (Prepares self.now moment (λ turned. turned
+            ≡ committed (later self.now moment) caller tree.now minutes comment.now quit)) }
     {
         let commit = Commit {
             number: self.ledger.last().number + 1,
@@ -134,11 +166,30 @@ impl Core {
             via: Via::Cli,
             moment,
             comment: comment.clone()?,
-            tree: self.candidate.copy()?,
+            tree: tree.copy()?,
             minutes,
         };
         let reply = Reply::Committed { minutes, quit };
         self.made(caller, moment, Entry::Commit(commit), quit, reply)
+    }
+
+    fn commit_of(
+        &self,
+        caller: u32,
+        moment: Moment,
+        tree: &Tree,
+        minutes: u32,
+        comment: &Word,
+        quit: bool,
+    ) -> Result<Prepared, NoMemory>
+        requires { IsCaller self.now caller }
+        ensures { IfOk result (Prepares self.now moment (λ turned. Checks (later self.now moment) tree.now turned
+            (committed (later self.now moment) caller tree.now minutes comment.now quit))) }
+    {
+        match check(self.alloc, tree) {
+            Ok(_) => self.committed(caller, moment, tree, minutes, comment, quit),
+            Err(fault) => self.broken(caller, moment, tree, fault),
+        }
     }
 
     pub(crate) fn prepare_commit(
@@ -152,9 +203,17 @@ impl Core {
         requires { IsCaller self.now caller }
         ensures { IfOk result (Prepares self.now moment (Does (later self.now moment) caller (Command.Commit minutes comment.now quit))) }
     {
-        match check(self.alloc, &self.candidate) {
-            Ok(_) => self.committed(caller, moment, minutes, comment, quit),
-            Err(fault) => self.broken(caller, moment, fault),
+        let Some(own) = self.own(caller) else {
+            return self.commit_of(caller, moment, self.shared.tree(), minutes, comment, quit);
+        };
+        match merge(
+            self.alloc,
+            own.base_tree(),
+            self.ledger.active(),
+            own.tree(),
+        ) {
+            Ok(merged) => self.commit_of(caller, moment, &merged, minutes, comment, quit),
+            Err(fault) => self.unmerged(caller, moment, own, fault),
         }
     }
 

@@ -1,5 +1,5 @@
 ghost use Rattle.std.specs.Prelude.{◌≡◌, map, IfOk, IsOk};
-ghost use Rattle.config_core.specs.State.{opening_of, operational};
+ghost use Rattle.config_core.specs.State.{nothing_own, opening_of, operational};
 ghost use Rattle.config_core.specs.Callers.{IsCaller, caller_of, level_of};
 ghost use Rattle.config_core.specs.Serving.{Does, Serves};
 ghost use Rattle.config_core.specs.Machine.{Fits, later, waiting_of};
@@ -8,11 +8,12 @@ ghost use Rattle.config_core.specs.Prepared.{IsPrepared, Prepares, need_in, put_
 use crate::caller::Caller;
 use crate::effect::{Appending, Effect};
 use crate::event::{Event, Need};
+use crate::own::fresh_of;
 use crate::position::Position;
 use crate::prepared::{Prepared, refused, step};
 use crate::reply::{Refusal, Reply};
+use candidate::Candidate;
 use cfg_base::{Moment, NoMemory, Path, UserName, Users};
-use cfg_tree::Tree;
 use commands::Command;
 use commit_ledger::Ledger;
 use std::alloc::Global;
@@ -23,8 +24,10 @@ use std::marker::Model;
 pub struct Core {
     pub(crate) alloc: Global,
     pub(crate) ledger: Ledger,
-    pub(crate) candidate: Tree,
-    pub(crate) is_modified: bool,
+    /// The candidate of the sessions that edit together or alone.
+    pub(crate) shared: Candidate,
+    /// The candidates of the sessions in private mode, a place for each session.
+    pub(crate) own: Vec<Option<Candidate>>,
     /// The session that is in exclusive mode.
     pub(crate) exclusive: Option<u32>,
     pub(crate) callers: Vec<Caller>,
@@ -33,7 +36,7 @@ pub struct Core {
 }
 
 impl Model for Core {
-    ghost use Rattle.std.specs.Prelude.{◌<◌, ◌≤◌, IfSome, vec_len};
+    ghost use Rattle.std.specs.Prelude.{◌≡◌, ◌<◌, ◌≤◌, IfSome, vec_len};
     ghost use Rattle.std.specs.Option.{option_map};
     ghost use Rattle.std.specs.Coded.{codes};
     ghost use Rattle.cfg_tree.specs.Statements.{statements_code};
@@ -47,15 +50,16 @@ impl Model for Core {
 
     ghost view = { λ c. record {
       kept = c.ledger;
-      candidate = c.candidate;
-      is_modified = c.is_modified;
+      shared = c.shared;
+      own = c.own.items;
       exclusive = c.exclusive;
       callers = c.callers.items;
       flight = option_map made_of c.flight;
       greatest = c.greatest;
     } };
 
-    ghost invariant = { λ c. IfSome c.flight (IsReady c.ledger) × IfSome c.exclusive (λ holder. (0 < holder) × (holder ≤ vec_len c.callers)) };
+    ghost invariant = { λ c. IfSome c.flight (IsReady c.ledger) × IfSome c.exclusive (λ holder. (0 < holder) × (holder ≤ vec_len c.callers))
+        × (vec_len c.own ≡ vec_len c.callers) };
 }
 
 fn callers_of(alloc: Global, users: &[UserName]) -> Result<Vec<Caller>, NoMemory>
@@ -72,19 +76,30 @@ fn callers_of(alloc: Global, users: &[UserName]) -> Result<Vec<Caller>, NoMemory
     Ok(callers)
 }
 
+fn nothing_own(alloc: Global, users: &[UserName]) -> Result<Vec<Option<Candidate>>, NoMemory>
+    ensures { IfOk result (λ own. own.items ≡ map nothing_own users.now) }
+{
+    let mut own = Vec::new(alloc);
+    for _user in users {
+        own.push(None)?;
+    }
+    Ok(own)
+}
+
 impl Core {
     /// The machine over that list of entries, with these users' sessions in operational mode.
     pub fn new(alloc: Global, ledger: Ledger, users: &Users) -> Result<Core, NoMemory>
         ensures { IfOk result (λ core. core ≡ opening_of ledger users.now) }
     {
         let callers = callers_of(alloc, users.as_slice())?;
-        let candidate = ledger.active().copy()?;
+        let own = nothing_own(alloc, users.as_slice())?;
+        let shared = fresh_of(ledger.last())?;
         let greatest = ledger.moment();
         Ok(Core {
             alloc,
             ledger,
-            candidate,
-            is_modified: false,
+            shared,
+            own,
             exclusive: None,
             callers,
             flight: None,
@@ -175,7 +190,7 @@ impl Core {
         ensures { IfOk result (Prepares self.now moment (Does (later self.now moment) caller command.now)) }
     {
         match command {
-            Command::Configure(mode) => Ok(self.prepare_configure(caller, moment, *mode)),
+            Command::Configure(mode) => self.prepare_configure(caller, moment, *mode),
             Command::ShowActive { words, form } => {
                 self.prepare_show_active(caller, moment, words, *form)
             }
@@ -196,6 +211,7 @@ impl Core {
                 comment,
                 quit,
             } => self.prepare_commit(caller, moment, *minutes, comment, *quit),
+            Command::Update => self.prepare_update(caller, moment),
             Command::Status => self.prepare_status(caller, moment),
         }
     }

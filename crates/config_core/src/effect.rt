@@ -1,14 +1,23 @@
 use crate::position::Position;
-use cfg_tree::Tree;
+use candidate::Candidate;
 use commands::Mode;
 use commit_ledger::Ready;
+
+/// The candidate of a commit, without edits, twice.
+#[derive(Debug, Drop)]
+pub struct Fresh {
+    /// For the sessions that share theirs.
+    pub shared: Candidate,
+    /// For the session that commits.
+    pub own: Candidate,
+}
 
 /// An entry that is ready for the list, with all that its settling may need.
 #[derive(Debug, Drop)]
 pub struct Appending {
     pub ready: Ready,
-    /// The map of a commit once more, for the candidate.
-    pub fresh: Option<Tree>,
+    /// The candidate of a commit.
+    pub fresh: Option<Fresh>,
     /// The caller whose command made the entry; none for a revert.
     pub maker: Option<u32>,
     /// Whether the caller leaves the mode, where the entry is known to be kept at once.
@@ -19,14 +28,15 @@ pub struct Appending {
 #[derive(Debug, Drop)]
 pub enum Effect {
     Stay,
-    /// The caller is in operational mode, and the candidate becomes this map, where what the caller changed is discarded.
-    Leave(Option<Tree>),
-    /// The caller edits so, at the top.
-    Enter(Mode),
+    /// The caller is in operational mode, and the shared candidate becomes this one, where what the caller changed is
+    /// discarded.
+    Leave(Option<Candidate>),
+    /// The caller edits so, at the top; in private mode this candidate of its own.
+    Enter { mode: Mode, own: Option<Candidate> },
     /// The caller stands there.
     Move(Position),
-    /// The candidate becomes this map, and is modified or isn't.
-    Edit { tree: Tree, is_modified: bool },
+    /// The candidate that the caller edits becomes this one.
+    Edit(Candidate),
     /// The entry in flight is appended, or dropped.
     Settle(bool),
     /// The list gets this entry, or it is in flight.

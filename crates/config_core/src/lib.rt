@@ -3,8 +3,9 @@
 //! Guarantees: `prepare` then `accept` is exactly one step of the machine (specs/Machine.antt);
 //! `prepare` changes nothing and takes all memory, `accept` can't fail and takes none. The active configuration is accepted
 //! at the beginning and after every step (src/laws.rt).
-//! Leaves to others: which statement words name (`cfg_tree`), what a change makes of the statements (`edit_ops`), what groups
-//! bring (`group_expand`), which configurations are accepted (`commit_check`), how statements are printed (`curly_print`,
+//! Leaves to others: which statement words name (`cfg_tree`), what a change makes of the statements (`edit_ops`) and of a
+//! candidate (`candidate`), what a private candidate makes of the active configuration (`private_merge`), what groups bring
+//! (`group_expand`), which configurations are accepted (`commit_check`), how statements are printed (`curly_print`,
 //! `set_text`), where events come from and what is kept of them (`session_history`, `service`), and how a reply is written
 //! (`reply_text`).
 #![tactic(auto)]
@@ -18,6 +19,7 @@ mod effect;
 mod event;
 mod laws;
 mod moving;
+mod own;
 mod position;
 mod prepared;
 mod refusing;
@@ -29,11 +31,11 @@ mod viewing;
 
 pub use caller::Caller;
 pub use core_state::Core;
-pub use effect::{Appending, Effect};
+pub use effect::{Appending, Effect, Fresh};
 pub use event::{Event, Need, Outcome};
 pub use laws::{
     active_configuration_stays_accepted, others_stay_where_they_are,
-    rollback_0_leaves_nothing_modified, steps_have_one_outcome,
+    private_sessions_edit_their_own, rollback_0_leaves_nothing_modified, steps_have_one_outcome,
 };
 pub use position::Position;
 pub use prepared::Prepared;

@@ -17,25 +17,33 @@ use crate::position::Position;
 use crate::prepared::{Prepared, refused, step};
 use crate::refusing::{is_level_at, refusal_of};
 use crate::reply::{Refusal, Reply};
+use candidate::Candidate;
 use cfg_base::{Moment, NoMemory, Path, Words};
-use cfg_tree::{Tree, WordsFault, resolve};
+use cfg_tree::{WordsFault, resolve};
 use commands::Mode;
 use edit_ops::EditFault;
 
 impl Core {
-    pub(crate) fn prepare_configure(&self, caller: u32, moment: Moment, mode: Mode) -> Prepared
+    pub(crate) fn prepare_configure(
+        &self,
+        caller: u32,
+        moment: Moment,
+        mode: Mode,
+    ) -> Result<Prepared, NoMemory>
         requires { IsCaller self.now caller }
-        ensures { Prepares self.now moment (Does (later self.now moment) caller (Command.Configure mode)) result }
+        ensures { IfOk result (Prepares self.now moment (Does (later self.now moment) caller (Command.Configure mode))) }
     {
-        step(caller, moment, Effect::Enter(mode), Reply::Entered(mode))
+        let own = self.own_for(mode)?;
+        let effect = Effect::Enter { mode, own };
+        Ok(step(caller, moment, effect, Reply::Entered(mode)))
     }
 
-    // The map of the last commit, where what the caller changed is discarded when it leaves the mode.
-    pub(crate) fn fresh_for(&self, caller: u32) -> Result<Option<Tree>, NoMemory>
+    // The shared candidate behind the caller's leaving, where what it changed is discarded.
+    pub(crate) fn fresh_for(&self, caller: u32) -> Result<Option<Candidate>, NoMemory>
         ensures { IfOk result (λ fresh. fresh ≡ fresh_for self.now caller) }
     {
         if self.holds(caller) {
-            Ok(Some(self.ledger.active().copy()?))
+            Ok(Some(self.fresh()?))
         } else {
             Ok(None)
         }

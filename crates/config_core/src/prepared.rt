@@ -40,9 +40,9 @@ impl Prepared {
             Effect::Append(appending) => Some(appending.ready.entry()),
             Effect::Stay
             | Effect::Leave(_)
-            | Effect::Enter(_)
+            | Effect::Enter { .. }
             | Effect::Move(_)
-            | Effect::Edit { .. }
+            | Effect::Edit(_)
             | Effect::Settle(_) => None,
         }
     }

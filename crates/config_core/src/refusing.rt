@@ -1,8 +1,8 @@
-//! How words, changes and loads are refused, and which paths are levels.
+//! How words, changes, loads and merges are refused, and which paths are levels.
 
 ghost use Rattle.std.specs.Prelude.{◌≡◌};
 ghost use Rattle.config_core.specs.Levels.{is_level_at};
-ghost use Rattle.config_core.specs.Showing.{refusal_of, text_refusal_of, line_refusal_of, load_refusal_of};
+ghost use Rattle.config_core.specs.Showing.{refusal_of, text_refusal_of, line_refusal_of, load_refusal_of, merge_refusal_of};
 
 use crate::reply::Refusal;
 use cfg_base::{Path, Shape};
@@ -10,6 +10,7 @@ use cfg_schema::{Place, row};
 use curly_grammar::TextFault;
 use edit_ops::EditFault;
 use load_ops::LoadFault;
+use private_merge::MergeFault;
 use set_text::LineFault;
 
 /// The refusal of a change; none for want of memory.
@@ -61,6 +62,17 @@ pub(crate) fn load_refusal_of(fault: LoadFault) -> Option<Refusal>
         LoadFault::Protected(path) => Some(Refusal::Protected(path)),
         LoadFault::TooMany => Some(Refusal::TooMany),
         LoadFault::NoMemory => None,
+    }
+}
+
+/// The refusal of a merge; none for want of memory.
+pub(crate) fn merge_refusal_of(fault: MergeFault) -> Option<Refusal>
+    ensures { result ≡ merge_refusal_of fault }
+{
+    match fault {
+        MergeFault::Conflict(path) => Some(Refusal::Conflict(path)),
+        MergeFault::TooMany => Some(Refusal::TooMany),
+        MergeFault::NoMemory => None,
     }
 }
 

@@ -10,7 +10,7 @@ pub enum Refusal {
     WrongMode,
     /// A session of this user is in exclusive mode.
     Locked(UserName),
-    /// The candidate has changes that aren't committed.
+    /// The shared candidate has changes that aren't committed.
     Modified,
     /// No row of the profile takes the last word.
     Unknown(Path),
@@ -34,6 +34,9 @@ pub enum Refusal {
     Protected(Path),
     /// There would be more than 16384 statements.
     TooMany,
+    /// The session and others changed this statement in two ways since the session's candidate began, or it would stand
+    /// without its parent; and no statement before it.
+    Conflict(Path),
     /// The expansion that is to be shown has more than 65536 paths.
     TooWide,
     /// No commit of that number is kept; so many are.
@@ -44,7 +47,7 @@ pub enum Refusal {
     Line { line: u32, place: u32 },
     /// The change of a line of the text, counted from 1, is refused.
     LineEdit { line: u32, fault: EditFault },
-    /// The candidate breaks the rule of this number first at this path, and no rule of a lower number.
+    /// What is committed breaks the rule of this number first at this path, and no rule of a lower number.
     Check { number: u8, path: Path },
     /// The list of entries is full.
     Exhausted,
@@ -62,9 +65,9 @@ pub enum Reply {
     Left,
     /// The text, or the commit's map, is in the candidate.
     Loaded,
-    /// The candidate is accepted.
+    /// What would be committed is accepted.
     Checked,
-    /// The candidate is committed; with minutes it is rolled back unless it is confirmed within them.
+    /// The candidate, or what it merges, is committed; with minutes it is rolled back unless it is confirmed within them.
     Committed { minutes: u32, quit: bool },
     Refused(Refusal),
 }

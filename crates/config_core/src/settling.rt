@@ -1,19 +1,19 @@
 //! How a prepared step is carried out, and what becomes of the entry in flight.
 
-ghost use Rattle.std.specs.Prelude.{◌≡◌, None};
+ghost use Rattle.std.specs.Prelude.{◌≡◌, IfSome, None};
 ghost use Rattle.config_core.specs.declared.effect.Effect.{Effect};
-ghost use Rattle.config_core.specs.Callers.{IsCaller, entered, out_of_mode, with_caller};
-ghost use Rattle.config_core.specs.Entries.{taken};
+ghost use Rattle.config_core.specs.Callers.{IsCaller, entered, out_of_mode, own_for, with_caller};
+ghost use Rattle.config_core.specs.Entries.{followed, taken};
 ghost use Rattle.config_core.specs.Plan.{made_of};
-ghost use Rattle.config_core.specs.Prepared.{CanApply, Follows, IsReady, applied, effected, replied, settled_in, candidate_with, discarded, modified_with};
+ghost use Rattle.config_core.specs.Prepared.{CanApply, Follows, IsReady, applied, committed_by, discarded, effected, new_in, replied, settled_in, with_new};
 
 use crate::core_state::Core;
-use crate::effect::{Appending, Effect};
+use crate::effect::{Appending, Effect, Fresh};
 use crate::event::Outcome;
 use crate::position::Position;
 use crate::prepared::Prepared;
 use crate::reply::{Refusal, Reply};
-use cfg_tree::Tree;
+use candidate::Candidate;
 use commands::Mode;
 
 impl Core {
@@ -37,17 +37,16 @@ impl Core {
                 self.discard(fresh);
                 reply
             }
-            Effect::Enter(mode) => {
-                self.enter(caller, mode);
+            Effect::Enter { mode, own } => {
+                self.enter(caller, mode, own);
                 reply
             }
             Effect::Move(position) => {
                 self.callers[caller as usize - 1].position = position;
                 reply
             }
-            Effect::Edit { tree, is_modified } => {
-                self.candidate = tree;
-                self.is_modified = is_modified;
+            Effect::Edit(next) => {
+                self.put_candidate(caller, next);
                 reply
             }
             Effect::Settle(is_kept) => {
@@ -68,11 +67,13 @@ impl Core {
     }
 
     // The caller edits so, at the top.
-    fn enter(&mut self, caller: u32, mode: Mode)
-        requires { IsCaller self.old caller }
+    fn enter(&mut self, caller: u32, mode: Mode, own: Option<Candidate>)
+        requires caller { IsCaller self.old caller }
+        requires own { own ≡ own_for mode self.old.kept }
         ensures { self.new ≡ entered self.old caller mode }
     {
         self.place(caller, Some(mode), Position::top(self.alloc));
+        self.put_own(caller, own);
         if mode == Mode::Exclusive {
             self.exclusive = Some(caller);
         }
@@ -84,18 +85,18 @@ impl Core {
         ensures { self.new ≡ out_of_mode self.old caller }
     {
         self.place(caller, None, Position::top(self.alloc));
+        self.put_own(caller, None);
         if self.holds(caller) {
             self.exclusive = None;
         }
     }
 
-    // The candidate becomes this map of the last commit, and isn't modified.
-    fn discard(&mut self, fresh: Option<Tree>)
+    // The shared candidate becomes this one.
+    fn discard(&mut self, fresh: Option<Candidate>)
         ensures { self.new ≡ discarded self.old fresh }
     {
-        if let Some(tree) = fresh {
-            self.candidate = tree;
-            self.is_modified = false;
+        if let Some(fresh) = fresh {
+            self.shared = fresh;
         }
     }
 
@@ -130,7 +131,7 @@ impl Core {
         }
     }
 
-    // The list gets the entry, and the candidate follows.
+    // The list gets the entry, and candidates follow.
     fn take_in(&mut self, appending: Appending)
         requires { IsReady self.old.kept appending }
         ensures { self.new ≡ taken self.old (made_of appending) }
@@ -142,23 +143,36 @@ impl Core {
             quit: _,
         } = appending;
         self.flight = None;
-        self.follow(fresh, maker.is_some());
+        self.follow(fresh, maker);
         self.ledger.accept(ready);
     }
 
-    // After a commit a candidate that isn't modified, or that was committed, is the commit's map.
-    fn follow(&mut self, fresh: Option<Tree>, is_committed: bool)
-        requires { self.old.flight ≡ None }
-        ensures { self.new ≡ record self.old {
-          candidate = candidate_with self.old.candidate self.old.is_modified fresh is_committed;
-          is_modified = modified_with self.old.is_modified fresh is_committed;
-        } }
+    // After a commit a shared candidate that isn't modified, and the one that its maker edits, is the commit's.
+    fn follow(&mut self, fresh: Option<Fresh>, maker: Option<u32>)
+        requires flight { self.old.flight ≡ None }
+        requires same { IfSome fresh (λ new. new.shared ≡ new.own) }
+        ensures { self.new ≡ with_new self.old maker (new_in fresh) }
     {
-        if let Some(tree) = fresh {
-            self.is_modified = self.is_modified && !is_committed;
-            if !self.is_modified {
-                self.candidate = tree;
-            }
+        if let Some(Fresh { shared, own }) = fresh {
+            self.follow_shared(shared);
+            self.follow_own(maker, own);
+        }
+    }
+
+    fn follow_shared(&mut self, new: Candidate)
+        ensures { self.new ≡ record self.old { shared = followed self.old.shared new } }
+    {
+        if !self.shared.is_modified() {
+            self.shared = new;
+        }
+    }
+
+    // The candidate that a caller commits is the commit's.
+    fn follow_own(&mut self, maker: Option<u32>, new: Candidate)
+        ensures { self.new ≡ committed_by self.old maker new }
+    {
+        if let Some(caller) = maker {
+            self.put_candidate(caller, new);
         }
     }
 }

@@ -36,6 +36,7 @@ fn push_mode(text: &mut Vec<u8>, mode: Mode) -> Result<(), NoMemory>
 {
     match mode {
         Mode::Shared => push_bytes(text, b"shared\n"),
+        Mode::Private => push_bytes(text, b"private\n"),
         Mode::Exclusive => push_bytes(text, b"exclusive\n"),
     }
 }

@@ -63,7 +63,8 @@ impl Core {
         ensures { IfOk result (Prepares self.now moment (Does (later self.now moment) caller (Command.Show words.now form))) }
     {
         let level = self.session(caller).position.level();
-        self.shows(caller, moment, &self.candidate, level, words, form)
+        let tree = self.candidate(caller).tree();
+        self.shows(caller, moment, tree, level, words, form)
     }
 
     pub(crate) fn prepare_show_commits(

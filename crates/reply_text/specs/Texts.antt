@@ -3,9 +3,9 @@ use Rattle.std.specs.Prelude.{ℕ, Bool, true, false, List, [], ◌∷◌, ◌++
 use Rattle.std.specs.List.{join_by}
 use Rattle.cfg_base.specs.declared.path.Step.{Step}
 use Rattle.commands.specs.declared.command.Mode.{Mode}
-use Rattle.commands.specs.declared.command.Mode.TheVariants.{Shared, Exclusive}
+use Rattle.commands.specs.declared.command.Mode.TheVariants.{Shared, Private, Exclusive}
 use Rattle.config_core.specs.declared.reply.Refusal.{Refusal}
-use Rattle.config_core.specs.declared.reply.Refusal.TheVariants.{WrongMode, Locked, Modified, Unknown, BadValue, Incomplete, Extra, NotNamed, NotOrdered, NotThere, AlreadyThere, NotALevel, Protected, TooMany, TooWide, NoRollback, Line, LineEdit, Check, Exhausted, DiskFault}
+use Rattle.config_core.specs.declared.reply.Refusal.TheVariants.{WrongMode, Locked, Modified, Unknown, BadValue, Incomplete, Extra, NotNamed, NotOrdered, NotThere, AlreadyThere, NotALevel, Protected, TooMany, Conflict, TooWide, NoRollback, Line, LineEdit, Check, Exhausted, DiskFault}
 use Rattle.config_core.specs.declared.reply.Refusal.TheVariants as refusal
 use Rattle.config_core.specs.declared.reply.Reply.{Reply}
 use Rattle.config_core.specs.declared.reply.Reply.TheVariants.{Done, LoggedOut, Text, Entered, Left, Loaded, Checked, Committed, Refused}
@@ -88,6 +88,7 @@ message_of (AlreadyThere path) = message_of_edit (edit.AlreadyThere path)
 message_of (NotALevel path) = codes "not a level: " ++ printed_path path
 message_of (Protected path) = message_of_edit (edit.Protected path)
 message_of TooMany = message_of_edit edit.TooMany
+message_of (Conflict path) = codes "conflicting change: " ++ printed_path path
 message_of TooWide = codes "more than 65536 expanded statements"
 message_of (NoRollback n kept) = codes "no rollback " ++ (decimal n ++ (codes ", " ++ (decimal kept ++ codes " kept")))
 message_of (refusal.Text fault) = message_of_text fault
@@ -113,9 +114,10 @@ abbrev pub complete_text : Bool → List ℕ
 complete_text true = codes "commit complete\nExiting configuration mode\n"
 complete_text false = codes "commit complete\n"
 
--- who edits alone is told that what isn't committed will be discarded
+-- who edits alone, or a candidate of its own, is told that what isn't committed will be discarded
 abbrev pub text_of_entry : Mode → List ℕ
 text_of_entry Shared = codes "Entering configuration mode\n"
+text_of_entry Private = codes "warning: uncommitted changes will be discarded on exit\nEntering configuration mode\n"
 text_of_entry Exclusive = codes "warning: uncommitted changes will be discarded on exit\nEntering configuration mode\n"
 
 -- what is written of a reply

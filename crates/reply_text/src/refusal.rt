@@ -137,6 +137,7 @@ fn put_message<K: Sink>(sink: &mut K, refusal: &Refusal) -> Result<(), PutFailed
         Refusal::NotALevel(path) => put_told(sink, b"not a level: ", path),
         Refusal::Protected(path) => put_told(sink, b"statement is protected: ", path),
         Refusal::TooMany => put_all(sink, b"more than 16384 statements"),
+        Refusal::Conflict(path) => put_told(sink, b"conflicting change: ", path),
         Refusal::TooWide => put_all(sink, b"more than 65536 expanded statements"),
         Refusal::NoRollback { n, kept } => put_no_rollback(sink, *n, *kept),
         Refusal::Text(fault) => put_text_message(sink, *fault),

@@ -59,7 +59,7 @@ fn put_entry<K: Sink>(sink: &mut K, mode: Mode) -> Result<(), PutFailed>
 {
     match mode {
         Mode::Shared => put_all(sink, b"Entering configuration mode\n"),
-        Mode::Exclusive => put_all(
+        Mode::Private | Mode::Exclusive => put_all(
             sink,
             b"warning: uncommitted changes will be discarded on exit\nEntering configuration mode\n",
         ),

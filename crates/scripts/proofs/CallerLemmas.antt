@@ -1,8 +1,6 @@
 -- A step leaves as many callers as there were.
-use Rattle.std.proofs.Common.{◌≡◌, ◌∙◌, ◌-◌, ℕ, Bool, true, false, length, refl, Option, None, Some}
+use Rattle.std.proofs.Common.{◌≡◌, ◌-◌, ℕ, Bool, true, false, length, refl, Option, None, Some}
 use Rattle.std.proofs.lemmas.List.{length-set}
-use Rattle.commit_ledger.specs.declared.entry.Entry.{Entry}
-use Rattle.commit_ledger.specs.declared.entry.Entry.TheVariants.{Commit as CommitOf, Confirm as ConfirmOf}
 use Rattle.config_core.specs.declared.effect.Effect.{Effect}
 use Rattle.config_core.specs.declared.effect.Effect.TheVariants.{Stay, Leave, Enter, Move, Edit, Settle, Append}
 use Rattle.config_core.specs.declared.event.Outcome.{Outcome}
@@ -14,12 +12,8 @@ use Rattle.config_core.specs.Serving.{left_if}
 use Rattle.config_core.specs.Machine.{settled, later}
 use Rattle.config_core.specs.Prepared.{effected, applied, settled_in}
 
-taken_callers : (s : State) (entry : Entry) (maker : Option ℕ) → length (taken s (record { entry = entry; maker = maker })).callers ≡ length s.callers
-taken_callers s (CommitOf commit) maker = refl
-taken_callers s (ConfirmOf confirm) maker = refl
-
 settled_callers : (s : State) (made : Made) (is_kept : Bool) → length (settled s made is_kept).callers ≡ length s.callers
-settled_callers s made true = taken_callers s made.entry made.maker
+settled_callers s made true = refl
 settled_callers s made false = refl
 
 settled_in_callers : (s : State) (flight : Option Made) (is_kept : Bool) → length (settled_in flight is_kept s).callers ≡ length s.callers
@@ -33,11 +27,11 @@ left_callers s false caller = refl
 effected_callers : (effect : Effect) (caller : ℕ) (outcome : Outcome) (s : State) → length (effected effect caller outcome s).callers ≡ length s.callers
 effected_callers Stay caller outcome s = refl
 effected_callers (Leave fresh) caller outcome s = length-set s.callers (caller - 1) _
-effected_callers (Enter mode) caller outcome s = length-set s.callers (caller - 1) _
+effected_callers (Enter mode own) caller outcome s = length-set s.callers (caller - 1) _
 effected_callers (Move position) caller outcome s = length-set s.callers (caller - 1) _
-effected_callers (Edit tree is_modified) caller outcome s = refl
+effected_callers (Edit next) caller outcome s = refl
 effected_callers (Settle is_kept) caller outcome s = settled_in_callers s s.flight is_kept
-effected_callers (Append a) caller Done s = left_callers (taken s (made_of a)) a.quit caller ∙ taken_callers s a.ready.entry a.maker
+effected_callers (Append a) caller Done s = left_callers (taken s (made_of a)) a.quit caller
 effected_callers (Append a) caller Fault s = refl
 
 pub callers_are_as_many : (plan : Plan) (outcome : Outcome) (s : State) → length (applied plan outcome s).callers ≡ length s.callers

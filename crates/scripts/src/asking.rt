@@ -111,6 +111,7 @@ fn say_rollback(out: &mut String, n: u32) -> Result<(), Fault> {
 pub(crate) fn say_command(out: &mut String, command: &Command) -> Result<(), Fault> {
     match command {
         Command::Configure(Mode::Shared) => say(out, "configure"),
+        Command::Configure(Mode::Private) => say(out, "configure private"),
         Command::Configure(Mode::Exclusive) => say(out, "configure exclusive"),
         Command::ShowActive { words, form } => {
             say_words(out, show_active_as(*form), words.as_slice())
@@ -135,6 +136,7 @@ pub(crate) fn say_command(out: &mut String, command: &Command) -> Result<(), Fau
             comment,
             quit,
         } => say_commit(out, *minutes, comment, *quit),
+        Command::Update => say(out, "update"),
         Command::Status => say(out, "status"),
     }
 }

@@ -53,6 +53,7 @@ fn say_refusal(out: &mut String, refusal: &Refusal) -> Result<(), Fault> {
         Refusal::NotALevel(path) => say_path(out, "not a level", path),
         Refusal::Protected(path) => say_path(out, "protected", path),
         Refusal::TooMany => say(out, "too many"),
+        Refusal::Conflict(path) => say_path(out, "conflict", path),
         Refusal::TooWide => say(out, "too wide"),
         Refusal::NoRollback { n, kept } => say_no_rollback(out, *n, *kept),
         Refusal::Text(fault) => say_unread_text(out, *fault),
@@ -73,6 +74,7 @@ pub(crate) fn say_reply(out: &mut String, reply: &Reply) -> Result<(), Fault> {
             say_text(out, text.as_slice())
         }
         Reply::Entered(Mode::Shared) => say(out, "entered"),
+        Reply::Entered(Mode::Private) => say(out, "entered private"),
         Reply::Entered(Mode::Exclusive) => say(out, "entered exclusive"),
         Reply::Left => say(out, "left"),
         Reply::Loaded => say(out, "loaded"),

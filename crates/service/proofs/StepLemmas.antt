@@ -8,7 +8,7 @@ use Rattle.config_core.specs.declared.event.Outcome.TheVariants.{Done}
 use Rattle.config_core.specs.declared.effect.Effect.{Effect}
 use Rattle.config_core.specs.declared.effect.Effect.TheVariants as effect
 use Rattle.config_core.specs.Callers.{caller_of, with_caller}
-use Rattle.config_core.specs.Entries.{committed_by, taken}
+use Rattle.config_core.specs.Entries.{taken}
 use Rattle.config_core.specs.Levels.{Position, at_top}
 use Rattle.config_core.specs.declared.reply.Reply.{Reply}
 use Rattle.commit_ledger.specs.Kept.{is_revert_due}
@@ -16,8 +16,6 @@ use Rattle.config_core.specs.State.{State, Made}
 use Rattle.config_core.specs.Plan.{Plan, made_in, made_of}
 use Rattle.config_core.specs.Serving.{Turned, left_if}
 use Rattle.commands.specs.declared.command.Mode.{Mode}
-use Rattle.commit_ledger.specs.declared.entry.Entry.{Entry}
-use Rattle.commit_ledger.specs.declared.entry.Entry.TheVariants.{Commit as CommitOf, Confirm as ConfirmOf}
 use Rattle.std.proofs.Math.ListN.{length-set}
 use Rattle.config_core.specs.Machine.{Fits, FitsIn, Free, InFlight, Missed, Steps, StepsFrom, Waiting, later, reverted, waiting_for, waiting_of}
 use Rattle.config_core.specs.Prepared.{CanEnd, IsPrepared, applied, effected, ended, need_in, replied, settled_in}
@@ -42,11 +40,6 @@ can_be_done s moment event made free fits =
     let same : waiting_of s moment ≡ waiting_for None (is_revert_due s.kept moment) = waits s moment free in
     subst (λ w. CanEnd w event made Done) (sym same) (can_end (is_revert_due s.kept moment) event made (subst (λ w. FitsIn w event) same fits))
 
--- an entry leaves the callers as they were
-same_callers : (maker : Option ℕ) (entry : Entry) (s : State) → (committed_by maker entry s).callers ≡ s.callers
-same_callers maker (CommitOf commit) s = refl
-same_callers maker (ConfirmOf confirm) s = refl
-
 moved : (s : State) (caller : ℕ) (mode : Option Mode) (position : Position) → length (with_caller s caller mode position).callers ≡ length s.callers
 moved s caller mode position = length-set s.callers (caller - 1) _
 
@@ -59,14 +52,12 @@ left false caller s free = (free, refl)
 keeps : (e : Effect) (caller : ℕ) (s : State) → s.flight ≡ None → ((effected e caller Done s).flight ≡ None) × (length (effected e caller Done s).callers ≡ length s.callers)
 keeps effect.Stay caller s free = (free, refl)
 keeps (effect.Leave fresh) caller s free = (free, moved s caller None at_top)
-keeps (effect.Enter mode) caller s free = (free, moved s caller (Some mode) at_top)
+keeps (effect.Enter mode own) caller s free = (free, moved s caller (Some mode) at_top)
 keeps (effect.Move position) caller s free = (free, moved s caller (caller_of s caller).mode position)
-keeps (effect.Edit tree is_modified) caller s free = (free, refl)
+keeps (effect.Edit next) caller s free = (free, refl)
 keeps (effect.Settle is_kept) caller s free =
     (ap (λ flight. (settled_in flight is_kept s).flight) free ∙ free, ap (λ flight. length (settled_in flight is_kept s).callers) free)
-keeps (effect.Append a) caller s free =
-    let after = left a.quit caller (taken s (made_of a)) refl in
-    (after.0, after.1 ∙ ap length (same_callers (made_of a).maker (made_of a).entry s))
+keeps (effect.Append a) caller s free = left a.quit caller (taken s (made_of a)) refl
 
 -- a step that was prepared and carried out
 pub Happens-of : (caller moment : ℕ) (event : Event) (reply : Reply) (plan : Plan) (s s' : State) (events events' : List Happened) → Fits s caller moment event → s.flight ≡ None → IsPrepared s caller moment event plan →

@@ -1,11 +1,11 @@
 -- A history that begins with every session at a level leads to one state, with one reply at each place.
-use Rattle.std.proofs.Common.{◌≡◌, ℕ, ◌-◌, ◌==◌, ◌⊎◌, List, [], ◌∷◌, length, map, take, Bool, true, false, cond, refl, sym, ap, subst, ◌∙◌, zero, suc, nat_lt, Option, None, Some, inl, inr, slice_get, slice_set}
+use Rattle.std.proofs.Common.{◌≡◌, ℕ, ◌-◌, ◌==◌, List, [], ◌∷◌, length, map, take, Bool, true, false, cond, refl, sym, ap, subst, ◌∙◌, zero, suc, nat_lt, Option, None, Some, inl, inr, slice_get, slice_set}
 use Rattle.std.specs.List.{All, AllByRecursion}
 use Rattle.std.proofs.lemmas.List.Elements.{All-nil, All-cons, All-head, All-tail}
 use Rattle.commands.specs.declared.command.Form.{Form}
 use Rattle.commands.specs.declared.command.Mode.{Mode}
 use Rattle.commands.specs.declared.command.Command.{Command}
-use Rattle.commands.specs.declared.command.Command.TheVariants.{Configure, ShowActive, ShowCommits, Logout, Edit, Up, Top, Exit, ExitAll, Show, Change, Load, Rollback, CheckOnly, Commit, Status}
+use Rattle.commands.specs.declared.command.Command.TheVariants.{Configure, ShowActive, ShowCommits, Logout, Edit, Up, Top, Exit, ExitAll, Show, Change, Load, Rollback, CheckOnly, Commit, Update, Status}
 use Rattle.cfg_base.specs.declared.path.Step.{Step}
 use Rattle.cfg_tree.specs.Statements.{Statements}
 use Rattle.cfg_tree.specs.Typed.{IsTypedPath}
@@ -26,13 +26,13 @@ use Rattle.config_core.specs.declared.reply.Reply.{Reply}
 use Rattle.config_core.specs.declared.reply.Reply.TheVariants.{Done}
 use Rattle.config_core.specs.Levels.{Position, AreLevels, at_top, is_level_place, is_level_at, moved_to, to_last}
 use Rattle.config_core.specs.State.{State, Made, operational}
-use Rattle.config_core.specs.Callers.{caller_in, position_of, level_of, with_caller, with_position, out_of_mode, without_mode}
+use Rattle.config_core.specs.Callers.{caller_in, candidate_of, own_of, position_of, level_of, with_caller, with_position, without_mode}
 use Rattle.config_core.specs.Access.{bar_to}
-use Rattle.config_core.specs.Entries.{commit_of, committed_by, confirm_of, made_by, revert_made, taken}
-use Rattle.config_core.specs.Serving.{Turned, answered, refused, exited, edited, Moves, IsLost, Lists, Changes, IsUnchanged, Loads, IsNotLoaded, Replaces, RollsTo, Shows, Checks, checked, left_if, makes, Does, Serves}
+use Rattle.config_core.specs.Entries.{commit_of, confirm_of, made_by, taken}
+use Rattle.config_core.specs.Serving.{Turned, answered, refused, exited, edited, Replaces, RollsTo, Shows, checked, left_if, makes, Does, Serves}
 use Rattle.config_core.specs.Machine.{Waiting, InFlight, Missed, Free, Ends, Steps, StepsFrom, is_logout, later, left_by, reverted, settled, waiting_of}
 use Rattle.config_core.proofs.LevelLemmas.{top_alone, level_front}
-use Rattle.config_core.proofs.StepLemmas.{by_bar, by_bool, shows_stay}
+use Rattle.config_core.proofs.StepLemmas.{by_bar, by_bool, by_check, shows_stay}
 use Rattle.session_history.specs.declared.history.Happened.{Happened}
 use Rattle.session_history.specs.Events.{Leads, IsAt}
 
@@ -91,14 +91,6 @@ back_stands s caller (step ∷ level) [] stand before = placed s caller _ _ stan
 back_stands s caller level (last ∷ more) stand before =
     placed s caller _ _ stand (record { here = All-head IsLevelPath last more before; before = All-tail IsLevelPath last more before })
 
--- an entry leaves the sessions where they stand
-same_callers : (maker : Option ℕ) (entry : Entry) (s : State) → (committed_by maker entry s).callers ≡ s.callers
-same_callers maker (CommitOf commit) s = refl
-same_callers maker (ConfirmOf confirm) s = refl
-
-taken_stands : (s : State) (made : Made) → Stand s.callers → Stand (taken s made).callers
-taken_stands s made stand = subst Stand (sym (same_callers made.maker made.entry s)) stand
-
 makes_stands : (s : State) (caller : ℕ) (entry : Entry) (quit : Bool) (reply : Reply) → Stand s.callers → Stands (makes s caller entry quit reply)
 makes_stands s caller entry quit reply stand = by_room (nat_lt s.kept.count MAX_ENTRIES)
   where
@@ -106,26 +98,23 @@ makes_stands s caller entry quit reply stand = by_room (nat_lt s.kept.count MAX_
     after = taken s (made_by caller entry)
 
     by_quit : (q : Bool) → Stand (left_if q caller after).callers
-    by_quit true = placed after caller _ _ (taken_stands s (made_by caller entry) stand) top_levels
-    by_quit false = taken_stands s (made_by caller entry) stand
+    by_quit true = placed after caller _ _ stand top_levels
+    by_quit false = stand
 
     by_room : (b : Bool) → Stands (cond b (record { state = left_if quit caller after; reply = reply; made = Some (made_by caller entry) }) (refused s Exhausted))
     by_room true = by_quit quit
     by_room false = stand
 
-checks_stand : (s : State) (turned after : Turned) → Stand s.callers → Stands after → Checks s turned after → Stands turned
-checks_stand s turned after stand more (inl checked) = stands_by turned after checked.1 more
-checks_stand s turned after stand more (inr broken) = stands_by turned _ broken.is stand
-
 checked_stands : (s : State) (caller : ℕ) (run : Option Unconfirmed) → Stand s.callers → Stands (checked s caller run)
 checked_stands s caller None stand = stand
 checked_stands s caller (Some run) stand = makes_stands s caller (ConfirmOf (confirm_of s caller)) false _ stand
 
-rolls_stand : (s : State) (n : ℕ) (commit : Option CommitMade) (turned : Turned) → Stand s.callers → RollsTo s n commit turned → Stands turned
-rolls_stand s n None turned stand rolls = stands_by turned _ rolls stand
-rolls_stand s n (Some commit) turned stand rolls = by_bool (n == 0) _ _ _ (λ is. stands_by turned _ is stand) replaced rolls
+rolls_stand : (s : State) (caller n : ℕ) (commit : Option CommitMade) (turned : Turned) → Stand s.callers → RollsTo s caller n commit turned
+    → Stands turned
+rolls_stand s caller n None turned stand rolls = stands_by turned _ rolls stand
+rolls_stand s caller n (Some commit) turned stand rolls = by_bool (n == 0) _ _ _ (λ is. stands_by turned _ is stand) replaced rolls
   where
-    replaced : Replaces s commit.tree turned → Stands turned
+    replaced : Replaces s caller commit.tree turned → Stands turned
     replaced replaces = stands_by turned _ replaces.is stand
 
 shows_stand : (s : State) (m : Statements) (level : List Step) (asked : List (List ℕ)) (form : Form) (turned : Turned) → Stand s.callers → Shows s m level asked form turned → Stands turned
@@ -150,15 +139,19 @@ does_stand s caller Top turned stand is = stands_by turned _ is (placed s caller
 does_stand s caller Exit turned stand is =
     stands_by turned _ is (back_stands s caller (position_of s caller).level (position_of s caller).remembered stand (levels_of s caller stand).before)
 does_stand s caller ExitAll turned stand is = stands_by turned _ is (left_stands s caller stand)
-does_stand s caller (Show asked form) turned stand shows = shows_stand s s.candidate (level_of s caller) asked form turned stand shows
+does_stand s caller (Show asked form) turned stand shows = shows_stand s (candidate_of s caller).map (level_of s caller) asked form turned stand shows
 does_stand s caller (Change op) turned stand (inl changes) = stands_by turned _ changes.is stand
 does_stand s caller (Change op) turned stand (inr same) = stands_by turned _ same.is stand
-does_stand s caller (Load way text) turned stand (inl loads) = stands_by turned _ loads.is stand
+does_stand s caller (Load way text) turned stand (inl loads) = stands_by turned _ loads.replaces.is stand
 does_stand s caller (Load way text) turned stand (inr same) = stands_by turned _ same.is stand
-does_stand s caller (Rollback n) turned stand rolls = rolls_stand s n (nth_last s.kept n) turned stand rolls
-does_stand s caller CheckOnly turned stand checks = checks_stand s turned _ stand (checked_stands s caller s.kept.pending stand) checks
+does_stand s caller (Rollback n) turned stand rolls = rolls_stand s caller n (nth_last s.kept n) turned stand rolls
+does_stand s caller CheckOnly turned stand checks =
+    by_check s (own_of s caller) turned _ Stands (λ m accepted. checked_stands s caller s.kept.pending stand) (λ refusal. stand) checks
 does_stand s caller (Commit minutes comment quit) turned stand checks =
-    checks_stand s turned _ stand (makes_stands s caller (CommitOf (commit_of s caller minutes comment)) quit _ stand) checks
+    by_check s (own_of s caller) turned _ Stands (λ m accepted. makes_stands s caller (CommitOf (commit_of s caller m minutes comment)) quit _ stand)
+    (λ refusal. stand) checks
+does_stand s caller Update turned stand (inl updates) = stands_by turned _ updates.is stand
+does_stand s caller Update turned stand (inr unmerged) = stands_by turned _ unmerged.is stand
 does_stand s caller Status turned stand is = stands_by turned _ is stand
 
 serves_stands : (s : State) (caller : ℕ) (command : Command) (turned : Turned) → Stand s.callers → Serves s caller command turned → Stands turned
@@ -171,7 +164,7 @@ ends_stand IsDone s done turned stand more ends = stands_by turned _ ends more
 ends_stand Fault s done turned stand more ends = stands_by turned _ ends.is stand
 
 settled_stands : (s : State) (made : Made) (is_kept : Bool) → Stand s.callers → Stand (settled s made is_kept).callers
-settled_stands s made true stand = taken_stands s made stand
+settled_stands s made true stand = stand
 settled_stands s made false stand = stand
 
 left_by_stands : (s : State) (caller : ℕ) (command : Command) → Stand s.callers → Stand (left_by s caller command).callers
@@ -188,7 +181,7 @@ from_stands (InFlight made) s caller Revert outcome turned stand steps = absurd 
 from_stands (InFlight made) s caller (CommandOf command) IsDone turned stand steps = absurd steps
 from_stands (InFlight made) s caller (CommandOf command) Fault turned stand steps = stands_by turned _ steps (left_by_stands s caller command stand)
 from_stands Missed s caller (Settle is_kept) outcome turned stand steps = absurd steps
-from_stands Missed s caller Revert outcome turned stand steps = ends_stand outcome s (reverted s) turned stand (taken_stands s (revert_made s) stand) steps
+from_stands Missed s caller Revert outcome turned stand steps = ends_stand outcome s (reverted s) turned stand stand steps
 from_stands Missed s caller (CommandOf command) outcome turned stand steps = absurd steps
 from_stands Free s caller (Settle is_kept) outcome turned stand steps = absurd steps
 from_stands Free s caller Revert outcome turned stand steps = absurd steps

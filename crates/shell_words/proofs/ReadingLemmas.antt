@@ -11,13 +11,11 @@ use Rattle.cfg_lex.specs.Tokens.{IsCut}
 use Rattle.shell_words.specs.declared.form.CommandForm.{CommandForm}
 use Rattle.shell_words.specs.declared.form.Part.{Part}
 use Rattle.shell_words.specs.declared.form.Part.TheVariants.{Nothing, One, Many}
-use Rattle.shell_words.specs.declared.reader.ReadFault.{ReadFault}
-use Rattle.shell_words.specs.declared.reader.ReadFault.TheVariants.{Syntax, NoMemory}
 use Rattle.shell_words.specs.Item.{Item, item_in}
 use Rattle.shell_words.specs.Form.{is_of, parts_of, Fits, forms_of, IsIn, Begins}
 use Rattle.shell_words.specs.Walk.{run_len, reach, fits, given, furthest, form_for}
 use Rattle.shell_words.specs.Made.{made_by}
-use Rattle.shell_words.specs.Reading.{asked, first_place, capped, Asks, IsMisfit, AnswersWhole, place_of, Answers, IsReading, Gives}
+use Rattle.shell_words.specs.Reading.{first_place, capped, Asks, IsMisfit, AnswersWhole, place_of, Answers, IsReading}
 use Rattle.shell_words.proofs.FormTests.{are_ended, have_examples, are_some}
 use Rattle.shell_words.proofs.FormFacts.{forms_sound, forms_apart, forms_some}
 use Rattle.shell_words.proofs.FitLemmas.{sound, complete, completed, goes_on, reaches}
@@ -123,7 +121,7 @@ pub in_none : (configuring : Bool) (items : List Item) → form_for (forms_of co
 in_none configuring items e form words line =
     none_found (forms_of configuring) items form e line.served (complete (parts_of form) items words (tested configuring form line.served).ended line.fits).0
 
-pub asks : (configuring : Bool) (items : List Item) (form : CommandForm) → form_for (forms_of configuring) items ≡ Some form → Asks configuring items (asked (made_by form.makes items (given (parts_of form) items)))
+pub asks : (configuring : Bool) (items : List Item) (form : CommandForm) → form_for (forms_of configuring) items ≡ Some form → Asks configuring items (Ok (Some (made_by form.makes items (given (parts_of form) items))))
 asks configuring items form e =
     let here = found (forms_of configuring) items form e in
     record { form = form; words = given (parts_of form) items; line = record { served = here.0; fits = sound (parts_of form) items here.1 }; is = refl }
@@ -158,15 +156,19 @@ one_misfit configuring items end one other a b =
     ] in
     a.is ∙ ap (λ n. Err (capped (first_place (drop n items) end))) same ∙ sym b.is
 
+-- a line that asks something
+abbrev answer_of : Words0 → Result (Option Words0) ℕ
+answer_of made = Ok (Some made)
+
 one_asked : (configuring : Bool) (items : List Item) (one other : Result (Option Words0) ℕ) → Asks configuring items one → Asks configuring items other → one ≡ other
 one_asked configuring items one other a b =
     let form : a.form ≡ b.form = one_form (forms_of configuring) a.form b.form items a.words b.words (forms_apart configuring) a.line.served b.line.served a.line.fits b.line.fits in
     let mine = complete (parts_of a.form) items a.words (tested configuring a.form a.line.served).ended a.line.fits in
     let theirs = complete (parts_of b.form) items b.words (tested configuring b.form b.line.served).ended b.line.fits in
     a.is
-    ∙ ap (λ words. asked (made_by a.form.makes items words)) mine.1
-    ∙ ap (λ (f : CommandForm). asked (made_by f.makes items (given (parts_of f) items))) form
-    ∙ ap (λ words. asked (made_by b.form.makes items words)) (sym theirs.1)
+    ∙ ap (λ words. answer_of (made_by a.form.makes items words)) mine.1
+    ∙ ap (λ (f : CommandForm). answer_of (made_by f.makes items (given (parts_of f) items))) form
+    ∙ ap (λ words. answer_of (made_by b.form.makes items words)) (sym theirs.1)
     ∙ sym b.is
 
 one_whole : (configuring : Bool) (items : List Item) (end : ℕ) (one other : Result (Option Words0) ℕ) → AnswersWhole configuring items end one → AnswersWhole configuring items end other → one ≡ other
@@ -189,20 +191,14 @@ one_reading one_cut configuring line one other a b =
     (subst (λ tokens. Answers configuring (map (item_in line) tokens) a.fault (length line) one) same.0 a.answers))
     b.answers
 
-whole_line : (configuring : Bool) (items : List Item) (end : ℕ) (form : CommandForm) (words : List (List ℕ)) → IsIn configuring items form words → AnswersWhole configuring items end (asked (made_by form.makes items words))
+whole_line : (configuring : Bool) (items : List Item) (end : ℕ) (form : CommandForm) (words : List (List ℕ)) → IsIn configuring items form words → AnswersWhole configuring items end (Ok (Some (made_by form.makes items words)))
 whole_line configuring [] end form words line =
     absurd (some_needs (parts_of form) [] words (tested configuring form line.served).some refl line.fits)
 whole_line configuring (item ∷ items) end form words line = inl record { form = form; words = words; line = line; is = refl }
 
-pub own_line : (configuring : Bool) (line : List ℕ) (tokens : List Token) (form : CommandForm) (words : List (List ℕ)) → IsCut line tokens None → IsIn configuring (map (item_in line) tokens) form words → IsReading configuring line (asked (made_by form.makes (map (item_in line) tokens) words))
+pub own_line : (configuring : Bool) (line : List ℕ) (tokens : List Token) (form : CommandForm) (words : List (List ℕ)) → IsCut line tokens None → IsIn configuring (map (item_in line) tokens) form words → IsReading configuring line (Ok (Some (made_by form.makes (map (item_in line) tokens) words)))
 own_line configuring line tokens form words cut in_form =
     record { tokens = tokens; fault = None; cut = cut; answers = whole_line configuring (map (item_in line) tokens) (length line) form words in_form }
-
--- an answer that is one thing is another, where each of the one is one of the other
-pub gives_also : (Is Means : Result (Option Words0) ℕ → Type 0) → ((answer : Result (Option Words0) ℕ) → Is answer → Means answer) → (result : Result (Option Words0) ReadFault) → Gives Is result → Gives Means result
-gives_also Is Means on (Ok made) is = on (Ok made) is
-gives_also Is Means on (Err (Syntax place)) is = on (Err place) is
-gives_also Is Means on (Err NoMemory) is = tt
 
 -- tokens that no form is found for
 pub whole_misfit : (configuring : Bool) (items : List Item) (end : ℕ) → 0 < length items → form_for (forms_of configuring) items ≡ None → AnswersWhole configuring items end (Err (capped (first_place (drop (furthest (forms_of configuring) items) items) end)))
@@ -210,6 +206,6 @@ whole_misfit configuring [] end some e = absurd (omega arith)
 whole_misfit configuring (item ∷ items) end some e = inr (in_none configuring (item ∷ items) e, misfit configuring (item ∷ items) end)
 
 -- tokens that one is found for
-pub whole_asks : (configuring : Bool) (items : List Item) (end : ℕ) (form : CommandForm) → 0 < length items → form_for (forms_of configuring) items ≡ Some form → AnswersWhole configuring items end (asked (made_by form.makes items (given (parts_of form) items)))
+pub whole_asks : (configuring : Bool) (items : List Item) (end : ℕ) (form : CommandForm) → 0 < length items → form_for (forms_of configuring) items ≡ Some form → AnswersWhole configuring items end (Ok (Some (made_by form.makes items (given (parts_of form) items))))
 whole_asks configuring [] end form some e = absurd (omega arith)
 whole_asks configuring (item ∷ items) end form some e = inl (asks configuring (item ∷ items) form e)

@@ -29,7 +29,7 @@ use Rattle.shell_words.specs.Item.{Item, item_in}
 use Rattle.shell_words.specs.Form.{is_of, names, given_by, parts_of, Fits, forms_of, IsIn}
 use Rattle.shell_words.specs.Number.{number_of, is_between}
 use Rattle.shell_words.specs.Made.{number_or, minutes_in, comment_in, made_by, AsksSound}
-use Rattle.shell_words.specs.Reading.{asked, AnswersWhole, Answers, IsReading, Gives}
+use Rattle.shell_words.specs.Reading.{AnswersWhole, Answers, IsReading, Gives}
 use Rattle.shell_words.proofs.FormTests.{leads, are_timed, is_unnamed, is_minutes}
 use Rattle.shell_words.proofs.FormFacts.{forms_timed}
 use Rattle.shell_words.proofs.ApartLemmas.{all_at}
@@ -212,7 +212,7 @@ minutes_sound InTen comment quit parts items words e fit = omega arith
 minutes_sound InMinutes comment quit parts items words e fit = third_time parts items words e fit
 
 -- what a form makes of a line is sound
-made_sound : (made : Makes) (parts : List Part) (items : List Item) (words : List (List ℕ)) → are_timed made parts ≡ true → ArePrintable (words_in items) → Fits parts items words → AsksSound (made_by made items words)
+made_sound : (made : Makes) (parts : List Part) (items : List Item) (words : List (List ℕ)) → are_timed made parts ≡ true → ArePrintable (words_in items) → Fits parts items words → AsksSound (Some (made_by made items words))
 made_sound (makes.Configure mode) parts items words e all fit = tt
 made_sound (makes.ShowActive form) parts items words e all fit = tt
 made_sound makes.ShowCommits parts items words e all fit = tt
@@ -232,18 +232,20 @@ made_sound (makes.Commit confirmed comment quit) parts items words e all fit = (
   minutes_sound confirmed comment quit parts items words e fit,
   comment_printable comment words (fit_printable parts items words all fit),
 )
+made_sound makes.Update parts items words e all fit = tt
 made_sound makes.Status parts items words e all fit = tt
-made_sound makes.Unserved parts items words e all fit = tt
 
-line_sound : (configuring : Bool) (items : List Item) (form : CommandForm) (words : List (List ℕ)) → IsIn configuring items form words → ArePrintable (words_in items) → AsksSound (made_by form.makes items words)
+line_sound : (configuring : Bool) (items : List Item) (form : CommandForm) (words : List (List ℕ)) → IsIn configuring items form words → ArePrintable (words_in items) → AsksSound (Some (made_by form.makes items words))
 line_sound configuring items form words line all =
     let timed = all_at (λ (each : CommandForm). are_timed each.makes (parts_of each)) (forms_of configuring) form (forms_timed configuring) line.served in
     made_sound form.makes (parts_of form) items words timed all line.fits
 
 -- what is asked is what the form makes
-asked_sound : (made other : Option Words0) → Ok made ≡ asked other → AsksSound other → AsksSound made
-asked_sound made None e sound = absurd cc
-asked_sound made (Some other) e sound = let same : Some other ≡ made = cc in subst AsksSound same sound
+abbrev answer_of : Option Words0 → Result (Option Words0) ℕ
+answer_of made = Ok made
+
+asked_sound : (made : Option Words0) (other : Words0) → answer_of made ≡ answer_of (Some other) → AsksSound (Some other) → AsksSound made
+asked_sound made other e sound = let same : Some other ≡ made = cc in subst AsksSound same sound
 
 whole_sound : (configuring : Bool) (items : List Item) (end : ℕ) (made : Option Words0) → ArePrintable (words_in items) → AnswersWhole configuring items end (Ok made) → AsksSound made
 whole_sound configuring [] end made all answers = let none : None ≡ made = cc in subst AsksSound none tt

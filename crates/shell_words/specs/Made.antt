@@ -1,5 +1,5 @@
 -- What a form makes of a line. Junos OS CLI User Guide, on the commands of operational and of configuration mode.
-use Rattle.std.specs.Prelude.{ℕ, ◌-◌, List, [], ◌∷◌, length, slice_index_or, Bool, if◌then◌else◌, Option, None, Some, unwrap_or}
+use Rattle.std.specs.Prelude.{ℕ, ◌-◌, List, [], ◌∷◌, length, slice_index_or, Bool, if◌then◌else◌, Option, Some, unwrap_or}
 use Rattle.commands.specs.declared.command.Command.{Command}
 use Rattle.commands.specs.declared.command.Command.TheVariants as command
 use Rattle.commands.specs.Sound.{IsSound}
@@ -33,26 +33,26 @@ comment_in comment words = if comment then slice_index_or words (length words - 
 abbrev pub commit_of : Confirmed → Bool → Bool → List (List ℕ) → Command
 commit_of confirmed comment quit words = command.Commit (minutes_in confirmed words) (comment_in comment words) quit
 
--- what a form makes of a line's tokens, which give these words; nothing where it isn't served
-abbrev pub made_by : Makes → List Item → List (List ℕ) → Option Words0
-made_by (makes.Configure mode) items words = Some (Whole (command.Configure mode))
-made_by (makes.ShowActive form) items words = Some (Whole (command.ShowActive words form))
-made_by makes.ShowCommits items words = Some (Whole command.ShowCommits)
-made_by makes.Logout items words = Some (Whole command.Logout)
-made_by (makes.Change verb) items words = Some (Whole (command.Change (op_of verb words)))
-made_by (makes.Move mover) items words = Some (Whole (command.Change (change_in mover items)))
-made_by makes.Edit items words = Some (Whole (command.Edit words))
-made_by makes.Up items words = Some (Whole (command.Up (number_or 1 words)))
-made_by makes.Top items words = Some (Whole command.Top)
-made_by makes.Exit items words = Some (Whole command.Exit)
-made_by makes.ExitAll items words = Some (Whole command.ExitAll)
-made_by (makes.Show form) items words = Some (Whole (command.Show words form))
-made_by (makes.Load way) items words = Some (NeedsText way)
-made_by makes.Rollback items words = Some (Whole (command.Rollback (number_or 0 words)))
-made_by makes.CheckOnly items words = Some (Whole command.CheckOnly)
-made_by (makes.Commit confirmed comment quit) items words = Some (Whole (commit_of confirmed comment quit words))
-made_by makes.Status items words = Some (Whole command.Status)
-made_by makes.Unserved items words = None
+-- what a form makes of a line's tokens, which give these words
+abbrev pub made_by : Makes → List Item → List (List ℕ) → Words0
+made_by (makes.Configure mode) items words = Whole (command.Configure mode)
+made_by (makes.ShowActive form) items words = Whole (command.ShowActive words form)
+made_by makes.ShowCommits items words = Whole command.ShowCommits
+made_by makes.Logout items words = Whole command.Logout
+made_by (makes.Change verb) items words = Whole (command.Change (op_of verb words))
+made_by (makes.Move mover) items words = Whole (command.Change (change_in mover items))
+made_by makes.Edit items words = Whole (command.Edit words)
+made_by makes.Up items words = Whole (command.Up (number_or 1 words))
+made_by makes.Top items words = Whole command.Top
+made_by makes.Exit items words = Whole command.Exit
+made_by makes.ExitAll items words = Whole command.ExitAll
+made_by (makes.Show form) items words = Whole (command.Show words form)
+made_by (makes.Load way) items words = NeedsText way
+made_by makes.Rollback items words = Whole (command.Rollback (number_or 0 words))
+made_by makes.CheckOnly items words = Whole command.CheckOnly
+made_by (makes.Commit confirmed comment quit) items words = Whole (commit_of confirmed comment quit words)
+made_by makes.Update items words = Whole command.Update
+made_by makes.Status items words = Whole command.Status
 
 -- where it is a command, the command is sound
 abbrev pub AsksSound : Option Words0 → Type 0

@@ -14,11 +14,6 @@ use Rattle.shell_words.specs.Item.{Item, item_in}
 use Rattle.shell_words.specs.Form.{IsIn, Begins}
 use Rattle.shell_words.specs.Made.{made_by}
 
--- a line that isn't served is refused whole, at its first byte
-abbrev pub asked : Option Words0 → Result (Option Words0) ℕ
-asked None = Err 0
-asked (Some made) = Ok (Some made)
-
 -- the place of the first token, or else the end
 abbrev pub first_place : List Item → ℕ → ℕ
 first_place [] end = end
@@ -33,7 +28,7 @@ pub record Asks (configuring : Bool) (items : List Item) (answer : Result (Optio
   pub form : CommandForm
   pub words : List (List ℕ)
   pub line : IsIn configuring items form words
-  pub is : answer ≡ asked (made_by form.makes items words)
+  pub is : answer ≡ Ok (Some (made_by form.makes items words))
 
 -- a line begins with so many of these tokens and with no more; the place told is that of the next token, or the end
 pub record IsMisfit (configuring : Bool) (items : List Item) (end : ℕ) (answer : Result (Option Words0) ℕ) : Type 0 where

@@ -70,9 +70,8 @@ pub(crate) enum Makes {
         comment: bool,
         quit: bool,
     },
+    Update,
     Status,
-    /// A command that isn't served yet.
-    Unserved,
 }
 
 /// One form of a line.
@@ -145,7 +144,7 @@ macro_rules! form {
 
 static OPERATIONAL: [CommandForm; 9] = [
     form!(Makes::Configure(Mode::Shared); [Configure]),
-    form!(Makes::Unserved; [Configure] [Private]),
+    form!(Makes::Configure(Mode::Private); [Configure] [Private]),
     form!(Makes::Configure(Mode::Exclusive); [Configure] [Exclusive]),
     form!(Makes::ShowActive(Form::Curly); [Show] [Configuration] [many until Pipe]),
     form!(Makes::ShowActive(Form::SetLines); [Show] [Configuration] [many until Pipe]
@@ -210,7 +209,7 @@ static CONFIGURING: [CommandForm; 43] = [
     form!(Makes::Load(LoadWay::SetLines); [Load] [verb Set] [Terminal]),
     form!(Makes::Rollback; [Rollback]),
     form!(Makes::Rollback; [Rollback] [one number 0 to 4294967295]),
-    form!(Makes::Unserved; [Update]),
+    form!(Makes::Update; [Update]),
     form!(Makes::Status; [Status]),
 ];
 

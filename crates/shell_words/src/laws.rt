@@ -1,4 +1,4 @@
-ghost use Rattle.std.specs.Prelude.{◌≡◌, ℕ, List, Bool, Option, None, Result, Ok, map};
+ghost use Rattle.std.specs.Prelude.{◌≡◌, ℕ, List, Bool, Option, None, Some, Result, Ok, map};
 ghost use Rattle.std.specs.List.{Contains};
 ghost use Rattle.commands.specs.declared.mover.Mover.{Mover};
 ghost use Rattle.cfg_lex.specs.declared.token.Token.{Token};
@@ -11,7 +11,7 @@ ghost use Rattle.shell_words.specs.declared.keyword.Keyword.TheVariants.{Mark};
 ghost use Rattle.shell_words.specs.declared.making.Words0.{Words0};
 ghost use Rattle.shell_words.specs.Made.{AsksSound, made_by};
 ghost use Rattle.shell_words.specs.Pair.{AreSides, back_words, front_words};
-ghost use Rattle.shell_words.specs.Reading.{IsReading, asked};
+ghost use Rattle.shell_words.specs.Reading.{IsReading};
 
 /// A line has one reading; a line that is in a form is read as what that form makes of it, and each form has such tokens.
 /// The words of a change of two statements are those before its mark and those behind it, of which there are some.
@@ -20,7 +20,7 @@ pub fn lines_are_read_in_one_way()
         → IsReading configuring line one → IsReading configuring line other → one ≡ other }
     ensures own_line { (configuring : Bool) (line : List ℕ) (tokens : List Token) (form : CommandForm) (words : List (List ℕ))
         → IsCut line tokens None → IsIn configuring (map (item_in line) tokens) form words
-        → IsReading configuring line (asked (made_by form.makes (map (item_in line) tokens) words)) }
+        → IsReading configuring line (Ok (Some (made_by form.makes (map (item_in line) tokens) words))) }
     ensures each_form { (configuring : Bool) (form : CommandForm) → Contains (forms_of configuring) form
         → (items : List Item) × (words : List (List ℕ)) × Fits (parts_of form) items words }
     ensures two_sides { (configuring : Bool) (items : List Item) (form : CommandForm) (words : List (List ℕ)) (mover : Mover)

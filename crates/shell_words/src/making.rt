@@ -1,6 +1,6 @@
 //! What a form makes of the tokens of a line of it.
 
-ghost use Rattle.std.specs.Prelude.{◌≡◌, IfOk, Some};
+ghost use Rattle.std.specs.Prelude.{◌≡◌, IfOk};
 ghost use Rattle.shell_words.specs.declared.making.Words0.TheVariants.{Whole};
 ghost use Rattle.shell_words.specs.Form.{parts_of};
 ghost use Rattle.shell_words.specs.Made.{comment_in, commit_of, made_by, minutes_in, number_or};
@@ -83,18 +83,18 @@ fn commit_of(
     })
 }
 
-fn whole(command: Command) -> Option<Words0>
-    ensures { result ≡ Some (Whole command) }
+fn whole(command: Command) -> Words0
+    ensures { result ≡ Whole command }
 {
-    Some(Words0::Whole(command))
+    Words0::Whole(command)
 }
 
-/// What a form makes of the tokens of a line of it; nothing where it isn't served.
+/// What a form makes of the tokens of a line of it.
 pub(crate) fn made_by(
     alloc: Global,
     form: &CommandForm,
     items: &[Item<'_>],
-) -> Result<Option<Words0>, NoMemory>
+) -> Result<Words0, NoMemory>
     ensures { IfOk result (λ made. made ≡ made_by form.now.makes items.now (given (parts_of form.now) items.now)) }
 {
     match form.makes {
@@ -119,7 +119,7 @@ pub(crate) fn made_by(
             let words = words_of(alloc, form, items)?;
             Ok(whole(Command::Show { words, form: shown }))
         }
-        Makes::Load(way) => Ok(Some(Words0::NeedsText(way))),
+        Makes::Load(way) => Ok(Words0::NeedsText(way)),
         Makes::Rollback => {
             let words = words_of(alloc, form, items)?;
             Ok(whole(Command::Rollback(number_or(0, &words))))
@@ -133,7 +133,7 @@ pub(crate) fn made_by(
             let words = words_of(alloc, form, items)?;
             Ok(whole(commit_of(alloc, confirmed, comment, quit, &words)?))
         }
+        Makes::Update => Ok(whole(Command::Update)),
         Makes::Status => Ok(whole(Command::Status)),
-        Makes::Unserved => Ok(None),
     }
 }

@@ -4,7 +4,7 @@ ghost use Rattle.std.specs.Prelude.{◌≡◌, IfOk, drop, length};
 ghost use Rattle.shell_words.specs.declared.reader.ReadFault.TheVariants.{NoMemory};
 ghost use Rattle.shell_words.specs.Form.{forms_of};
 ghost use Rattle.shell_words.specs.Made.{AsksSound};
-ghost use Rattle.shell_words.specs.Reading.{Answers, AnswersWhole, Gives, IsReading, asked, capped, first_place, place_of};
+ghost use Rattle.shell_words.specs.Reading.{Answers, AnswersWhole, Gives, IsReading, capped, first_place, place_of};
 ghost use Rattle.shell_words.specs.Walk.{furthest};
 
 use crate::form::forms_of;
@@ -72,16 +72,6 @@ fn misfit(configuring: bool, items: &[Item<'_>], end: usize) -> ReadFault
     syntax(first_place(&items[count..], end))
 }
 
-/// A line that isn't served is refused at its first byte.
-fn asked(made: Option<Words0>) -> Result<Option<Words0>, ReadFault>
-    ensures { Gives (λ answer. answer ≡ asked made) result }
-{
-    match made {
-        Some(made) => Ok(Some(made)),
-        None => Err(ReadFault::Syntax(0)),
-    }
-}
-
 /// What these tokens ask, which are all of a line.
 fn read_whole(
     alloc: Global,
@@ -97,7 +87,7 @@ fn read_whole(
     match form_for(forms_of(configuring), items) {
         None => Err(misfit(configuring, items, end)),
         Some(form) => match made_by(alloc, &form, items) {
-            Ok(made) => asked(made),
+            Ok(made) => Ok(Some(made)),
             Err(_) => Err(ReadFault::NoMemory),
         },
     }

@@ -1,12 +1,13 @@
-use Rattle.std.proofs.Common.{◌≡◌, ◌<◌, length, List, [], ◌∷◌, Bool, false, eqb, None, Some, Err, sym, ap, subst, ◌∙◌, arith}
+use Rattle.std.proofs.Common.{◌≡◌, ◌<◌, length, List, [], ◌∷◌, Bool, false, eqb, None, Some, Ok, Err, sym, ap, subst, ◌∙◌, arith}
 use Rattle.std.proofs.lemmas.Bool.{false≢true}
+use Rattle.shell_words.specs.declared.making.Words0.{Words0}
 use Rattle.shell_words.specs.Item.{Item}
 use Rattle.shell_words.specs.declared.reader.ReadFault.{ReadFault}
 use Rattle.shell_words.specs.Form.{parts_of, forms_of}
 use Rattle.shell_words.specs.Walk.{given, form_for}
 use Rattle.shell_words.specs.Made.{made_by}
-use Rattle.shell_words.specs.Reading.{asked, AnswersWhole, Gives}
-use Rattle.shell_words.proofs.ReadingLemmas.{whole_misfit, whole_asks, gives_also}
+use Rattle.shell_words.specs.Reading.{AnswersWhole, Gives}
+use Rattle.shell_words.proofs.ReadingLemmas.{whole_misfit, whole_asks}
 use Rattle.shell_words.proofs.reader.read_whole.Goals as goal
 
 -- there is one at least
@@ -29,5 +30,4 @@ returns-in-Ok c =
     ap (λ forms. form_for forms c.args.items.now) (sym c.forms_of.ensures) ∙ sym c.form_for.ensures ∙ c.in-Some.is in
     let found = whole_asks c.args.configuring c.args.items.now c.args.end c.in-Some.form some is in
     let made : c.in-Ok.made ≡ made_by c.in-Some.form.makes c.args.items.now (given (parts_of c.in-Some.form) c.args.items.now) = c.in-Ok.ensures in
-    gives_also (λ answer. answer ≡ asked c.in-Ok.made) (AnswersWhole c.args.configuring c.args.items.now c.args.end)
-    (λ answer is_asked. subst (AnswersWhole c.args.configuring c.args.items.now c.args.end) (sym (is_asked ∙ ap asked made)) found) c.asked.result c.asked.ensures
+    subst (λ (made : Words0). AnswersWhole c.args.configuring c.args.items.now c.args.end (Ok (Some made))) (sym made) found
