@@ -1,0 +1,78 @@
+//! The modes that begin with two disks.
+
+ghost use Rattle.std.specs.Prelude.{◌≡◌};
+ghost use Rattle.commit_journal.specs.Journal.{disk_a, disk_b};
+ghost use Rattle.modes.specs.Modes.{IsCheck, IsInit, status_of};
+ghost use Rattle.modes.specs.declared.did.StartWhy0.TheVariants.{None as NoWhy, Why};
+
+use crate::did::{Did, StartWhy0};
+use crate::telling::tell;
+use crate::text::check_text;
+use cfg_base::{Limits, NoMemory};
+use disk_model::Disk;
+use io_edge::Sink;
+use std::alloc::Global;
+use stored_ledger::{StartFault, StartWhy, Stored};
+
+/// The status of a refused start.
+fn status_of(why: StartWhy) -> u8
+    ensures { result ≡ status_of why }
+{
+    match why {
+        StartWhy::NotAJournal => 2,
+        StartWhy::Damaged { .. } => 3,
+        StartWhy::DiskFault => 4,
+        StartWhy::Exists => 8,
+        StartWhy::NoMemory => 9,
+        StartWhy::BadRecord { .. } => 10,
+    }
+}
+
+/// A mode whose start was refused.
+fn refused<D>(fault: StartFault<D>) -> Did<D>
+    ensures { result ≡ record { status = status_of fault.why; why = Why fault.why; a = fault.a; b = fault.b } }
+{
+    Did {
+        status: status_of(fault.why),
+        why: StartWhy0::Why(fault.why),
+        a: fault.a,
+        b: fault.b,
+    }
+}
+
+/// A mode that ends with this status, over a list that was made or found.
+fn ended<D: Disk>(status: u8, stored: Stored<D>) -> Did<D>
+    ensures { result ≡ record { status = status; why = NoWhy; a = disk_a stored.journal; b = disk_b stored.journal } }
+{
+    let Stored { journal, ledger: _ } = stored;
+    let (a, b) = journal.into_disks();
+    Did {
+        status,
+        why: StartWhy0::None,
+        a,
+        b,
+    }
+}
+
+/// Makes a list of the factory commit alone on two disks, and tells it.
+pub fn init<K: Sink, D: Disk>(alloc: Global, sink: &mut K, a: D, b: D, limits: Limits) -> Did<D>
+    ensures { IsInit K.held K.faults D.tells D.history D.faults sink.old sink.new a b result }
+{
+    match Stored::create(alloc, a, b, limits) {
+        Ok(stored) => ended(tell(sink, b"journal created\n"), stored),
+        Err(fault) => refused(fault),
+    }
+}
+
+/// Tells what the list on two disks has, and leaves their contents as they were.
+pub fn check<K: Sink, D: Disk>(alloc: Global, sink: &mut K, a: D, b: D, limits: Limits) -> Did<D>
+    ensures { IsCheck K.held K.faults D.tells D.history D.faults sink.old sink.new a b result }
+{
+    match Stored::open(alloc, a, b, limits) {
+        Ok(stored) => match check_text(alloc, &stored.ledger) {
+            Ok(text) => ended(tell(sink, text.as_slice()), stored),
+            Err(NoMemory) => ended(9, stored),
+        },
+        Err(fault) => refused(fault),
+    }
+}

@@ -1,0 +1,3 @@
+mod SoundLemmas
+mod StoredLemmas
+mod CauseLemmas
