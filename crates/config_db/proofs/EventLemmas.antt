@@ -1,0 +1,197 @@
+-- One event of the database, put together: it stays a book, and the event is what is told.
+use Rattle.std.proofs.Common.{◌≡◌, ◌≤◌, ℕ, Bool, true, List, [], ◌∷◌, ◌++◌, refl, sym, ap, subst, ◌∙◌, inl, inr, Option, None, Some, is_some}
+use Rattle.std.specs.Prelude.{IfSome, IsSome}
+use Rattle.cfg_base.specs.declared.calls.Calls.{Calls}
+use Rattle.disk_model.specs.Disk.{History, IsImage, state_of}
+use Rattle.record_code.specs.Record.{Record}
+use Rattle.commit_check.specs.Accepts.{Accepts}
+use Rattle.commit_ledger.specs.Payload.{entry_record}
+use Rattle.commit_ledger.specs.Reading.{ReadsAs}
+use Rattle.commit_ledger.specs.Rules.{IsEntry, Follows as EntryFollows}
+use Rattle.commit_ledger.proofs.ReadingLemmas.{appended_is_read}
+use Rattle.commit_ledger.specs.Kept.{Kept, append_entry}
+use Rattle.commit_journal.specs.Journal.{JournalView, LeavesBoth, Tell, a_of, b_of}
+use Rattle.commit_journal.specs.Pair.{SpellsEither, WasLeft}
+use Rattle.config_core.specs.declared.event.Event.{Event}
+use Rattle.config_core.specs.declared.event.Event.TheVariants.{Settle}
+use Rattle.config_core.specs.declared.event.Outcome.{Outcome}
+use Rattle.config_core.specs.declared.event.Outcome.TheVariants.{Done, Fault}
+use Rattle.config_core.specs.declared.reply.Reply.{Reply}
+use Rattle.config_core.specs.Machine.{Fits, Steps}
+use Rattle.config_core.specs.Plan.{Plan, made_in}
+use Rattle.config_core.specs.Prepared.{IsPrepared, applied, ended, replied}
+use Rattle.config_core.specs.Serving.{Turned}
+use Rattle.config_core.specs.Soundness.{IsSoundMade}
+use Rattle.config_core.specs.State.{State, Made}
+use Rattle.session_history.specs.declared.history.Happened.{Happened}
+use Rattle.session_history.specs.Events.{Leads, is_command}
+use Rattle.config_db.specs.View.{DatabaseView, IsSameRun, opened}
+use Rattle.config_db.specs.Numbers.{AreAtMost, calls_of, no_calls}
+use Rattle.config_db.specs.Crash.{CountsOn, IsSafeWhile, Spelt}
+use Rattle.config_db.specs.Disks.{GoesOn}
+use Rattle.config_db.specs.Writing.{IsFound, IsWritten, flight_after, kept_after, records_after}
+use Rattle.config_db.specs.Book.{IsBook, Stands}
+use Rattle.config_db.specs.Moves.{Happens, IsUnsettled, Turns, noted}
+use Rattle.config_db.proofs.DiskLemmas.{goes_nowhere, tell_each, tell_since}
+use Rattle.config_db.proofs.NumberLemmas.{rising_more}
+use Rattle.config_db.proofs.SafeLemmas.{appends_safe, noted_safe, settles_safe}
+use Rattle.config_db.proofs.MachineLemmas.{Leaves, flying, free_steps, free_turns, kept_settled, made_follows, made_is_sound, plan_leaves, put_off_leaves, put_off_turns, settling_fits, settling_leaves, settling_turns}
+use Rattle.config_db.proofs.BookLemmas.{book_after, book_unsettled, stands_found, stands_unfound, stands_written}
+
+-- the database behind an event
+abbrev pub next : {D : Type 0} → DatabaseView D → JournalView D → List Happened → State → DatabaseView D
+next v j' events' s' = record { journal = j'; opening = v.opening; users = v.users; events = events'; state = s' }
+
+pub next_same : {D : Type 0} (v : DatabaseView D) (j' : JournalView D) (events' : List Happened) → j' ≡ v.journal → events' ≡ v.events → next v j' events' v.state ≡ v
+next_same v j' events' same_journal same_events = ap (λ j. next v j events' v.state) same_journal ∙ ap (λ es. next v v.journal es v.state) same_events
+
+none_done : (made : Option Made) (outcome : Outcome) → outcome ≡ Done → flight_after made outcome ≡ None
+none_done None outcome is = refl
+none_done (Some made) Done is = refl
+none_done (Some made) Fault is = absurd (cc)
+
+some_failed : (made : Option Made) (outcome : Outcome) → (made ≡ None → outcome ≡ Done) → outcome ≡ Fault → IsSome (flight_after made outcome)
+some_failed None outcome calm is = absurd (let done = calm refl in cc)
+some_failed (Some made) Done calm is = absurd (cc)
+some_failed (Some made) Fault calm is = refl
+
+-- what came of an event
+pub record Comes {D : Type 0} (tells : D → Bool) (history : D → History) (faults : D → ℕ) (caller moment : ℕ) (event : Event) (outcome : Outcome) (reply : Reply) (v v' : DatabaseView D) : Type 0 where
+  pub book : IsBook tells history v'
+  pub happens : Happens tells faults caller moment event outcome reply v v'
+
+module _ {D : Type 0} (tells : D → Bool) (history : D → History) (faults : D → ℕ) (v : DatabaseView D) (book : IsBook tells history v)
+    (one_state : (events : List Happened) (s t : State) → Leads (opened v) events s → Leads (opened v) events t → s ≡ t) where
+  -- the crash theorem behind an event, from what a crash may leave once it has come
+  abbrev Safe : JournalView D → Happened → State → Type 0
+  Safe j' e s' = Leads (opened v) (v.events ++ e ∷ []) s'
+      → ((c d : List ℕ) → Tell tells j' → IsImage (state_of (a_of history j')) c → IsImage (state_of (b_of history j')) d → Spelt s' None c d)
+      → Tell tells j' → IsSafeWhile (opened v) (v.events ++ e ∷ []) (calls_of j') (a_of history j') (b_of history j')
+
+  -- calls that only settled
+  settles : (j' : JournalView D) → GoesOn tells faults v.journal j' → CountsOn tells history v.journal j' → (Tell tells v.journal → LeavesBoth history v.journal j' (WasLeft (a_of history v.journal) (b_of history v.journal)))
+      → Tell tells j' → IsSafeWhile (opened v) v.events (calls_of j') (a_of history j') (b_of history j')
+  settles j' goes counts left t' =
+      let t = tell_since tells faults v.journal j' goes t' in
+      let each = tell_each tells v.journal t in
+      settles_safe (opened v) one_state v.events (calls_of v.journal) (calls_of j') (a_of history v.journal) (b_of history v.journal) (a_of history j') (b_of history j') (counts.told_a each.0) (counts.told_b each.1)
+      book.rising (book.safe t) (left t)
+
+  -- an event behind calls that only settled, or behind none
+  notes : (j' : JournalView D) (e : Happened) (s' : State) → AreAtMost (calls_of v.journal) (calls_of j') → e.calls ≡ calls_of j' → (Tell tells j' → IsSafeWhile (opened v) v.events (calls_of j') (a_of history j') (b_of history j'))
+      → Safe j' e s'
+  notes j' e s' later told so_far leads now t few_a few_b =
+      noted_safe (opened v) one_state v.events (calls_of j') (a_of history j') (b_of history j') (rising_more no_calls v.events (calls_of v.journal) (calls_of j') later book.rising) (so_far t few_a few_b)
+      v.state s' e told book.leads leads (λ c d in_a in_b. now c d t in_a in_b)
+
+  -- the list from before an append, with the entry that the event makes or without
+  either_spelt : (kept : Kept) (e : Happened) (turned : Turned) (made : Option Made) (rs : List Record) (c d : List ℕ) → kept ≡ v.state.kept → turned.made ≡ made → Steps v.state e.caller e.moment e.event e.outcome turned
+      → ReadsAs Accepts rs kept → IfSome made (λ m. IsEntry Accepts m.entry) → IfSome made (λ m. EntryFollows kept m.entry) → SpellsEither rs (records_after rs made Done) c d → Spelt v.state (Some e) c d
+  either_spelt kept e turned None rs c d is makes steps reads entry follows (inl old) = inl (rs, old, subst (ReadsAs Accepts rs) is reads)
+  either_spelt kept e turned None rs c d is makes steps reads entry follows (inr old) = inl (rs, old, subst (ReadsAs Accepts rs) is reads)
+  either_spelt kept e turned (Some m) rs c d is makes steps reads entry follows (inl old) = inl (rs, old, subst (ReadsAs Accepts rs) is reads)
+  either_spelt kept e turned (Some m) rs c d is makes steps reads entry follows (inr new) =
+      inr (m, inr (turned, steps, makes), (rs ++ entry_record m.entry ∷ [], new, subst (λ k. ReadsAs Accepts (rs ++ entry_record m.entry ∷ []) (append_entry k m.entry)) is (appended_is_read Accepts rs kept m.entry reads entry follows)))
+
+  -- from what the machine and the journal did
+  comes : (j' : JournalView D) (events' : List Happened) (s' : State) (caller moment : ℕ) (event : Event) (outcome : Outcome) (reply : Reply) (calls : Calls) (kept : Kept) (flight : Option Made)
+      → calls ≡ calls_of j' → events' ≡ v.events ++ noted caller moment event outcome calls ∷ [] → Turns v.state caller moment event outcome reply s' → Leaves v.state s' kept flight
+      → Stands tells history j' kept flight → GoesOn tells faults v.journal j' → (outcome ≡ Done → flight ≡ None) → (outcome ≡ Fault → IsSome flight)
+      → Safe j' (noted caller moment event outcome (calls_of j')) s'
+      → Comes tells history faults caller moment event outcome reply v (next v j' events' s')
+  comes j' events' s' caller moment event outcome reply calls kept flight told grown turns leaves stands goes done failed safe =
+      let grown' : events' ≡ v.events ++ noted caller moment event outcome (calls_of j') ∷ [] = grown ∙ ap (λ c. v.events ++ noted caller moment event outcome c ∷ []) told in
+      let same : IsSameRun v (next v j' events' s') = record { opening = refl; users = refl } in
+      record {
+        book = book_after tells history faults v (next v j' events' s') caller moment event outcome reply kept flight book turns leaves grown' same goes.calls stands safe;
+        happens = record {
+          turns = turns;
+          grown = grown';
+          same = same;
+          goes = goes;
+          done = λ is. leaves.flight_is ∙ done is;
+          failed = λ is. ap is_some leaves.flight_is ∙ failed is;
+        };
+      }
+
+  -- an event with nothing in flight
+  pub carried : (j' : JournalView D) (events' : List Happened) (s' : State) (caller moment : ℕ) (event : Event) (outcome : Outcome) (reply : Reply) (calls : Calls) (plan : Plan)
+      → v.state.flight ≡ None → Fits v.state caller moment event → IsPrepared v.state caller moment event plan
+      → IsWritten tells history faults (made_in plan.effect) outcome v.journal j' → calls ≡ calls_of j' → s' ≡ applied plan outcome v.state → reply ≡ replied plan.effect plan.reply outcome
+      → events' ≡ v.events ++ noted caller moment event outcome calls ∷ [] → Comes tells history faults caller moment event outcome reply v (next v j' events' s')
+  carried j' events' s' caller moment event outcome reply calls plan free fits prepared written told is replies grown =
+      let turned = free_turns v.state caller moment event plan outcome free fits prepared written.calm in
+      comes j' events' s' caller moment event outcome reply calls (kept_after v.state.kept (made_in plan.effect) outcome) (flight_after (made_in plan.effect) outcome) told grown
+      (subst (λ t. Turns v.state caller moment event outcome reply t) (sym is) (subst (λ r. Turns v.state caller moment event outcome r (applied plan outcome v.state)) (sym replies) turned))
+      (subst (λ t. Leaves v.state t (kept_after v.state.kept (made_in plan.effect) outcome) (flight_after (made_in plan.effect) outcome)) (sym is) (plan_leaves plan outcome v.state free written.calm))
+      (stands_written tells history faults v.journal j' v.state.kept (made_in plan.effect) outcome before written follows)
+      written.goes (none_done (made_in plan.effect) outcome) (some_failed (made_in plan.effect) outcome written.calm) safe
+    where
+      before : Stands tells history v.journal v.state.kept None
+      before = subst (λ f. Stands tells history v.journal v.state.kept f) free book.stands
+
+      follows : IfSome (made_in plan.effect) (λ m. EntryFollows v.state.kept m.entry)
+      follows = made_follows v.state.kept moment (made_in plan.effect) (made_is_sound v.state caller moment event plan book.sound free fits prepared)
+
+      safe : Safe j' (noted caller moment event outcome (calls_of j')) s'
+      safe leads now t' =
+          let t = tell_since tells faults v.journal j' written.goes t' in
+          let each = tell_each tells v.journal t in
+          appends_safe (opened v) one_state v.events (calls_of v.journal) (calls_of j') (a_of history v.journal) (b_of history v.journal) (a_of history j') (b_of history j') (written.counts.told_a each.0) (written.counts.told_b each.1)
+          book.rising (book.safe t) v.state s' (noted caller moment event outcome (calls_of j')) (SpellsEither before.records (records_after before.records (made_in plan.effect) Done)) refl book.leads leads (book.at_rest free)
+          (written.crash before.records before.holds t)
+          (λ c d. either_spelt v.state.kept (noted caller moment event outcome (calls_of j')) (ended plan outcome v.state) (made_in plan.effect) before.records c d refl refl (free_steps v.state caller moment event plan outcome free fits prepared written.calm) before.reads written.entry follows)
+          (λ c d in_a in_b. now c d t' in_a in_b)
+
+  module _ (some : IsSome v.state.flight) where
+    made : Made
+    made = (flying v.state.flight some).0
+
+    is_made : v.state.flight ≡ Some made
+    unfolding made
+    is_made = (flying v.state.flight some).1
+
+    here : Stands tells history v.journal v.state.kept (Some made)
+    here = subst (λ f. Stands tells history v.journal v.state.kept f) is_made book.stands
+
+    made_sound : IsSoundMade v.state.kept v.state.greatest made
+    made_sound = subst (λ f. IfSome f (IsSoundMade v.state.kept v.state.greatest)) is_made book.sound.flight
+
+    -- a settling
+    pub settled_so : (j' : JournalView D) (events' : List Happened) (s' : State) (caller moment : ℕ) (is_kept : Bool) (reply : Reply) (calls : Calls) (plan : Plan)
+        → v.state.greatest ≤ moment → IsPrepared v.state caller moment (Settle is_kept) plan
+        → IsFound tells history faults (Some is_kept) v.journal j' → calls ≡ calls_of j' → s' ≡ applied plan Done v.state → reply ≡ replied plan.effect plan.reply Done
+        → events' ≡ v.events ++ noted caller moment (Settle is_kept) Done calls ∷ [] → Comes tells history faults caller moment (Settle is_kept) Done reply v (next v j' events' s')
+    settled_so j' events' s' caller moment is_kept reply calls plan no_earlier prepared found told is replies grown =
+        let turned = settling_turns v.state caller moment is_kept plan made is_made (settling_fits v.state caller moment is_kept some no_earlier) prepared in
+        let leaves = settling_leaves v.state caller moment is_kept turned.turned made is_made turned.steps in
+        comes j' events' s' caller moment (Settle is_kept) Done reply calls (kept_settled v.state.kept made is_kept) None told grown
+        (subst (λ t. Turns v.state caller moment (Settle is_kept) Done reply t) (sym is) (subst (λ r. Turns v.state caller moment (Settle is_kept) Done r (applied plan Done v.state)) (sym replies) turned))
+        (subst (λ t. Leaves v.state t (kept_settled v.state.kept made is_kept) None) (sym (is ∙ turned.state)) leaves)
+        (stands_found tells history faults v.journal j' v.state.kept made is_kept here found (made_follows v.state.kept v.state.greatest (Some made) made_sound))
+        found.goes (λ done. refl) (λ failed. absurd (cc))
+        (notes j' (noted caller moment (Settle is_kept) Done (calls_of j')) s' found.goes.calls refl (settles j' found.goes found.counts found.crash))
+
+    -- a settling that failed
+    pub unsettled_book : (j' : JournalView D) → IsFound tells history faults None v.journal j' → IsBook tells history (next v j' v.events v.state)
+    unsettled_book j' found =
+        book_unsettled tells history faults v j' book some found.goes.calls
+        (subst (λ f. Stands tells history j' v.state.kept f) (sym is_made) (stands_unfound tells history faults v.journal j' v.state.kept made here found))
+        (settles j' found.goes found.counts found.crash)
+
+    pub unsettled_so : (j' : JournalView D) → IsFound tells history faults None v.journal j' → IsUnsettled tells faults v (next v j' v.events v.state)
+    unsettled_so j' found = record { state = refl; events = refl; same = record { opening = refl; users = refl }; goes = found.goes; rose = found.cause refl }
+
+    -- a command while an entry is in flight
+    pub put_off_so : (events' : List Happened) (s' : State) (caller moment : ℕ) (event : Event) (reply : Reply) (calls : Calls) (plan : Plan)
+        → is_command event ≡ true → Fits v.state caller moment event → IsPrepared v.state caller moment event plan
+        → calls ≡ calls_of v.journal → s' ≡ applied plan Fault v.state → reply ≡ replied plan.effect plan.reply Fault
+        → events' ≡ v.events ++ noted caller moment event Fault calls ∷ [] → Comes tells history faults caller moment event Fault reply v (next v v.journal events' s')
+    put_off_so events' s' caller moment event reply calls plan asks fits prepared told is replies grown =
+        let turned = put_off_turns v.state caller moment event plan made asks is_made fits prepared in
+        let leaves = put_off_leaves v.state caller moment event turned.turned made asks is_made turned.steps in
+        comes v.journal events' s' caller moment event Fault reply calls v.state.kept v.state.flight told grown
+        (subst (λ t. Turns v.state caller moment event Fault reply t) (sym is) (subst (λ r. Turns v.state caller moment event Fault r (applied plan Fault v.state)) (sym replies) turned))
+        (subst (λ t. Leaves v.state t v.state.kept v.state.flight) (sym (is ∙ turned.state)) leaves)
+        book.stands (goes_nowhere tells faults v.journal) (λ done. absurd (cc)) (λ failed. some)
+        (notes v.journal (noted caller moment event Fault (calls_of v.journal)) s' (goes_nowhere tells faults v.journal).calls refl book.safe)

@@ -1,0 +1,12 @@
+mod NumberLemmas
+mod SpanLemmas
+mod CrashLemmas
+mod SafeLemmas
+mod DiskLemmas
+mod WritingLemmas
+mod MachineLemmas
+mod BookLemmas
+mod EventLemmas
+mod MoveLemmas
+mod AnswerLemmas
+mod ClosingLemmas

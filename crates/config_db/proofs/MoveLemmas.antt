@@ -1,0 +1,91 @@
+-- Events of one caller at one moment, one behind another.
+use Rattle.std.proofs.Common.{◌≡◌, ℕ, Bool, List, [], ◌∷◌, ◌++◌, refl, sym, ap, ◌∙◌, append_assoc}
+use Rattle.std.specs.List.{AllByRecursion}
+use Rattle.std.proofs.lemmas.List.{append-nil}
+use Rattle.config_core.specs.declared.event.Event.{Event}
+use Rattle.config_core.specs.declared.event.Outcome.{Outcome}
+use Rattle.config_core.specs.declared.event.Outcome.TheVariants.{Fault}
+use Rattle.config_core.specs.declared.reply.Reply.{Reply}
+use Rattle.session_history.specs.declared.history.Happened.{Happened}
+use Rattle.session_history.proofs.EventLemmas.{Leads-append}
+use Rattle.config_db.specs.View.{DatabaseView, IsSameRun}
+use Rattle.config_db.specs.Numbers.{calls_of}
+use Rattle.config_db.specs.Disks.{FaultRose, GoesOn}
+use Rattle.config_db.specs.Moves.{Extends, Happens, HasCause, IsOf, IsUnsettled, noted}
+use Rattle.config_db.proofs.DiskLemmas.{goes_further, goes_nowhere, rose_first, rose_last}
+use Rattle.config_db.proofs.BookLemmas.{turn_leads}
+
+pub All-append : {A : Type 0} → (P : A → Type 0) (xs ys : List A) → AllByRecursion P xs → AllByRecursion P ys → AllByRecursion P (xs ++ ys)
+All-append P [] ys front back = back
+All-append P (x ∷ xs) ys front back = (front.0, All-append P xs ys front.1 back)
+
+All-map : {A : Type 0} → (P Q : A → Type 0) (xs : List A) → ((x : A) → P x → Q x) → AllByRecursion P xs → AllByRecursion Q xs
+All-map P Q [] to all = tt
+All-map P Q (x ∷ xs) to all = (to x all.0, All-map P Q xs to all.1)
+
+module _ {D : Type 0} (tells : D → Bool) (faults : D → ℕ) (caller moment : ℕ) where
+  same_run : (u v w : DatabaseView D) → IsSameRun u v → IsSameRun v w → IsSameRun u w
+  same_run u v w first next = record { opening = next.opening ∙ first.opening; users = next.users ∙ first.users }
+
+  -- nothing happened
+  pub extends_none : (v : DatabaseView D) → Extends tells faults caller moment [] v v
+  extends_none v = record {
+    leads = refl;
+    grown = sym (append-nil v.events);
+    made = tt;
+    causes = tt;
+    same = record { opening = refl; users = refl };
+    goes = goes_nowhere tells faults v.journal;
+  }
+
+  -- a settling failed
+  pub extends_unsettled : (v v' : DatabaseView D) → IsUnsettled tells faults v v' → Extends tells faults caller moment [] v v'
+  extends_unsettled v v' un = record {
+    leads = un.state;
+    grown = un.events ∙ sym (append-nil v.events);
+    made = tt;
+    causes = tt;
+    same = un.same;
+    goes = un.goes;
+  }
+
+  causes_first : (u v w : DatabaseView D) (own : List Happened) → AllByRecursion (HasCause faults u.journal v.journal) own → GoesOn tells faults v.journal w.journal
+      → AllByRecursion (HasCause faults u.journal w.journal) own
+  causes_first u v w own causes on =
+      All-map (HasCause faults u.journal v.journal) (HasCause faults u.journal w.journal) own (λ e cause is. rose_first tells faults u.journal v.journal w.journal (cause is) on) causes
+
+  causes_last : (u v w : DatabaseView D) (own : List Happened) → GoesOn tells faults u.journal v.journal → GoesOn tells faults v.journal w.journal → AllByRecursion (HasCause faults v.journal w.journal) own
+      → AllByRecursion (HasCause faults u.journal w.journal) own
+  causes_last u v w own on more causes =
+      All-map (HasCause faults v.journal w.journal) (HasCause faults u.journal w.journal) own (λ e cause is. rose_last tells faults u.journal v.journal w.journal on more (cause is)) causes
+
+  -- one event more
+  pub extends_event : (u v w : DatabaseView D) (own : List Happened) (event : Event) (outcome : Outcome) (reply : Reply) → Extends tells faults caller moment own u v
+      → Happens tells faults caller moment event outcome reply v w → (outcome ≡ Fault → FaultRose faults u.journal w.journal)
+      → Extends tells faults caller moment (own ++ noted caller moment event outcome (calls_of w.journal) ∷ []) u w
+  extends_event u v w own event outcome reply before happens cause =
+      let e : Happened = noted caller moment event outcome (calls_of w.journal) in
+      record {
+        leads = Leads-append u.state own (e ∷ []) v.state w.state before.leads (turn_leads v.state w.state caller moment event outcome reply (calls_of w.journal) happens.turns);
+        grown = happens.grown ∙ ap (λ l. l ++ e ∷ []) before.grown ∙ append_assoc u.events own (e ∷ []);
+        made = All-append (IsOf caller moment) own (e ∷ []) before.made ((refl, refl), tt);
+        causes = All-append (HasCause faults u.journal w.journal) own (e ∷ []) (causes_first u v w own before.causes happens.goes) (cause, tt);
+        same = same_run u v w before.same happens.same;
+        goes = goes_further tells faults u.journal v.journal w.journal before.goes happens.goes;
+      }
+
+  pub extends_one : (v w : DatabaseView D) (event : Event) (outcome : Outcome) (reply : Reply) → Happens tells faults caller moment event outcome reply v w
+      → (outcome ≡ Fault → FaultRose faults v.journal w.journal) → Extends tells faults caller moment (noted caller moment event outcome (calls_of w.journal) ∷ []) v w
+  extends_one v w event outcome reply happens cause = extends_event v v w [] event outcome reply (extends_none v) happens cause
+
+  -- events, and then more
+  pub extends_more : (u v w : DatabaseView D) (own more : List Happened) → Extends tells faults caller moment own u v → Extends tells faults caller moment more v w
+      → Extends tells faults caller moment (own ++ more) u w
+  extends_more u v w own more first next = record {
+    leads = Leads-append u.state own more v.state w.state first.leads next.leads;
+    grown = next.grown ∙ ap (λ l. l ++ more) first.grown ∙ append_assoc u.events own more;
+    made = All-append (IsOf caller moment) own more first.made next.made;
+    causes = All-append (HasCause faults u.journal w.journal) own more (causes_first u v w own first.causes next.goes) (causes_last u v w more first.goes next.goes next.causes);
+    same = same_run u v w first.same next.same;
+    goes = goes_further tells faults u.journal v.journal w.journal first.goes next.goes;
+  }

@@ -1,0 +1,13 @@
+use Rattle.std.proofs.Common.{Some, refl, subst}
+use Rattle.session_history.specs.declared.history.History.{History}
+use Rattle.config_db.specs.Closing.{IsHandedBack}
+use Rattle.config_db.proofs.ClosingLemmas.{handed_back}
+use Rattle.config_db.proofs.database.Database.hand_back.Goals as goal
+
+pub returns-clause-back : goal.returns-clause-back
+returns-clause-back g c =
+    let i = c.self.inside in
+    let happened : History = record { opening = Some i.opening; users = i.users; made = c.calls-made.result; events = i.events } in
+    subst (λ v. IsHandedBack g.D.Disk.tells g.D.Disk.history v happened c.into_disks-a.result.0 c.into_disks-a.result.1) c.self.view_is
+    (handed_back g.D.Disk.tells g.D.Disk.history g.D.Disk.faults (record { journal = i.journal; opening = i.opening; users = i.users; events = i.events.items; state = i.core }) happened c.into_disks-a.result.0 c.into_disks-a.result.1
+    c.histories_stay_accepted.ensures c.self.invariant.0 refl refl refl c.calls-made.ensures.a c.calls-made.ensures.b c.into_disks-a.ensures.a c.into_disks-a.ensures.b)

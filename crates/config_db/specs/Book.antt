@@ -1,0 +1,50 @@
+-- What is always true of a database: its events lead to its state, and its journal holds what the state keeps.
+use Rattle.std.specs.Prelude.{◌≡◌, Bool, List, length, Option, None, IfSome}
+use Rattle.disk_model.specs.Disk.{History}
+use Rattle.record_code.specs.Record.{Record}
+use Rattle.commit_check.specs.Accepts.{Accepts}
+use Rattle.commit_ledger.specs.Kept.{Kept}
+use Rattle.commit_ledger.specs.Reading.{ReadsAs}
+use Rattle.commit_ledger.specs.Rules.{IsEntry}
+use Rattle.commit_journal.specs.Journal.{JournalView, Tell, a_of, b_of}
+use Rattle.config_core.specs.Soundness.{IsSoundKept, IsSoundState}
+use Rattle.config_core.specs.State.{Made}
+use Rattle.session_history.specs.Events.{Leads}
+use Rattle.config_db.specs.View.{DatabaseView, opened}
+use Rattle.config_db.specs.Numbers.{AreRising, calls_of, no_calls}
+use Rattle.config_db.specs.Crash.{IsSafeWhile, last_calls}
+use Rattle.config_db.specs.Disks.{Holds}
+use Rattle.config_db.specs.Writing.{record_in}
+
+-- the journal holds records that are read as what is kept, and the entry in flight is its record in flight
+pub record Stands {D : Type 0} (tells : D → Bool) (history : D → History) (j : JournalView D) (kept : Kept) (flight : Option Made) : Type 0 where
+  pub records : List Record
+  pub reads : ReadsAs Accepts records kept
+  pub holds : Holds tells history j records (record_in flight)
+  pub entry : IfSome flight (λ made. IsEntry Accepts made.entry)
+
+pub record IsBook {D : Type 0} (tells : D → Bool) (history : D → History) (v : DatabaseView D) : Type 0 where
+  -- it began over a list whose maps are accepted
+  pub began : IsSoundKept v.opening
+  -- each event fits the state before it, and all lead to the state
+  pub leads : Leads (opened v) v.events v.state
+  -- the numbers of calls don't fall from event to event, and none passes what the journal tells
+  pub rising : AreRising no_calls v.events (calls_of v.journal)
+  -- with nothing in flight the last event is this very moment
+  pub at_rest : v.state.flight ≡ None → last_calls no_calls v.events ≡ calls_of v.journal
+  -- a crash at any moment so far leaves what the state of that moment says
+  pub safe : Tell tells v.journal → IsSafeWhile (opened v) v.events (calls_of v.journal) (a_of history v.journal) (b_of history v.journal)
+  pub sound : IsSoundState v.state
+  -- there is a caller for each user
+  pub callers : length v.state.callers ≡ length v.users
+  pub stands : Stands tells history v.journal v.state.kept v.state.flight
+
+-- a journal that was just opened holds the list of this ledger, of which the other is a second reading
+pub record IsOpening {D : Type 0} (tells : D → Bool) (history : D → History) (j : JournalView D) (kept opening : Kept) : Type 0 where
+  pub calls : calls_of j ≡ no_calls
+  pub same : opening ≡ kept
+  -- its maps are accepted, commits are numbered from 1, and an unconfirmed run has room for its revert
+  pub sound : IsSoundKept kept
+  pub records : List Record
+  pub reads : ReadsAs Accepts records kept
+  pub holds : Holds tells history j records None

@@ -1,0 +1,93 @@
+-- What a crash at any moment of a run may leave on the two disks. This project's own.
+use Rattle.std.specs.Prelude.{◌≡◌, ◌<◌, ◌≤◌, ◌-◌, ◌+◌, ◌^◌, ◌⊎◌, ℕ, Bool, IsTrue, List, [], ◌∷◌, ◌++◌, length, Option, Some, None}
+use Rattle.cfg_base.specs.declared.calls.Calls.{Calls}
+use Rattle.disk_model.specs.Disk.{History, LeftBetween}
+use Rattle.record_code.specs.Record.{Record}
+use Rattle.commit_check.specs.Accepts.{Accepts}
+use Rattle.commit_ledger.specs.Kept.{Kept, append_entry}
+use Rattle.commit_ledger.specs.Reading.{ReadsAs}
+use Rattle.commit_journal.specs.Journal.{JournalView, a_of, b_of, calls_a, calls_b, disk_a, disk_b}
+use Rattle.commit_journal.specs.Pair.{PairSpells}
+use Rattle.config_core.specs.Machine.{Steps}
+use Rattle.config_core.specs.Serving.{Turned}
+use Rattle.config_core.specs.State.{State, Made}
+use Rattle.session_history.specs.declared.history.Happened.{Happened}
+use Rattle.session_history.specs.Events.{Leads}
+use Rattle.config_db.specs.Numbers.{AreRising, no_calls}
+
+-- a disk's own count of calls isn't at its end
+abbrev pub IsCounted : History → Type 0
+IsCounted h = length h.calls < 2 ^ 64 - 1
+
+-- a disk's count of calls at a number that was told since the opening: its last count, less the last number, plus that number
+abbrev pub count_at : History → ℕ → ℕ → ℕ
+count_at h made number = length h.calls - made + number
+
+-- a crash at some moment from one number to another may leave this
+abbrev pub InSpan : History → ℕ → ℕ → ℕ → List ℕ → Type 0
+InSpan h made from to image = LeftBetween h (count_at h made from) (count_at h made to) image
+
+-- the numbers of the last event, or those given
+abbrev pub last_calls : Calls → List Happened → Calls
+last_calls from [] = from
+last_calls from (event ∷ events) = last_calls event.calls events
+
+-- the numbers of the next event, or those given
+abbrev pub next_calls : Calls → List Happened → Calls
+next_calls made [] = made
+next_calls made (event ∷ events) = event.calls
+
+-- the event that comes next
+abbrev pub next_of : List Happened → Option Happened
+next_of [] = None
+next_of (event ∷ events) = Some event
+
+-- two files spell a list of entries: their records are read as it
+abbrev pub SpellsKept : List ℕ → List ℕ → Kept → Type 0
+SpellsKept a b kept = (rs : List Record) × PairSpells a b rs × ReadsAs Accepts rs kept
+
+-- the next event makes that entry
+abbrev pub NextMakes : State → Option Happened → Made → Type 0
+NextMakes s None made = ⊥
+NextMakes s (Some event) made =
+    (turned : Turned) × Steps s event.caller event.moment event.event event.outcome turned × (turned.made ≡ Some made)
+
+-- two files spell what is kept in a state, or that with the entry in flight or the one that the next event makes
+abbrev pub Spelt : State → Option Happened → List ℕ → List ℕ → Type 0
+Spelt s next a b =
+    SpellsKept a b s.kept
+    ⊎ ((made : Made) × ((s.flight ≡ Some made) ⊎ NextMakes s next made) × SpellsKept a b (append_entry s.kept made.entry))
+
+-- between any two events, before the first and after the last: each pair of images of that span, one of each disk, of whatever
+-- moments of it, spells what the state there says
+abbrev pub AreSpansSafe : State → List Happened → Calls → History → History → Type 0
+AreSpansSafe first events made a b =
+    (before after : List Happened) → events ≡ before ++ after → (s : State) → Leads first before s → (c d : List ℕ)
+    → InSpan a made.a (last_calls no_calls before).a (next_calls made after).a c
+    → InSpan b made.b (last_calls no_calls before).b (next_calls made after).b d
+    → Spelt s (next_of after) c d
+
+-- a crash at any moment of a run leaves the list as it was told by then, with the entry of that moment or without
+pub record IsCrashSafe (first : State) (events : List Happened) (made : Calls) (a b : History) : Type 0 where
+  -- the numbers of calls don't fall
+  pub rising : AreRising no_calls events made
+  -- a disk whose own count stands at its end can't be reckoned back
+  pub safe : IsCounted a → IsCounted b → AreSpansSafe first events made a b
+
+-- what holds of the disks as they are now
+pub record IsSafeNow (first : State) (events : List Happened) (made : Calls) (a b : History) : Type 0 where
+  pub within_a : made.a ≤ length a.calls
+  pub within_b : made.b ≤ length b.calls
+  pub safe : AreSpansSafe first events made a b
+
+abbrev pub IsSafeWhile : State → List Happened → Calls → History → History → Type 0
+IsSafeWhile first events made a b = IsCounted a → IsCounted b → IsSafeNow first events made a b
+
+-- a number went on as the disk's own count did
+abbrev pub Told : History → History → ℕ → ℕ → Type 0
+Told h h' m m' = IsCounted h' → m ≤ length h.calls → length h.calls ≤ length h'.calls → m' ≡ m + (length h'.calls - length h.calls)
+
+-- the numbers that a journal tells went on so
+pub record CountsOn {D : Type 0} (tells : D → Bool) (history : D → History) (j j' : JournalView D) : Type 0 where
+  pub told_a : IsTrue (tells (disk_a j)) → Told (a_of history j) (a_of history j') (calls_a j) (calls_a j')
+  pub told_b : IsTrue (tells (disk_b j)) → Told (b_of history j) (b_of history j') (calls_b j) (calls_b j')

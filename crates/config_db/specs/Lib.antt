@@ -1,0 +1,9 @@
+pub mod View
+pub mod Numbers
+pub mod Disks
+pub mod Crash
+pub mod Writing
+pub mod Book
+pub mod Moves
+pub mod Answers
+pub mod Closing

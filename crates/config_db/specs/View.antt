@@ -1,0 +1,24 @@
+-- What a contract sees of the database.
+use Rattle.std.specs.Prelude.{◌≡◌, ℕ, List}
+use Rattle.commit_journal.specs.Journal.{JournalView}
+use Rattle.commit_ledger.specs.Kept.{Kept}
+use Rattle.config_core.specs.State.{State, opening_of}
+use Rattle.session_history.specs.declared.history.Happened.{Happened}
+
+pub record DatabaseView (D : Type 0) : Type 0 where
+  pub journal : JournalView D
+  -- the list over which it began, and the users of callers 1, 2 and so on
+  pub opening : Kept
+  pub users : List (List ℕ)
+  -- what happened, and the state that it led to
+  pub events : List Happened
+  pub state : State
+
+-- the state in which it began
+abbrev pub opened : {D : Type 0} → DatabaseView D → State
+opened v = opening_of v.opening v.users
+
+-- the list and the users over which a database began are what they were
+pub record IsSameRun {D : Type 0} (v v' : DatabaseView D) : Type 0 where
+  pub opening : v'.opening ≡ v.opening
+  pub users : v'.users ≡ v.users

@@ -1,0 +1,44 @@
+use commit_journal::Journal;
+use config_core::Reply;
+use disk_model::Disk;
+use session_history::History;
+
+/// The answer to a command.
+#[derive(Debug, Drop)]
+pub enum Answered {
+    /// The command is the event at that place of the history, counted from 0, with the machine's reply.
+    Kept { place: u64, reply: Reply },
+    /// It is no event. What was needed before it may have been done.
+    NoMemory,
+}
+
+/// What came of a look at the time.
+#[derive(Clone, Copy, Debug, PartialEq, Eq)]
+pub enum Ticked {
+    /// Nothing was needed.
+    Nothing,
+    /// The entry in flight was settled, and no deadline is missed.
+    Settled,
+    /// A missed deadline was reverted.
+    Reverted,
+    /// A disk failed, and an entry is in flight.
+    DiskFault,
+    /// What was needed is not all done.
+    NoMemory,
+}
+
+/// What is left of a database.
+#[derive(Drop)]
+pub struct ClosedBook<D> {
+    pub history: History,
+    /// Whether an entry is in flight.
+    pub fault: bool,
+    pub a: D,
+    pub b: D,
+}
+
+/// The journal of a database for which memory was wanting.
+#[derive(Drop)]
+pub struct Unbegun<D: Disk> {
+    pub journal: Journal<D>,
+}

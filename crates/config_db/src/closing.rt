@@ -1,0 +1,55 @@
+//! How a database ends.
+
+ghost use Rattle.config_db.specs.Closing.{IsHandedBack, SettlesLast};
+ghost use Rattle.std.specs.Prelude.{◌≡◌};
+
+use crate::answer::ClosedBook;
+use crate::database::Database;
+use config_core::{Need, Outcome};
+use disk_model::Disk;
+use session_history::{History, histories_stay_accepted};
+
+impl<D: Disk> Database<D> {
+    /// Settles what is in flight, and tells whether an entry is in flight still.
+    pub(crate) fn settle_last(&mut self) -> bool
+        ensures { SettlesLast D.tells D.faults result self.old self.new }
+    {
+        let moment = self.core.greatest();
+        match self.core.next(moment) {
+            Need::Settle => match self.settle(0, moment) {
+                Outcome::Done => false,
+                Outcome::Fault => true,
+            },
+            Need::Revert | Need::Nothing => false,
+        }
+    }
+
+    /// What happened, and the disks.
+    pub(crate) fn hand_back(self, fault: bool) -> ClosedBook<D>
+        ensures fault { result.fault ≡ fault }
+        ensures back { IsHandedBack D.tells D.history self result.history result.a result.b }
+    {
+        histories_stay_accepted();
+        let Database {
+            alloc: _,
+            journal,
+            opening,
+            users,
+            events,
+            core: _,
+        } = self;
+        let made = journal.calls();
+        let (a, b) = journal.into_disks();
+        ClosedBook {
+            history: History {
+                opening: Some(opening),
+                users,
+                made,
+                events,
+            },
+            fault,
+            a,
+            b,
+        }
+    }
+}

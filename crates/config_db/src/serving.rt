@@ -1,0 +1,204 @@
+//! What comes before a command, and the command: one method for each.
+
+ghost use Rattle.std.specs.Prelude.{◌≡◌, ◌<◌, ◌≤◌, true, length, None, IsSome, IfOk, OnErr};
+ghost use Rattle.commands.specs.Sound.{IsSound};
+ghost use Rattle.config_core.specs.declared.event.Outcome.TheVariants.{Fault};
+ghost use Rattle.config_core.specs.Machine.{Fits, Missed, waiting_of};
+ghost use Rattle.config_db.specs.Disks.{FaultRose};
+ghost use Rattle.config_db.specs.Moves.{Happens, Settles};
+ghost use Rattle.config_db.specs.Answers.{CatchesUp, IsClear, MakesWay, Reverts, Takes, reverted_as};
+ghost use Rattle.session_history.specs.Events.{is_command};
+
+use crate::answer::{Answered, Ticked};
+use crate::database::Database;
+use crate::turning::{let_go, note, settling, unwritten};
+use crate::writing::{find_out, write};
+use cfg_base::{Moment, NoMemory};
+use commands::Command;
+use config_core::{Event, Need, Outcome, Reply};
+use disk_model::Disk;
+use session_history::{Happened, histories_have_one_outcome};
+
+/// What came of an event.
+#[derive(Debug, Drop)]
+pub(crate) struct Ended {
+    pub(crate) outcome: Outcome,
+    pub(crate) reply: Reply,
+}
+
+impl<D: Disk> Database<D> {
+    // An event with nothing in flight: the entry that it makes is written, and then it is carried out.
+    fn carry_out(&mut self, caller: u32, moment: Moment, event: Event) -> Result<Ended, NoMemory>
+        requires fits { Fits self.old.state caller moment event }
+        requires free { self.old.state.flight ≡ None }
+        ensures ok { IfOk result
+            (λ ended. Happens D.tells D.faults caller moment event ended.outcome ended.reply self.old self.new) }
+        ensures cause { IfOk result
+            (λ ended. ended.outcome ≡ Fault → FaultRose D.faults self.old.journal self.new.journal) }
+        ensures err { OnErr result (self.new ≡ self.old) }
+    {
+        histories_have_one_outcome();
+        // One place more for the settling of what may be in flight then.
+        self.events.reserve(2)?;
+        match self.core.prepare(caller, moment, &event) {
+            Err(NoMemory) => Err(NoMemory),
+            Ok(prepared) => match write(self.alloc, &mut self.journal, &prepared) {
+                Err(NoMemory) => Err(unwritten(event, prepared)),
+                Ok(outcome) => {
+                    let happened = Happened {
+                        caller,
+                        moment,
+                        event,
+                        outcome,
+                        calls: self.journal.calls(),
+                    };
+                    let reply = note(&mut self.core, &mut self.events, prepared, happened);
+                    Ok(Ended { outcome, reply })
+                }
+            },
+        }
+    }
+
+    // Settles the entry in flight. Where a disk fails it stays in flight.
+    pub(crate) fn settle(&mut self, caller: u32, moment: Moment) -> Outcome
+        requires flying { IsSome self.old.state.flight }
+        requires no_earlier { self.old.state.greatest ≤ moment }
+        ensures { Settles D.tells D.faults caller moment result self.old self.new }
+    {
+        histories_have_one_outcome();
+        match find_out(&mut self.journal) {
+            None => Outcome::Fault,
+            Some(is_kept) => {
+                let event = Event::Settle(is_kept);
+                let prepared = settling(&self.core, caller, moment, &event);
+                let happened = Happened {
+                    caller,
+                    moment,
+                    event,
+                    outcome: Outcome::Done,
+                    calls: self.journal.calls(),
+                };
+                let_go(note(&mut self.core, &mut self.events, prepared, happened));
+                Outcome::Done
+            }
+        }
+    }
+
+    // Reverts a missed deadline.
+    fn revert(&mut self, caller: u32, moment: Moment) -> Ticked
+        requires missed { waiting_of self.old.state moment ≡ Missed }
+        requires no_earlier { self.old.state.greatest ≤ moment }
+        ensures { Reverts D.tells D.faults caller moment result self.old self.new }
+    {
+        match self.carry_out(caller, moment, Event::Revert) {
+            Err(NoMemory) => Ticked::NoMemory,
+            Ok(ended) => reverted(ended.outcome),
+        }
+    }
+
+    // Behind a settling: a missed deadline is reverted.
+    fn catch_up(&mut self, caller: u32, moment: Moment) -> Ticked
+        requires free { self.old.state.flight ≡ None }
+        requires no_earlier { self.old.state.greatest ≤ moment }
+        ensures { CatchesUp D.tells D.faults caller moment result self.old self.new }
+    {
+        match self.core.next(moment) {
+            Need::Revert => self.revert(caller, moment),
+            Need::Settle | Need::Nothing => Ticked::Settled,
+        }
+    }
+
+    // Settles the entry in flight, and then reverts a missed deadline.
+    fn settle_first(&mut self, caller: u32, moment: Moment) -> Ticked
+        requires flying { IsSome self.old.state.flight }
+        requires no_earlier { self.old.state.greatest ≤ moment }
+        ensures { MakesWay D.tells D.faults caller moment result self.old self.new }
+    {
+        match self.settle(caller, moment) {
+            Outcome::Fault => Ticked::DiskFault,
+            Outcome::Done => self.catch_up(caller, moment),
+        }
+    }
+
+    /// Does what comes before a command at a moment.
+    pub(crate) fn make_way(&mut self, caller: u32, moment: Moment) -> Ticked
+        requires { self.old.state.greatest ≤ moment }
+        ensures { MakesWay D.tells D.faults caller moment result self.old self.new }
+    {
+        match self.core.next(moment) {
+            Need::Nothing => Ticked::Nothing,
+            Need::Revert => self.revert(caller, moment),
+            Need::Settle => self.settle_first(caller, moment),
+        }
+    }
+
+    /// Does a command that nothing comes before.
+    pub(crate) fn command(&mut self, caller: u32, moment: Moment, command: Command) -> Answered
+        requires caller { (0 < caller) × (caller ≤ length self.old.users) }
+        requires sound { IsSound command }
+        requires clear { IsClear moment self.old }
+        requires no_earlier { self.old.state.greatest ≤ moment }
+        ensures { Takes D.tells D.faults caller moment command result
+            (FaultRose D.faults self.old.journal self.new.journal) self.old self.new }
+    {
+        let place = self.events.len() as u64;
+        match self.carry_out(caller, moment, Event::Command(command)) {
+            Err(NoMemory) => Answered::NoMemory,
+            Ok(ended) => Answered::Kept {
+                place,
+                reply: ended.reply,
+            },
+        }
+    }
+
+    // A command while an entry is in flight.
+    fn note_put_off(&mut self, caller: u32, moment: Moment, event: Event) -> Result<Reply, NoMemory>
+        requires asks { is_command event ≡ true }
+        requires fits { Fits self.old.state caller moment event }
+        requires flying { IsSome self.old.state.flight }
+        ensures ok { IfOk result (λ reply. Happens D.tells D.faults caller moment event Fault reply self.old self.new) }
+        ensures err { OnErr result (self.new ≡ self.old) }
+    {
+        histories_have_one_outcome();
+        // One place more for the settling.
+        self.events.reserve(2)?;
+        match self.core.prepare(caller, moment, &event) {
+            Err(NoMemory) => Err(NoMemory),
+            Ok(prepared) => {
+                let happened = Happened {
+                    caller,
+                    moment,
+                    event,
+                    outcome: Outcome::Fault,
+                    calls: self.journal.calls(),
+                };
+                Ok(note(&mut self.core, &mut self.events, prepared, happened))
+            }
+        }
+    }
+
+    /// Answers a command that isn't done because an entry is in flight.
+    pub(crate) fn put_off(&mut self, caller: u32, moment: Moment, command: Command) -> Answered
+        requires caller { (0 < caller) × (caller ≤ length self.old.users) }
+        requires sound { IsSound command }
+        requires flying { IsSome self.old.state.flight }
+        requires no_earlier { self.old.state.greatest ≤ moment }
+        ensures { Takes D.tells D.faults caller moment command result (Unit {0}) self.old self.new }
+    {
+        let place = self.events.len() as u64;
+        match self.note_put_off(caller, moment, Event::Command(command)) {
+            Err(NoMemory) => Answered::NoMemory,
+            Ok(reply) => Answered::Kept { place, reply },
+        }
+    }
+}
+
+// What came of a revert.
+fn reverted(outcome: Outcome) -> Ticked
+    ensures { result ≡ reverted_as outcome }
+{
+    match outcome {
+        Outcome::Done => Ticked::Reverted,
+        Outcome::Fault => Ticked::DiskFault,
+    }
+}

@@ -1,0 +1,46 @@
+//! Steps of the machine.
+
+ghost use Rattle.std.specs.Prelude.{◌≡◌, ◌<◌, ◌+◌, ◌++◌, ◌∷◌, [], vec_len, vec_capacity};
+ghost use Rattle.config_core.specs.Machine.{Fits};
+ghost use Rattle.config_core.specs.Prepared.{Follows, IsPrepared, IsSettling, applied, replied};
+
+use cfg_base::{Moment, NoMemory};
+use config_core::{Core, Event, Prepared, Reply};
+use session_history::Happened;
+
+/// Carries a prepared step out, and notes what happened.
+pub(crate) fn note(
+    core: &mut Core,
+    events: &mut Vec<Happened>,
+    prepared: Prepared,
+    happened: Happened,
+) -> Reply
+    requires follows { Follows prepared core.old }
+    requires room { vec_len events.old < vec_capacity events.old }
+    ensures state { core.new ≡ applied prepared happened.outcome core.old }
+    ensures reply { result ≡ replied prepared.effect prepared.reply happened.outcome }
+    ensures events { events.new.items ≡ events.old.items ++ happened ∷ [] }
+    ensures len { vec_len events.new ≡ vec_len events.old + 1 }
+    ensures capacity { vec_capacity events.new ≡ vec_capacity events.old }
+{
+    let reply = core.accept(prepared, happened.outcome);
+    events.push_reserved(happened);
+    reply
+}
+
+/// The settling of what is in flight, made ready. It takes no memory.
+pub(crate) fn settling(core: &Core, caller: u32, moment: Moment, event: &Event) -> Prepared
+    requires fits { Fits core.now caller moment event.now }
+    requires settles { IsSettling event.now }
+    ensures { IsPrepared core.now caller moment event.now result }
+{
+    core.prepare(caller, moment, event).unwrap()
+}
+
+/// Lets go of a reply that nobody hears.
+pub(crate) fn let_go(_reply: Reply) {}
+
+/// Lets go of an event for whose record memory was wanting.
+pub(crate) fn unwritten(_event: Event, _prepared: Prepared) -> NoMemory {
+    NoMemory
+}

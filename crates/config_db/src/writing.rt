@@ -1,0 +1,112 @@
+//! How an entry is written to the journal, and how it is found out whether one in flight is kept.
+
+ghost use Rattle.std.specs.Prelude.{◌≡◌, ◌<◌, ◌≤◌, ◌^◌, ◌∷◌, [], length, IfOk, IfSome, OnErr};
+ghost use Rattle.commit_check.specs.Accepts.{Accepts};
+ghost use Rattle.commit_journal.specs.Journal.{IsIdle, IsInFlight};
+ghost use Rattle.commit_ledger.specs.Payload.{entry_record};
+ghost use Rattle.commit_ledger.specs.Rules.{IsCommit, IsConfirm, IsEntry};
+ghost use Rattle.config_core.specs.Plan.{made_in};
+ghost use Rattle.config_db.specs.Writing.{IsAppend, IsFound, IsWritable, IsWritableCommit, IsWritten};
+
+use cfg_base::NoMemory;
+use commit_check::accepted_configurations_fit;
+use commit_journal::{Journal, Settled};
+use commit_ledger::{Commit, Confirm, Entry, payload_of};
+use config_core::{Outcome, Prepared};
+use disk_model::Disk;
+use record_code::{Encoded, encode};
+use std::alloc::Global;
+
+/// A number of 64 bits is below 2^64.
+fn is_in_64_bits(_number: u64)
+    ensures { _number < 2 ^ 64 }
+{}
+
+/// A commit's fields keep to their ranges, by their types.
+fn commit_keeps_ranges(commit: &Commit)
+    requires { IsWritableCommit commit.now }
+    ensures { IsCommit Accepts commit.now }
+{
+    accepted_configurations_fit();
+    let _ = commit.user.as_word();
+    let _ = commit.moment.seconds();
+    is_in_64_bits(commit.number);
+}
+
+/// So do a confirmation's.
+fn confirm_keeps_ranges(confirm: &Confirm)
+    requires { 1 ≤ confirm.now.number }
+    ensures { IsConfirm confirm.now }
+{
+    let _ = confirm.user.as_word();
+    let _ = confirm.moment.seconds();
+    is_in_64_bits(confirm.number);
+}
+
+fn entry_keeps_ranges(entry: &Entry)
+    requires { IsWritable entry.now }
+    ensures { IsEntry Accepts entry.now }
+{
+    match entry {
+        Entry::Commit(commit) => commit_keeps_ranges(commit),
+        Entry::Confirm(confirm) => confirm_keeps_ranges(confirm),
+    }
+}
+
+/// The record of an entry.
+fn body_of(alloc: Global, entry: &Entry) -> Result<Encoded, NoMemory>
+    requires { IsWritable entry.now }
+    ensures body { IfOk result (λ body. body ≡ entry_record entry.now ∷ []) }
+    ensures entry { IsEntry Accepts entry.now }
+{
+    entry_keeps_ranges(entry);
+    match payload_of(alloc, entry) {
+        Err(NoMemory) => Err(NoMemory),
+        Ok(payload) => encode(alloc, entry.kind(), &payload),
+    }
+}
+
+/// Writes a record. A fault leaves it in flight.
+fn append<D: Disk>(journal: &mut Journal<D>, body: &Encoded) -> Outcome
+    requires idle { IsIdle journal.old }
+    requires one { length body.now ≡ 1 }
+    ensures { IsAppend D.tells D.history D.faults body.now result journal.old journal.new }
+{
+    match journal.append(body) {
+        Ok(()) => Outcome::Done,
+        Err(_) => Outcome::Fault,
+    }
+}
+
+/// Writes the entry that a step makes, if it makes one.
+pub(crate) fn write<D: Disk>(
+    alloc: Global,
+    journal: &mut Journal<D>,
+    prepared: &Prepared,
+) -> Result<Outcome, NoMemory>
+    requires idle { IsIdle journal.old }
+    requires writable { IfSome (made_in prepared.now.effect) (λ made. IsWritable made.entry) }
+    ensures ok { IfOk result (λ outcome.
+        IsWritten D.tells D.history D.faults (made_in prepared.now.effect) outcome journal.old journal.new) }
+    ensures err { OnErr result (journal.new ≡ journal.old) }
+{
+    match prepared.entry() {
+        None => Ok(Outcome::Done),
+        Some(entry) => match body_of(alloc, entry) {
+            Err(NoMemory) => Err(NoMemory),
+            Ok(body) => Ok(append(journal, &body)),
+        },
+    }
+}
+
+/// Whether the record in flight is kept; none where a disk failed.
+pub(crate) fn find_out<D: Disk>(journal: &mut Journal<D>) -> Option<bool>
+    requires { IsInFlight journal.old.flight }
+    ensures { IsFound D.tells D.history D.faults result journal.old journal.new }
+{
+    match journal.settle() {
+        Ok(Settled::Kept) => Some(true),
+        Ok(Settled::NotKept) => Some(false),
+        Err(_) => None,
+    }
+}
