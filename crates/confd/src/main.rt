@@ -11,24 +11,29 @@ ghost use Rattle.std.specs.Vec.Iter.{into_iter_items};
 ghost use Rattle.command_line.specs.Asked.{Asks};
 ghost use Rattle.command_line.specs.declared.asked.Asked.{Asked};
 ghost use Rattle.command_line.specs.declared.usage.Usage.TheVariants.{Refused};
-ghost use Rattle.service.specs.Run.{AreEnds, IsServe};
+ghost use Rattle.service.specs.Run.{AreEnds, IsAsking};
 
+mod disks;
 mod edges;
+mod telling;
 
 use cfg_base::{NoMemory, Word, WordFault, Words};
-use command_line::{Usage, read_words, words_ask_one_thing};
-use disk_model::MemDisk;
+use command_line::{Asked, RunMode, Usage, read_words, words_ask_one_thing};
+use disk_model::Disk;
+use disks::{make_disks, no_disks, open_disks};
 use edges::{StdEnd, ends_of};
 use io_edge::{SleepBeat, StdClock};
-use service::{Ticker, run};
+use service::{StartWhy0, Ticker, run};
 use std::alloc::Global;
 use std::env;
 use std::env::Args;
+use std::fs::File;
 use std::io::{ErrorKind, Read, Write};
 use std::process::ExitCode;
 use std::rt::{Clock, Env, Files};
 use std::sync::Wait;
 use std::thread::Threads;
+use telling::{Came, tell};
 
 /// The arguments as words.
 fn words_from(alloc: Global, args: Args) -> Result<Words, Usage>
@@ -65,64 +70,92 @@ fn command_words<R: Env + AllocGlobal>(rt: &R) -> Result<Words, Usage> {
     }
 }
 
-/// A disk that holds nothing and refuses every call: the service keeps no journal yet.
-fn no_disk(alloc: Global) -> Result<MemDisk, NoMemory> {
-    MemDisk::new(alloc, 0, 0, Vec::new(alloc), Vec::new(alloc))
-}
-
-/// Runs the service over these ends and the system's clock.
-fn serve_ends<R, I, O>(rt: &R, words: &Words, ends: Vec<StdEnd<R, I, O>>) -> Result<u8, NoMemory>
+/// Runs the service over these ends, the system's clock and two disks.
+fn run_over<R, I, O, D>(
+    rt: &R,
+    words: &Words,
+    ends: Vec<StdEnd<R, I, O>>,
+    disks: (D, D),
+) -> Result<Came, NoMemory>
 where
     R: Threads + Wait + Sync + Send + Clock + Files + AllocGlobal + Clone + Drop,
     R::File: Send,
     I: Read + Drop + Send,
     O: Write + Drop + Send,
+    D: Disk + Drop + Send,
     requires ends { AreEnds words.now ends.items }
-    ensures usage { IfOk result (λ status. (status ≡ 1) ↔ ((status ≢ 9) × (IsServe words.now → ⊥))) }
+    ensures usage { IfOk result (λ came. (came.status ≡ 1) ↔ ((came.status ≢ 9) × (IsAsking words.now → ⊥))) }
 {
-    let alloc = rt.alloc();
+    let (disk_a, disk_b) = disks;
     let ticker = Ticker {
         beat: SleepBeat::new(rt.clone()?),
         clock: StdClock::new(rt.clone()?),
     };
-    let disk_a = no_disk(alloc)?;
-    let disk_b = no_disk(alloc)?;
-    Ok(run(rt, alloc, words, ends, ticker, disk_a, disk_b).status)
+    let closed = run(rt, rt.alloc(), words, ends, ticker, disk_a, disk_b);
+    Ok(Came {
+        status: closed.status,
+        why: closed.why,
+    })
 }
 
-/// Runs the service over the ends that the words name, and gives its status.
-fn serve<R, I, O>(rt: &R, words: &Words, input: I, output: O) -> Result<u8, NoMemory>
+/// Runs the service over these ends and the disks that the words name.
+fn run_asked<R, I, O>(
+    rt: &R,
+    words: &Words,
+    asked: &Asked,
+    ends: Vec<StdEnd<R, I, O>>,
+) -> Result<Came, NoMemory>
 where
-    R: Threads + Wait + Sync + Send + Clock + Files + AllocGlobal + Clone + Drop,
-    R::File: Send,
+    R: Threads + Wait + Sync + Send + Clock + Files<File = File> + AllocGlobal + Clone + Drop,
     I: Read + Drop + Send,
     O: Write + Drop + Send,
-    ensures usage { IfOk result (λ status. (status ≡ 1) ↔ ((status ≢ 9) × (IsServe words.now → ⊥))) }
+    requires ends { AreEnds words.now ends.items }
+    ensures usage { IfOk result (λ came. (came.status ≡ 1) ↔ ((came.status ≢ 9) × (IsAsking words.now → ⊥))) }
+{
+    match asked.mode {
+        RunMode::Init => run_over(rt, words, ends, make_disks(rt, &asked.place)?),
+        RunMode::Check => run_over(rt, words, ends, open_disks(rt, &asked.place)?),
+        // The service answers from memory, and mode gen has no journal.
+        RunMode::Serve | RunMode::Gen => run_over(rt, words, ends, no_disks(rt.alloc())?),
+    }
+}
+
+/// Does what the words ask, and tells what came of it.
+fn serve<R, I, O>(rt: &R, words: &Words, input: I, output: O) -> Result<Came, NoMemory>
+where
+    R: Threads + Wait + Sync + Send + Clock + Files<File = File> + AllocGlobal + Clone + Drop,
+    I: Read + Drop + Send,
+    O: Write + Drop + Send,
+    ensures usage { IfOk result (λ came. (came.status ≡ 1) ↔ ((came.status ≢ 9) × (IsAsking words.now → ⊥))) }
     ensures judged { OnErr result ((asked : Asked) × Asks words.now asked) }
 {
     words_ask_one_thing();
     match read_words(rt.alloc(), words) {
-        Ok(asked) => serve_ends(rt, words, ends_of(rt, &asked, input, output)?),
-        Err(Usage::Refused) => Ok(1),
-        Err(Usage::NoMemory) => Ok(9),
+        Ok(asked) => run_asked(rt, words, &asked, ends_of(rt, &asked, input, output)?),
+        Err(Usage::Refused) => Ok(not_run(1)),
+        Err(Usage::NoMemory) => Ok(not_run(9)),
     }
 }
 
-/// Says on standard error why the service did not run.
-fn tell(rt: &impl Eprint, status: u8) {
-    let _told = match status {
-        1 => rt.eprintln("confd: usage: confd serve|init|check|gen PLACE [USER:FILE ..]"),
-        9 => rt.eprintln("confd: out of memory"),
-        _ => Ok(()),
-    };
+/// A run that was not begun, with this status.
+fn not_run(status: u8) -> Came
+    ensures { result.status ≡ status }
+{
+    Came {
+        status,
+        why: StartWhy0::None,
+    }
 }
 
 fn main(rt: HostRuntime) -> ExitCode {
-    let status = match command_words(&rt) {
-        Ok(words) => serve(&rt, &words, rt.stdin(), rt.stdout()).unwrap_or(9),
-        Err(Usage::Refused) => 1,
-        Err(Usage::NoMemory) => 9,
+    let came = match command_words(&rt) {
+        Ok(words) => match serve(&rt, &words, rt.stdin(), rt.stdout()) {
+            Ok(came) => came,
+            Err(NoMemory) => not_run(9),
+        },
+        Err(Usage::Refused) => not_run(1),
+        Err(Usage::NoMemory) => not_run(9),
     };
-    tell(&rt, status);
-    ExitCode::from(status)
+    tell(&rt, &came);
+    ExitCode::from(came.status)
 }

@@ -19,6 +19,7 @@ mod changes;
 mod check_calls;
 mod checking;
 mod command_calls;
+mod disks;
 mod expanding;
 mod fault;
 mod group_calls;

@@ -1,34 +1,31 @@
-//! Runs of the service, over the ends that the stage makes. Its disks and its beat are not used yet.
+//! Runs of the service, over the ends that the stage makes and the script's disks. Its beat is not used yet.
 
 ghost use Rattle.std.specs.Prelude.{◌≡◌, IfOk};
 ghost use Rattle.service.specs.Run.{AreEnds, users_of};
 
 use crate::answers::{say, say_bytes, say_text};
 use crate::asking::say_command;
+use crate::disks::Disks;
 use crate::fault::Fault;
 use crate::stage::{Part, Stage};
 use crate::words::{Arg, words_of};
-use cfg_base::{NoMemory, UserName, Words};
+use cfg_base::{UserName, Words};
 use command_line::{Usage, read_words, words_ask_one_thing};
 use config_core::{Event, Outcome};
 use disk_model::MemDisk;
 use io_edge::{ListBeat, ListClock, ListSource, VecSink};
 use reply_text::ShellFault;
-use service::{Closed, Ticker, run};
+use service::{Closed, StartWhy0, Ticker, run};
 use session_history::{Happened, History};
 use session_shell::{End, Turn};
 use std::alloc::Global;
 use std::sync::Wait;
 use std::thread::Threads;
+use stored_ledger::StartWhy;
 
 type StagedEnd = End<ListSource, VecSink, ListClock>;
 
 type Ran = Closed<ListSource, VecSink, ListClock, ListBeat, MemDisk>;
-
-/// A disk without room.
-fn disk(alloc: Global) -> Result<MemDisk, NoMemory> {
-    MemDisk::new(alloc, 0, 0, Vec::new(alloc), Vec::new(alloc))
-}
 
 /// A session's end.
 fn end_of(alloc: Global, user: UserName, part: Part) -> Result<StagedEnd, Fault>
@@ -74,6 +71,7 @@ fn ran<R: Threads + Wait + Sync>(
     rt: &R,
     alloc: Global,
     stage: Stage,
+    disks: Disks,
     args: &[Arg],
 ) -> Result<Ran, Fault> {
     let words = words_of(alloc, args)?;
@@ -82,7 +80,8 @@ fn ran<R: Threads + Wait + Sync>(
         beat: ListBeat::new(Vec::new(alloc)),
         clock: ListClock::new(Vec::new(alloc)),
     };
-    Ok(run(rt, alloc, &words, ends, ticker, disk(alloc)?, disk(alloc)?))
+    let Disks { a, b } = disks;
+    Ok(run(rt, alloc, &words, ends, ticker, a, b))
 }
 
 /// The number of a session, where there are several.
@@ -94,9 +93,36 @@ fn say_session(out: &mut String, count: usize, place: usize) -> Result<(), Fault
     Ok(())
 }
 
+/// Why the start was refused, if it was.
+fn say_why(out: &mut String, why: &StartWhy0) -> Result<(), Fault> {
+    let StartWhy0::Why(why) = why else {
+        return Ok(());
+    };
+    match why {
+        StartWhy::Exists => say(out, "why exists"),
+        StartWhy::NotAJournal => say(out, "why not a journal"),
+        StartWhy::Damaged {
+            offset,
+            kept,
+            computed,
+        } => {
+            writeln!(out, "= why damaged at {offset}")?;
+            say_bytes(out, "kept", kept)?;
+            say_bytes(out, "computed", computed)
+        }
+        StartWhy::BadRecord { offset } => {
+            writeln!(out, "= why bad record at {offset}")?;
+            Ok(())
+        }
+        StartWhy::DiskFault => say(out, "why disk fault"),
+        StartWhy::NoMemory => say(out, "why no memory"),
+    }
+}
+
 fn say_output(out: &mut String, ran: &Ran) -> Result<(), Fault> {
     let status = ran.status;
     writeln!(out, "= status {status}")?;
+    say_why(out, &ran.why)?;
     for (place, end) in ran.ends.iter().enumerate() {
         say_session(out, ran.ends.len(), place)?;
         say_text(out, end.sink.contents())?;
@@ -153,16 +179,8 @@ fn say_history(out: &mut String, history: &History) -> Result<(), Fault> {
     Ok(())
 }
 
-/// run WORDS..: the status, what was written, the turns and the history
-pub(crate) fn ask_run<R: Threads + Wait + Sync>(
-    rt: &R,
-    alloc: Global,
-    stage: Stage,
-    args: &[Arg],
-    out: &mut String,
-) -> Result<(), Fault> {
-    let ran = ran(rt, alloc, stage, args)?;
-    say_output(out, &ran)?;
+fn say_all(out: &mut String, ran: &Ran) -> Result<(), Fault> {
+    say_output(out, ran)?;
     for (place, turns) in ran.turns.iter().enumerate() {
         say_session(out, ran.turns.len(), place)?;
         for turn in turns.as_slice() {
@@ -172,13 +190,26 @@ pub(crate) fn ask_run<R: Threads + Wait + Sync>(
     say_history(out, &ran.history)
 }
 
-/// run_output WORDS..: the status and what was written
-pub(crate) fn ask_output<R: Threads + Wait + Sync>(
+/// run WORDS..: the status, what was written, the turns and the history; or run_output WORDS..: the status and what was written.
+/// The disks come back.
+pub(crate) fn ask<R: Threads + Wait + Sync>(
     rt: &R,
     alloc: Global,
     stage: Stage,
+    disks: Disks,
+    whole: bool,
     args: &[Arg],
     out: &mut String,
-) -> Result<(), Fault> {
-    say_output(out, &ran(rt, alloc, stage, args)?)
+) -> Result<Disks, Fault> {
+    let ran = ran(rt, alloc, stage, disks, args)?;
+    if whole {
+        say_all(out, &ran)?;
+    } else {
+        say_output(out, &ran)?;
+    }
+    let Closed { disk_a, disk_b, .. } = ran;
+    Ok(Disks {
+        a: disk_a,
+        b: disk_b,
+    })
 }

@@ -3,18 +3,18 @@
 use crate::answers::say_flag;
 use crate::changes::{change, look, op_of};
 use crate::command_calls::ask_words;
+use crate::disks::Disks;
 use crate::fault::Fault;
 use crate::ledger_calls::{add_record, ask_ledger, ask_payload};
 use crate::level::{ask_resolve, level_of};
 use crate::line_calls::{ask_line, ask_plain};
 use crate::load_calls::{ask_load, way_of};
-use crate::runs::{ask_output, ask_run};
 use crate::stage::Stage;
 use crate::steps::{Machine, ask_step};
 use crate::words::{Arg, args_of, bytes_of, first_and_rest, number, words_of};
 use crate::{
-    base_calls, check_calls, group_calls, input_calls, kept, profile_calls, puts, record_calls,
-    text_calls, value_calls,
+    base_calls, check_calls, disks, group_calls, input_calls, kept, profile_calls, puts,
+    record_calls, runs, text_calls, value_calls,
 };
 use cfg_tree::Tree;
 use commands::LoadWay;
@@ -38,6 +38,8 @@ pub(crate) struct Script {
     text: Vec<u8>,
     /// The records that are read as a list of commits.
     records: Payloads,
+    /// The disks of the next run, which come back from it.
+    disks: Disks,
     stage: Stage,
     machine: Machine,
 }
@@ -73,6 +75,7 @@ impl Script {
             level: Vec::new(alloc),
             text: Vec::new(alloc),
             records: Payloads::new(alloc),
+            disks: Disks::empty(alloc, 0).map_err(|_| AllocError)?,
             stage: Stage::new(alloc),
             machine: Machine::new(alloc).map_err(|_| AllocError)?,
         })
@@ -122,6 +125,7 @@ impl Script {
                 || look(self.alloc, &self.tree, name, args, out)?
                 || group_calls::ask(self.alloc, &self.tree, name, args, out)?
                 || check_calls::ask(self.alloc, &self.tree, name, out)?
+                || disks::ask(&mut self.disks, name, args, out)?
                 || self.machine.answer(name, args, out)?,
         )
     }
@@ -151,6 +155,7 @@ impl Script {
             ("keep", []) => kept::keep(self.alloc, &mut self.kept, &self.tree, out)?,
             ("same", []) => say_flag(out, self.tree.same(&self.other))?,
             ("machine", []) => self.machine = Machine::new(self.alloc)?,
+            ("disks", [room]) => self.disks = Disks::empty(self.alloc, number(room)?)?,
             ("record", _) => add_record(self.alloc, &mut self.records, args)?,
             ("ledger_of", []) => self.read_records(out)?,
             ("payload", _) => ask_payload(self.alloc, &self.tree, args, out)?,
@@ -184,11 +189,10 @@ impl Script {
     ) -> Result<(), Fault> {
         let stage = self.taken_stage();
         let args = args_of(self.alloc, words)?;
-        if name == "run" {
-            ask_run(rt, self.alloc, stage, &args, out)
-        } else {
-            ask_output(rt, self.alloc, stage, &args, out)
-        }
+        let none = Disks::empty(self.alloc, 0)?;
+        let disks = mem::replace(&mut self.disks, none);
+        self.disks = runs::ask(rt, self.alloc, stage, disks, name == "run", &args, out)?;
+        Ok(())
     }
 
     /// text LINE and text_part LINE: more of the text, with an LF behind it or without

@@ -4,7 +4,7 @@ use Rattle.std.specs.List.{AllByRecursion}
 use Rattle.cfg_base.specs.Counts.{Rose}
 use Rattle.command_line.specs.Asked.{Asks}
 use Rattle.command_line.specs.declared.asked.Asked.{Asked}
-use Rattle.command_line.specs.declared.asked.RunMode.TheVariants.{Serve}
+use Rattle.command_line.specs.declared.asked.RunMode.TheVariants.{Init, Check}
 use Rattle.commit_ledger.specs.Kept.{factory}
 use Rattle.config_core.specs.State.{State, opening_of}
 use Rattle.session_history.specs.declared.history.Happened.{Happened}
@@ -16,9 +16,13 @@ use Rattle.session_shell.specs.declared.turn.How.TheVariants.{Clean, SourceFault
 use Rattle.session_shell.specs.declared.turn.Turn.{Turn}
 use Rattle.service.specs.History.{HasSession, IsInMemory}
 
--- the words ask for the service of a place
-abbrev pub IsServe : List (List ℕ) → Type 0
-IsServe words = (asked : Asked) × Asks words asked × (asked.mode ≡ Serve)
+-- the words ask something
+abbrev pub IsAsking : List (List ℕ) → Type 0
+IsAsking words = (asked : Asked) × Asks words asked
+
+-- the words ask for a mode that begins with disks
+abbrev pub BeginsWithDisks : List (List ℕ) → Type 0
+BeginsWithDisks words = (asked : Asked) × Asks words asked × ((asked.mode ≡ Init) ⊎ (asked.mode ≡ Check))
 
 -- the users of ends, in order
 abbrev pub users_of : {S K C : Type 0} → List (End S K C) → List (List ℕ)
@@ -28,14 +32,18 @@ users_of ends = map (λ end. end.user) ends
 abbrev pub AreEnds : {S K C : Type 0} → List (List ℕ) → List (End S K C) → Type 0
 AreEnds words ends = (asked : Asked) → Asks words asked → users_of ends ≡ asked.users
 
--- nothing happened: no session was begun, nothing was read or written, and no disk was called
-pub record IsIdle {E : Type 0} (ends ends' : List E) (turns : List (List Turn)) (history : History) : Type 0 where
-  pub same : ends' ≡ ends
-  pub no_turns : turns ≡ []
+-- a history of nothing
+pub record IsEmpty (history : History) : Type 0 where
   pub no_opening : history.opening ≡ None
   pub no_events : history.events.items ≡ []
   pub no_users : history.users ≡ []
   pub no_calls : history.made ≡ record { a = 0; b = 0 }
+
+-- nothing happened: no session was begun, nothing was read or written, and no disk was called
+pub record IsIdle {E : Type 0} (ends ends' : List E) (turns : List (List Turn)) (history : History) : Type 0 where
+  pub same : ends' ≡ ends
+  pub no_turns : turns ≡ []
+  pub nothing : IsEmpty history
 
 -- the status of a session that ended so
 abbrev pub status_of : How → ℕ

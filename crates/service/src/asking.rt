@@ -16,7 +16,7 @@ use session_shell::Given0;
 pub(crate) const NO_CALLS: Calls = Calls { a: 0, b: 0 };
 
 /// Carries an event out, and puts it behind the events.
-fn take(
+pub(crate) fn take(
     core: &mut Core,
     events: &mut Vec<Happened>,
     caller: u32,

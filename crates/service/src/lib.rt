@@ -6,11 +6,16 @@
 //! (`session_history`), and the program round it (`confd`).
 #![tactic(auto)]
 
+mod alone;
 mod asking;
 mod book;
+mod closed;
+mod generating;
 mod laws;
 mod served;
 mod serving;
 
+pub use closed::{Closed, Ticker};
 pub use laws::sessions_have_one_text;
-pub use serving::{Closed, StartWhy0, Ticker, run};
+pub use modes::StartWhy0;
+pub use serving::run;

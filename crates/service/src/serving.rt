@@ -1,67 +1,28 @@
-//! The top call: it serves the sessions of its ends, and hands everything back.
+//! The top call: it does what its words ask, and hands everything back.
 
-ghost use Rattle.std.specs.Prelude.{◌≡◌, ◌≢◌, ◌⊎◌, ◌↔◌, ◌≤◌, [], length, vec_capacity, IfOk, IsErrOf, None};
+ghost use Rattle.std.specs.Prelude.{◌≡◌, ◌≢◌, ◌⊎◌, ◌↔◌, ◌<◌, ◌≤◌, [], length, vec_capacity};
 ghost use Rattle.commit_ledger.specs.Kept.{factory};
 ghost use Rattle.command_line.specs.Asked.{Asks};
 ghost use Rattle.command_line.specs.declared.asked.Asked.{Asked};
 ghost use Rattle.command_line.specs.declared.asked.RunMode.TheVariants.{Serve};
-ghost use Rattle.command_line.specs.declared.usage.Usage.TheVariants.{Refused};
-ghost use Rattle.service.specs.Run.{AreEnds, EachEnd, IsFaultless, IsIdle, IsServe, IsServed, users_of};
+ghost use Rattle.modes.specs.declared.did.StartWhy0.TheVariants.{None as NoWhy};
+ghost use Rattle.service.specs.Modes.{IsUndone, RunsMode};
+ghost use Rattle.service.specs.Run.{AreEnds, BeginsWithDisks, EachEnd, IsAsking, IsFaultless, IsIdle, IsServed, users_of};
 
-use crate::asking::NO_CALLS;
+use crate::alone::{run_check, run_gen, run_init};
+use crate::closed::{Closed, Ticker, no_history};
 use crate::served::{Room, Served, prepare, serve_all};
-use cfg_base::{Limits, NoMemory, Users, Words};
+use cfg_base::{Limits, NoMemory, Words};
 use command_line::{Asked, RunMode, Usage, read_words, words_ask_one_thing};
 use config_core::active_configuration_stays_accepted;
 use disk_model::Disk;
 use io_edge::{Beat, Clock, Sink, Source};
-use session_history::{History, histories_stay_accepted};
-use session_shell::{End, TurnList};
+use modes::StartWhy0;
+use session_history::histories_stay_accepted;
+use session_shell::End;
 use std::alloc::Global;
 use std::sync::Wait;
 use std::thread::Threads;
-
-/// What tells when another tick is due, and the time of it.
-#[derive(Drop)]
-pub struct Ticker<B, C> {
-    pub beat: B,
-    pub clock: C,
-}
-
-/// Why the service could not be started: it always can.
-#[derive(Clone, Copy, Debug, PartialEq, Eq)]
-pub enum StartWhy0 {
-    None,
-}
-
-/// All that a run was given, with what it did.
-#[derive(Drop)]
-pub struct Closed<S, K, C, B, D> {
-    /// 0 where each session ended clean, 1 for words that ask nothing, 5, 6 or 7 for a session whose source failed, whose
-    /// sink failed or whose input has too many bytes, 9 for want of memory.
-    pub status: u8,
-    pub why: StartWhy0,
-    pub ends: Vec<End<S, K, C>>,
-    pub ticker: Ticker<B, C>,
-    pub turns: Vec<TurnList>,
-    pub history: History,
-    pub disk_a: D,
-    pub disk_b: D,
-}
-
-fn no_history(alloc: Global) -> History
-    ensures opening { result.opening ≡ None }
-    ensures events { result.events.items ≡ [] }
-    ensures users { result.users ≡ [] }
-    ensures made { result.made ≡ record { a = 0; b = 0 } }
-{
-    History {
-        opening: None,
-        users: Users::new(alloc),
-        made: NO_CALLS,
-        events: Vec::new(alloc),
-    }
-}
 
 /// A run that was not begun.
 fn idle<S, K, C, B, D>(
@@ -74,6 +35,7 @@ fn idle<S, K, C, B, D>(
 ) -> Closed<S, K, C, B, D>
     ensures status { result.status ≡ status }
     ensures idle { IsIdle ends.items result.ends.items result.turns.items result.history }
+    ensures why { result.why ≡ NoWhy }
     ensures ticker { result.ticker ≡ ticker }
     ensures disks { (result.disk_a ≡ disk_a) × (result.disk_b ≡ disk_b) }
 {
@@ -86,19 +48,6 @@ fn idle<S, K, C, B, D>(
         history: no_history(alloc),
         disk_a,
         disk_b,
-    }
-}
-
-/// The service that the words ask for.
-fn service_of(alloc: Global, words: &Words) -> Result<Asked, Usage>
-    ensures ok { IfOk result (λ asked. Asks words.now asked × (asked.mode ≡ Serve)) }
-    ensures refused { IsErrOf result Refused → IsServe words.now → ⊥ }
-{
-    words_ask_one_thing();
-    match read_words(alloc, words) {
-        Ok(asked) if asked.mode == RunMode::Serve => Ok(asked),
-        Ok(_) => Err(Usage::Refused),
-        Err(fault) => Err(fault),
     }
 }
 
@@ -118,6 +67,7 @@ fn serve<R: Wait, S: Source, K: Sink, C: Clock, B, D>(
     requires few { length ends.items ≤ 64 }
     ensures served { IsServed S.left S.faults K.held K.faults C.coming limits.input ends.items result.ends.items
         result.turns.items result.history result.status }
+    ensures why { result.why ≡ NoWhy }
     ensures ticker { result.ticker ≡ ticker }
     ensures disks { (result.disk_a ≡ disk_a) × (result.disk_b ≡ disk_b) }
 {
@@ -141,8 +91,34 @@ fn serve<R: Wait, S: Source, K: Sink, C: Clock, B, D>(
     }
 }
 
-/// Runs the service by its words, with the ends that they ask for: the sessions are served one after another, as callers 1, 2
-/// and so on. Where memory is wanting all parts come back.
+/// Serves sessions as the words ask, where there is memory for it.
+fn serve_asked<R: Wait, S: Source, K: Sink, C: Clock, B, D>(
+    rt: &R,
+    alloc: Global,
+    asked: Asked,
+    ends: Vec<End<S, K, C>>,
+    ticker: Ticker<B, C>,
+    disk_a: D,
+    disk_b: D,
+) -> Closed<S, K, C, B, D>
+    requires users { users_of ends.items ≡ asked.users }
+    requires some { (0 < length asked.users) × (length asked.users ≤ 64) }
+    ensures served { ((result.status ≡ 9) × IsIdle ends.items result.ends.items result.turns.items result.history)
+        ⊎ IsServed S.left S.faults K.held K.faults C.coming asked.limits.input ends.items result.ends.items
+        result.turns.items result.history result.status }
+    ensures why { result.why ≡ NoWhy }
+    ensures ticker { result.ticker ≡ ticker }
+    ensures disks { (result.disk_a ≡ disk_a) × (result.disk_b ≡ disk_b) }
+{
+    let limits = asked.limits;
+    match prepare(alloc, asked.users) {
+        Ok(room) => serve(rt, alloc, room, ends, limits, ticker, disk_a, disk_b),
+        Err(NoMemory) => idle(alloc, 9, ends, ticker, disk_a, disk_b),
+    }
+}
+
+/// Does what the words ask, with the ends that they ask for. Mode serve serves the sessions one after another, as callers 1, 2
+/// and so on; each other mode has one end, whose source isn't read. Where memory is wanting all parts come back.
 pub fn run<R, S, K, C, B, D>(
     rt: &R,
     alloc: Global,
@@ -160,8 +136,8 @@ where
     B: Beat + Send,
     D: Disk + Send,
     requires ends { AreEnds words.now ends.items }
-    ensures usage { (result.status ≡ 1) ↔ ((result.status ≢ 9) × (IsServe words.now → ⊥)) }
-    ensures refused { (IsServe words.now → ⊥) → IsIdle ends.items result.ends.items result.turns.items result.history }
+    ensures usage { (result.status ≡ 1) ↔ ((result.status ≢ 9) × (IsAsking words.now → ⊥)) }
+    ensures refused { (IsAsking words.now → ⊥) → IsIdle ends.items result.ends.items result.turns.items result.history }
     ensures served { (asked : Asked) → Asks words.now asked → asked.mode ≡ Serve
         → ((result.status ≡ 9) × IsIdle ends.items result.ends.items result.turns.items result.history)
         ⊎ IsServed S.left S.faults K.held K.faults C.coming asked.limits.input ends.items result.ends.items
@@ -170,18 +146,24 @@ where
     ensures complete { (asked : Asked) → Asks words.now asked → asked.mode ≡ Serve
         → EachEnd (IsFaultless S.left S.faults K.faults asked.limits.input) ends.items result.ends.items
         → (result.status ≡ 0) ⊎ (result.status ≡ 9) }
+    ensures modes { (asked : Asked) → Asks words.now asked → asked.mode ≢ Serve
+        → IsUndone ends.items disk_a disk_b result
+        ⊎ RunsMode K.held K.faults D.tells D.history D.faults asked ends.items disk_a disk_b result }
     ensures ticker { result.ticker ≡ ticker }
-    ensures disks { (result.disk_a ≡ disk_a) × (result.disk_b ≡ disk_b) }
+    // Only the modes that begin with disks call them, and have a refused start.
+    ensures disks { (BeginsWithDisks words.now → ⊥)
+        → (result.disk_a ≡ disk_a) × (result.disk_b ≡ disk_b) × (result.why ≡ NoWhy) }
 {
     words_ask_one_thing();
-    let asked = match service_of(alloc, words) {
+    let asked = match read_words(alloc, words) {
         Ok(asked) => asked,
         Err(Usage::Refused) => return idle(alloc, 1, ends, ticker, disk_a, disk_b),
         Err(Usage::NoMemory) => return idle(alloc, 9, ends, ticker, disk_a, disk_b),
     };
-    let limits = asked.limits;
-    match prepare(alloc, asked.users) {
-        Ok(room) => serve(rt, alloc, room, ends, limits, ticker, disk_a, disk_b),
-        Err(NoMemory) => idle(alloc, 9, ends, ticker, disk_a, disk_b),
+    match asked.mode {
+        RunMode::Serve => serve_asked(rt, alloc, asked, ends, ticker, disk_a, disk_b),
+        RunMode::Init => run_init(alloc, asked, ends, ticker, disk_a, disk_b),
+        RunMode::Check => run_check(alloc, asked, ends, ticker, disk_a, disk_b),
+        RunMode::Gen => run_gen(alloc, asked, ends, ticker, disk_a, disk_b),
     }
 }
