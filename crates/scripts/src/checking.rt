@@ -177,6 +177,38 @@ fn take<R: Threads + Wait + Sync>(
     }
 }
 
+/// Answers the lines of a script, up to its last question.
+fn answer_lines<R: Threads + Wait + Sync>(
+    rt: &R,
+    alloc: Global,
+    script: &mut Script,
+    report: &mut Report,
+    question: &mut Question,
+    bytes: &[u8],
+) -> Result<(), AllocError> {
+    for line in bytes.split(|byte| *byte == b'\n') {
+        report.line = report.line.saturating_add(1);
+        match str::from_utf8(line) {
+            Ok(text) => take(rt, alloc, script, report, question, text)?,
+            Err(_) => report.wrong("the line is no UTF-8")?,
+        }
+    }
+    Ok(())
+}
+
+/// Answers a script, and tells what it was asked last.
+fn answered<R: Threads + Wait + Sync>(
+    rt: &R,
+    alloc: Global,
+    report: &mut Report,
+    bytes: &[u8],
+) -> Result<Question, AllocError> {
+    let mut script = Script::new(alloc)?;
+    let mut question = Question::none(alloc);
+    answer_lines(rt, alloc, &mut script, report, &mut question, bytes)?;
+    Ok(question)
+}
+
 /// Answers a script, and reports what isn't as the script expects.
 pub(crate) fn check<R: Threads + Wait + Sync>(
     rt: &R,
@@ -185,15 +217,7 @@ pub(crate) fn check<R: Threads + Wait + Sync>(
     bytes: &[u8],
 ) -> Result<Report, AllocError> {
     let mut report = Report::new(alloc, name)?;
-    let mut script = Script::new(alloc)?;
-    let mut question = Question::none(alloc);
-    for line in bytes.split(|byte| *byte == b'\n') {
-        report.line = report.line.saturating_add(1);
-        match str::from_utf8(line) {
-            Ok(text) => take(rt, alloc, &mut script, &mut report, &mut question, text)?,
-            Err(_) => report.wrong("the line is no UTF-8")?,
-        }
-    }
+    let mut question = answered(rt, alloc, &mut report, bytes)?;
     question.close(&mut report)?;
     if report.questions == 0 {
         report.wrong("the script asks nothing")?;
