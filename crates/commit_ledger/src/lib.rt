@@ -6,6 +6,7 @@
 //! (`config_core`), and where entries are written (`commit_journal`).
 #![tactic(auto)]
 
+mod copying;
 mod date;
 mod entry;
 mod fields;
@@ -19,6 +20,7 @@ mod payload;
 mod reading;
 mod ready;
 mod revert;
+mod sharing;
 mod text;
 
 pub use entry::{Commit, Confirm, Entry, Via};

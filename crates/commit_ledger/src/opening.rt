@@ -165,7 +165,7 @@ impl Ledger {
         if !self.follows(&entry) {
             return Err(bad);
         }
-        let ready = self.prepare(entry)?;
+        let ready = self.prepare_shared(alloc, entry)?;
         self.accept(ready);
         Ok(())
     }
