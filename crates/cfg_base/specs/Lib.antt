@@ -1,4 +1,5 @@
 pub mod Order
+pub mod Kept
 pub mod Kind
 pub mod Counts
 pub mod Blocks

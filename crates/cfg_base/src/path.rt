@@ -5,12 +5,15 @@ ghost use Rattle.std.specs.Cmp.{partial_order_from_own_ties};
 ghost use Rattle.std.proofs.Common.{rules};
 ghost use Rattle.cfg_base.specs.declared.path.TheConstants.{MAX_STEPS};
 ghost use Rattle.cfg_base.specs.declared.path.PathFault.TheVariants.{NoMemory};
+ghost use Rattle.cfg_base.specs.Kept.{items_of};
 ghost use Rattle.cfg_base.specs.Order.{path_cmp, is_below, paths_total, paths_equal};
 
 use crate::fault::NoMemory;
+use crate::shared::Shared;
 use crate::word::Word;
 use std::alloc::{AllocError, AllocFailed, Global};
 use std::cmp::Ordering;
+use std::fmt;
 use std::marker::Model;
 use thiserror::Error;
 
@@ -50,22 +53,40 @@ impl<T: Drop> From<AllocFailed<T>> for PathFault {
     }
 }
 
+impl From<NoMemory> for PathFault {
+    ghost from_gives = { λ _ fault. fault ≡ NoMemory };
+
+    fn from(_: NoMemory) -> PathFault {
+        PathFault::NoMemory
+    }
+}
+
 /// Where a statement stands: its steps from the top, which itself is the path without steps.
-#[derive(Debug, Drop)]
+/// Copies share the steps, and the top has none to share.
 pub struct Path {
-    steps: Vec<Step>,
+    alloc: Global,
+    steps: Option<Shared<Step>>,
+}
+
+// Written out, so that a drop of what holds a path is a call.
+impl Drop for Path {
+    fn drop(self) {
+        let Path { alloc: _, steps } = self;
+        drop(steps);
+    }
 }
 
 impl Model for Path {
     ghost use Rattle.std.specs.Prelude.{List, length, ◌≤◌};
     ghost use Rattle.cfg_base.specs.declared.path.Step.{Step};
     ghost use Rattle.cfg_base.specs.declared.path.TheConstants.{MAX_STEPS};
+    ghost use Rattle.cfg_base.specs.Kept.{items_of};
 
     ghost Value = { List Step };
 
-    ghost view = { λ p. p.steps.items };
+    ghost view = { λ p. items_of p.steps };
 
-    ghost invariant = { λ p. length p.steps.items ≤ MAX_STEPS };
+    ghost invariant = { λ p. length (items_of p.steps) ≤ MAX_STEPS };
 }
 
 impl Path {
@@ -73,9 +94,21 @@ impl Path {
     pub fn top(alloc: Global) -> Path
         ensures { result ≡ [] }
     {
-        Path {
-            steps: Vec::new(alloc),
+        Path { alloc, steps: None }
+    }
+
+    /// The path of these steps.
+    fn of(alloc: Global, steps: Vec<Step>) -> Result<Path, NoMemory>
+        requires { length steps.items ≤ MAX_STEPS }
+        ensures { IfOk result (λ path. path ≡ steps.items) }
+    {
+        if steps.is_empty() {
+            return Ok(Path::top(alloc));
         }
+        Ok(Path {
+            alloc,
+            steps: Some(Shared::new(alloc, steps)?),
+        })
     }
 
     /// This path with one more step at its end.
@@ -83,12 +116,14 @@ impl Path {
         ensures ok { IfOk result (λ path. path ≡ self.now ++ step ∷ []) }
         ensures deep { IsErrOf result PathFault.TooDeep ↔ (MAX_STEPS ≤ length self.now) }
     {
-        if self.steps.len() >= MAX_STEPS {
+        let above = self.steps();
+        if above.len() >= MAX_STEPS {
             return Err(PathFault::TooDeep);
         }
-        let mut steps = self.steps.clone()?;
+        let mut steps = Vec::with_capacity(self.alloc, above.len() + 1)?;
+        steps.extend_with_clones(above)?;
         steps.push(step)?;
-        Ok(Path { steps })
+        Ok(Path::of(self.alloc, steps)?)
     }
 
     /// The path of its first steps.
@@ -96,16 +131,17 @@ impl Path {
         requires { count ≤ length self.now }
         ensures { IfOk result (λ path. path ≡ take count self.now) }
     {
-        let mut first = self.steps.clone()?;
-        first.truncate(count);
-        Ok(Path { steps: first })
+        Path::of(
+            self.alloc,
+            Vec::from_clones(self.alloc, self.steps().split_at(count).0)?,
+        )
     }
 
     /// Whether this path is another one or below it.
     pub fn is_below(&self, above: &Path) -> bool
         ensures { result ≡ is_below above.now self.now }
     {
-        self.steps.starts_with(&above.steps)
+        self.steps().starts_with(above.steps())
     }
 
     /// The steps, from the top.
@@ -113,7 +149,18 @@ impl Path {
         ensures steps { result.now ≡ self.now }
         ensures within { length self.now ≤ MAX_STEPS }
     {
-        &self.steps
+        match &self.steps {
+            Some(steps) => steps.items(),
+            None => &[],
+        }
+    }
+}
+
+impl fmt::Debug for Path {
+    fn fmt<W: fmt::Write>(&self, f: &mut fmt::Formatter<W>) -> fmt::Result {
+        f.debug_struct("Path")
+            .field("steps", &self.steps())
+            .finish()
     }
 }
 
@@ -122,6 +169,7 @@ impl Clone for Path {
 
     fn clone(&self) -> Result<Path, AllocError> {
         Ok(Path {
+            alloc: self.alloc,
             steps: self.steps.clone()?,
         })
     }
@@ -161,6 +209,6 @@ impl Ord for Path {
     ghost matches_eq = { Prim.search (comparing, rules) };
 
     fn cmp(&self, other: &Path) -> Ordering {
-        self.steps.cmp(&other.steps)
+        self.steps().cmp(other.steps())
     }
 }

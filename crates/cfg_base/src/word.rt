@@ -6,15 +6,21 @@ ghost use Rattle.std.proofs.Common.{rules};
 ghost use Rattle.cfg_base.specs.declared.word.TheConstants.{MAX_BYTES};
 ghost use Rattle.cfg_base.specs.declared.word.WordFault.TheVariants.{NoMemory};
 ghost use Rattle.cfg_base.specs.Order.{word_cmp, words_total, words_equal};
+ghost use Rattle.cfg_base.specs.Kept.{bytes_of, IsKept};
+ghost use Rattle.cfg_base.specs.declared.word.TheConstants.{IN_PLACE};
 
 use crate::fault::NoMemory;
 use std::alloc::{AllocError, Global};
 use std::cmp::Ordering;
+use std::fmt;
 use std::marker::Model;
 use thiserror::Error;
 
 /// The most bytes that a word has.
 pub const MAX_BYTES: usize = 255;
+
+/// The most bytes that stand in a word itself, and not in memory of their own.
+const IN_PLACE: usize = 22;
 
 /// Why bytes are no word.
 #[derive(Clone, Copy, Debug, PartialEq, Eq, Error)]
@@ -33,30 +39,101 @@ impl From<AllocError> for WordFault {
     }
 }
 
+/// Where the bytes of a word stand.
+enum Kept {
+    /// So many of these places, from the first one.
+    InPlace(u8, [u8; IN_PLACE]),
+    /// In memory of their own.
+    Apart(Vec<u8>),
+}
+
+// Written out, so that a drop of what holds a word is a call.
+impl Drop for Kept {
+    fn drop(self) {
+        match self {
+            Kept::InPlace(_, _) => {}
+            Kept::Apart(bytes) => drop(bytes),
+        }
+    }
+}
+
+/// Few bytes, in place.
+fn in_place(bytes: &[u8]) -> Kept
+    requires { length bytes.now ≤ IN_PLACE }
+    ensures bytes { bytes_of result ≡ bytes.now }
+    ensures kept { IsKept result }
+{
+    let count = bytes.len();
+    let mut places = [0; IN_PLACE];
+    places[..count].copy_from_slice(bytes);
+    Kept::InPlace(count as u8, places)
+}
+
+/// Bytes, in place where they are few.
+fn keeping(alloc: Global, bytes: &[u8]) -> Result<Kept, AllocError>
+    ensures bytes { IfOk result (λ kept. bytes_of kept ≡ bytes.now) }
+    ensures kept { IfOk result IsKept }
+{
+    if bytes.len() <= IN_PLACE {
+        return Ok(in_place(bytes));
+    }
+    Ok(Kept::Apart(Vec::from_slice(alloc, bytes)?))
+}
+
+/// The bytes that are kept.
+fn bytes_in(kept: &Kept) -> &[u8]
+    requires { IsKept kept.now }
+    ensures { result.now ≡ bytes_of kept.now }
+{
+    match kept {
+        Kept::InPlace(count, places) => &places[..*count as usize],
+        Kept::Apart(bytes) => bytes,
+    }
+}
+
+/// The same bytes once more.
+fn copied(kept: &Kept) -> Result<Kept, AllocError>
+    requires { IsKept kept.now }
+    ensures bytes { IfOk result (λ copy. bytes_of copy ≡ bytes_of kept.now) }
+    ensures kept { IfOk result IsKept }
+{
+    match kept {
+        Kept::InPlace(count, places) => Ok(Kept::InPlace(*count, *places)),
+        Kept::Apart(bytes) => Ok(Kept::Apart(bytes.clone()?)),
+    }
+}
+
 /// One word of a statement: a keyword, a name or a value, as bytes.
-#[derive(Debug, Drop)]
 pub struct Word {
-    bytes: Vec<u8>,
+    kept: Kept,
+}
+
+impl Drop for Word {
+    fn drop(self) {
+        let Word { kept } = self;
+        drop(kept);
+    }
 }
 
 impl Model for Word {
     ghost use Rattle.std.specs.Prelude.{List, ℕ, length, ◌≤◌};
     ghost use Rattle.cfg_base.specs.declared.word.TheConstants.{MAX_BYTES};
+    ghost use Rattle.cfg_base.specs.Kept.{bytes_of, IsKept};
 
     ghost Value = { List ℕ };
 
-    ghost view = { λ w. w.bytes.items };
+    ghost view = { λ w. bytes_of w.kept };
 
-    ghost invariant = { λ w. length w.bytes.items ≤ MAX_BYTES };
+    ghost invariant = { λ w. IsKept w.kept × (length (bytes_of w.kept) ≤ MAX_BYTES) };
 }
 
 impl Word {
     /// The word without bytes.
-    pub fn empty(alloc: Global) -> Word
+    pub fn empty(_: Global) -> Word
         ensures { result ≡ [] }
     {
         Word {
-            bytes: Vec::new(alloc),
+            kept: in_place(&[]),
         }
     }
 
@@ -69,7 +146,7 @@ impl Word {
             return Err(WordFault::LongWord);
         }
         Ok(Word {
-            bytes: Vec::from_slice(alloc, bytes)?,
+            kept: keeping(alloc, bytes)?,
         })
     }
 
@@ -79,7 +156,7 @@ impl Word {
         ensures { IfOk result (λ word. word ≡ bytes.now) }
     {
         Ok(Word {
-            bytes: Vec::from_slice(alloc, bytes)?,
+            kept: keeping(alloc, bytes)?,
         })
     }
 
@@ -88,7 +165,15 @@ impl Word {
         ensures bytes { result.now ≡ self.now }
         ensures within { length self.now < 256 }
     {
-        &self.bytes
+        bytes_in(&self.kept)
+    }
+}
+
+impl fmt::Debug for Word {
+    fn fmt<W: fmt::Write>(&self, f: &mut fmt::Formatter<W>) -> fmt::Result {
+        f.debug_struct("Word")
+            .field("bytes", &self.as_bytes())
+            .finish()
     }
 }
 
@@ -97,7 +182,7 @@ impl Clone for Word {
 
     fn clone(&self) -> Result<Word, AllocError> {
         Ok(Word {
-            bytes: self.bytes.clone()?,
+            kept: copied(&self.kept)?,
         })
     }
 }
@@ -136,6 +221,6 @@ impl Ord for Word {
     ghost matches_eq = { Prim.search (comparing, rules) };
 
     fn cmp(&self, other: &Word) -> Ordering {
-        self.bytes.cmp(&other.bytes)
+        self.as_bytes().cmp(other.as_bytes())
     }
 }

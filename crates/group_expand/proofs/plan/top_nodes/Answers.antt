@@ -12,4 +12,4 @@ pub returns : goal.returns
 returns c =
     let e : live_children c.top.result c.args.row.now ≡ kids_at (look_of c.args.row.now) (kids_of c.args.row.now) c.args.row.now []
     = ap (λ (p : List Step). live_children p c.args.row.now) c.top.ensures ∙ top_at c.args.row.now c.requires
-    in subst (λ (ns : List Node). IfOk c.live_children-2.result (λ nodes. nodes.items ≡ ns)) e c.live_children-2.ensures
+    in subst (λ (ns : List Node). IfOk c.live_children.result (λ nodes. nodes.items ≡ ns)) e c.live_children.ensures
