@@ -146,13 +146,12 @@ module _ {D : Type 0} (tells : D → Bool) (history : D → History) (faults : D
   }
 
   -- how a database begins
-  pub book_begins : (j : JournalView D) (kept opening : Kept) (users : List (List ℕ)) (state : State) (events : List Happened) → IsOpening tells history j kept opening → state ≡ opening_of kept users → events ≡ []
+  pub book_begins : (j : JournalView D) (opening : Kept) (users : List (List ℕ)) (state : State) (events : List Happened) → IsOpening tells history j opening → state ≡ opening_of opening users → events ≡ []
       → IsBook tells history (record { journal = j; opening = opening; users = users; events = events; state = state })
-  book_begins j kept opening users state events begins is none =
-      let start : state ≡ opening_of opening users = is ∙ ap (λ k. opening_of k users) (sym begins.same) in
+  book_begins j opening users state events begins start none =
       subst (λ es. IsBook tells history (record { journal = j; opening = opening; users = users; events = es; state = state })) (sym none)
       (subst (λ s. IsBook tells history (record { journal = j; opening = opening; users = users; events = []; state = s })) (sym start) (record {
-        began = sound;
+        began = begins.sound;
         leads = refl;
         at_rest = λ free. sym begins.calls;
         safe = λ t. starts_safe t;
@@ -162,14 +161,11 @@ module _ {D : Type 0} (tells : D → Bool) (history : D → History) (faults : D
         stands = stands;
       }))
     where
-      sound : IsSoundKept opening
-      sound = subst IsSoundKept (sym begins.same) begins.sound
-
       begins_sound : IsSoundState (opening_of opening users)
-      begins_sound = record { kept = sound; no_later = omega arith; flight = tt }
+      begins_sound = record { kept = begins.sound; no_later = omega arith; flight = tt }
 
       stands : Stands tells history j opening None
-      stands = record { records = begins.records; reads = subst (λ k. ReadsAs Accepts begins.records k) (sym begins.same) begins.reads; holds = begins.holds; entry = tt }
+      stands = record { records = begins.records; reads = begins.reads; holds = begins.holds; entry = tt }
 
       zero_a : (calls_of j).a ≡ 0
       zero_a = ap (λ (m : Calls). m.a) begins.calls

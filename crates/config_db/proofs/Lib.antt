@@ -6,6 +6,7 @@ mod DiskLemmas
 mod WritingLemmas
 mod MachineLemmas
 mod BookLemmas
+mod StartingLemmas
 mod EventLemmas
 mod MoveLemmas
 mod AnswerLemmas

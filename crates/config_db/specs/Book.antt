@@ -39,10 +39,9 @@ pub record IsBook {D : Type 0} (tells : D → Bool) (history : D → History) (v
   pub callers : length v.state.callers ≡ length v.users
   pub stands : Stands tells history v.journal v.state.kept v.state.flight
 
--- a journal that was just opened holds the list of this ledger, of which the other is a second reading
-pub record IsOpening {D : Type 0} (tells : D → Bool) (history : D → History) (j : JournalView D) (kept opening : Kept) : Type 0 where
+-- a journal that was just opened holds the list of this ledger
+pub record IsOpening {D : Type 0} (tells : D → Bool) (history : D → History) (j : JournalView D) (kept : Kept) : Type 0 where
   pub calls : calls_of j ≡ no_calls
-  pub same : opening ≡ kept
   -- its maps are accepted, commits are numbered from 1, and an unconfirmed run has room for its revert
   pub sound : IsSoundKept kept
   pub records : List Record

@@ -4,6 +4,7 @@ pub mod Disks
 pub mod Crash
 pub mod Writing
 pub mod Book
+pub mod Starting
 pub mod Moves
 pub mod Answers
 pub mod Closing

@@ -1,6 +1,4 @@
-use commit_journal::Journal;
 use config_core::Reply;
-use disk_model::Disk;
 use session_history::History;
 
 /// The answer to a command.
@@ -35,10 +33,4 @@ pub struct ClosedBook<D> {
     pub fault: bool,
     pub a: D,
     pub b: D,
-}
-
-/// The journal of a database for which memory was wanting.
-#[derive(Drop)]
-pub struct Unbegun<D: Disk> {
-    pub journal: Journal<D>,
 }

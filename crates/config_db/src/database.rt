@@ -1,13 +1,11 @@
-ghost use Rattle.std.specs.Prelude.{◌≡◌, ◌<◌, ◌≤◌, [], length, IfOk, IfErr};
+ghost use Rattle.std.specs.Prelude.{◌≡◌, ◌<◌, ◌≤◌, length};
 ghost use Rattle.commands.specs.Sound.{IsSound};
-ghost use Rattle.config_core.specs.State.{opening_of};
 ghost use Rattle.session_history.specs.Events.{IsLegal, StaysAccepted};
 ghost use Rattle.config_db.specs.View.{opened};
-ghost use Rattle.config_db.specs.Book.{IsOpening};
 ghost use Rattle.config_db.specs.Answers.{Answers, MakesWay, moment_at};
 ghost use Rattle.config_db.specs.Closing.{IsClosed};
 
-use crate::answer::{Answered, ClosedBook, Ticked, Unbegun};
+use crate::answer::{Answered, ClosedBook, Ticked};
 use cfg_base::{Moment, Users};
 use commands::Command;
 use commit_journal::Journal;
@@ -59,37 +57,6 @@ impl<D: Disk> Model for Database<D> {
 }
 
 impl<D: Disk> Database<D> {
-    /// The database over a journal that was just opened: its list, read twice, and the users of callers 1, 2 and so on.
-    pub fn over(
-        alloc: Global,
-        journal: Journal<D>,
-        ledger: Ledger,
-        opening: Ledger,
-        users: Users,
-    ) -> Result<Database<D>, Unbegun<D>>
-        requires { IsOpening D.tells D.history journal ledger opening }
-        ensures ok { IfOk result (λ book. book ≡ record {
-          journal = journal;
-          opening = opening;
-          users = users;
-          events = [];
-          state = opening_of opening users;
-        }) }
-        ensures err { IfErr result (λ unbegun. unbegun.journal ≡ journal) }
-    {
-        match Core::new(alloc, ledger, &users) {
-            Err(_) => Err(Unbegun { journal }),
-            Ok(core) => Ok(Database {
-                alloc,
-                journal,
-                opening,
-                users,
-                events: Vec::new(alloc),
-                core,
-            }),
-        }
-    }
-
     /// How many events there are. They are a legal history, in which the active configuration stays accepted.
     pub fn count(&self) -> u64
         ensures count { result ≡ length self.now.events }

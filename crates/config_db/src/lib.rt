@@ -1,11 +1,11 @@
 //! The database of the configuration service: the machine, with each of its entries in the journal before it is answered.
 //!
-//! Guarantees: what happened is a legal history over the list that the journal held, with one reply a command, the machine's;
-//! the journal holds what the state keeps, and the entry that is in flight; a disk's fault is told only where a disk's count of
-//! faults rose in the call (specs/Answers.antt, specs/Closing.antt). A crash at any moment leaves on the disks what was kept by
-//! then, or that with the entry of that moment (specs/Crash.antt).
-//! Leaves to others: how two files become a journal with its list (`commit_journal`, `commit_ledger`), what a session is, and
-//! who calls when.
+//! Guarantees: a database begins over the list of commits that two disks spell, or over one that is made of the factory commit
+//! (specs/Starting.antt). What happened is a legal history over that list, with one reply a command, the machine's; the journal
+//! holds what the state keeps, and the entry that is in flight; a disk's fault is told only where a disk's count of faults rose
+//! in the call (specs/Answers.antt, specs/Closing.antt). A crash at any moment since the opening leaves on the disks what was
+//! kept by then, or that with the entry of that moment (specs/Crash.antt).
+//! Leaves to others: how two files become a journal with its list (`stored_ledger`), what a session is, and who calls when.
 //!
 //! The order of a turn, each step in one method:
 //! 1. What is in flight is settled (`settle`). Where a disk fails, it stays in flight and the command is put off.
@@ -21,8 +21,9 @@ mod answer;
 mod closing;
 mod database;
 mod serving;
+mod starting;
 mod turning;
 mod writing;
 
-pub use answer::{Answered, ClosedBook, Ticked, Unbegun};
+pub use answer::{Answered, ClosedBook, Ticked};
 pub use database::Database;
