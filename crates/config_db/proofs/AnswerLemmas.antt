@@ -22,6 +22,7 @@ use Rattle.config_db.specs.Disks.{FaultRose, GoesOn}
 use Rattle.config_db.specs.Moves.{Happens, IsUnsettled, Settles, noted}
 use Rattle.config_db.specs.Answers.{Answers, CatchesUp, Clears, ClearsBehind, MakesWay, Reverts, Takes, reverted_as}
 use Rattle.config_db.proofs.DiskLemmas.{rose_first, rose_last}
+use Rattle.config_db.proofs.FaultLemmas.{counted_command}
 use Rattle.config_db.proofs.MachineLemmas.{after_failed, after_revert, flying, settling_moves}
 use Rattle.config_db.proofs.MoveLemmas.{extends_event, extends_more, extends_none, extends_one, extends_unsettled}
 
@@ -131,10 +132,13 @@ module _ {D : Type 0} (tells : D → Bool) (faults : D → ℕ) (caller moment :
     answers (Kept place reply) why rose taken =
         let e : Happened = noted caller moment (CommandOf command) taken.outcome (calls_of w.journal) in
         let goes = taken.happens.goes in
+        let cause : taken.outcome ≡ Fault → FaultRose faults u.journal w.journal =
+        λ is. ⊎_elim (λ before. rose_first tells faults u.journal v.journal w.journal before goes)
+        (λ now. rose_last tells faults u.journal v.journal w.journal way.extends.goes goes now) (rose (taken.cause is)) in
         record {
           own = way.own ++ e ∷ [];
-          extends = extends_event tells faults caller moment u v w way.own (CommandOf command) taken.outcome reply way.extends taken.happens
-              (λ is. ⊎_elim (λ before. rose_first tells faults u.journal v.journal w.journal before goes) (λ now. rose_last tells faults u.journal v.journal w.journal way.extends.goes goes now) (rose (taken.cause is)));
+          extends = extends_event tells faults caller moment u v w way.own (CommandOf command) taken.outcome reply way.extends taken.happens cause
+              (counted_command faults tells u.journal v.journal w.journal way.own e way.extends.goes goes way.no_command refl way.extends.counted cause);
           answer = record {
             front = way.own;
             last = e;

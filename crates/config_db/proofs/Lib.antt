@@ -6,8 +6,8 @@ mod DiskLemmas
 mod WritingLemmas
 mod MachineLemmas
 mod BookLemmas
-mod StartingLemmas
 mod EventLemmas
+pub mod FaultLemmas
 mod MoveLemmas
 mod AnswerLemmas
 mod ClosingLemmas

@@ -1,7 +1,8 @@
 -- Events of one caller at one moment, one behind another.
-use Rattle.std.proofs.Common.{◌≡◌, ℕ, Bool, List, [], ◌∷◌, ◌++◌, refl, sym, ap, ◌∙◌, append_assoc}
+use Rattle.std.proofs.Common.{◌≡◌, ℕ, Bool, List, [], ◌∷◌, ◌++◌, refl, sym, ap, ◌∙◌, append_assoc, arith}
 use Rattle.std.specs.List.{AllByRecursion}
 use Rattle.std.proofs.lemmas.List.{append-nil}
+use Rattle.commit_journal.specs.Journal.{disk_a, disk_b}
 use Rattle.config_core.specs.declared.event.Event.{Event}
 use Rattle.config_core.specs.declared.event.Outcome.{Outcome}
 use Rattle.config_core.specs.declared.event.Outcome.TheVariants.{Fault}
@@ -11,9 +12,11 @@ use Rattle.session_history.proofs.EventLemmas.{Leads-append}
 use Rattle.config_db.specs.View.{DatabaseView, IsSameRun}
 use Rattle.config_db.specs.Numbers.{calls_of}
 use Rattle.config_db.specs.Disks.{FaultRose, GoesOn}
+use Rattle.config_db.specs.Faults.{AreCounted}
 use Rattle.config_db.specs.Moves.{Extends, Happens, HasCause, IsOf, IsUnsettled, noted}
 use Rattle.config_db.proofs.DiskLemmas.{goes_further, goes_nowhere, rose_first, rose_last}
 use Rattle.config_db.proofs.BookLemmas.{turn_leads}
+use Rattle.config_db.proofs.FaultLemmas.{counted_more, counted_none, counted_one}
 
 pub All-append : {A : Type 0} → (P : A → Type 0) (xs ys : List A) → AllByRecursion P xs → AllByRecursion P ys → AllByRecursion P (xs ++ ys)
 All-append P [] ys front back = back
@@ -34,6 +37,7 @@ module _ {D : Type 0} (tells : D → Bool) (faults : D → ℕ) (caller moment :
     grown = sym (append-nil v.events);
     made = tt;
     causes = tt;
+    counted = counted_none faults (disk_a v.journal) (disk_b v.journal) (disk_a v.journal) (disk_b v.journal) (omega arith) (omega arith);
     same = record { opening = refl; users = refl };
     goes = goes_nowhere tells faults v.journal;
   }
@@ -45,6 +49,7 @@ module _ {D : Type 0} (tells : D → Bool) (faults : D → ℕ) (caller moment :
     grown = un.events ∙ sym (append-nil v.events);
     made = tt;
     causes = tt;
+    counted = counted_none faults (disk_a v.journal) (disk_b v.journal) (disk_a v'.journal) (disk_b v'.journal) un.goes.faults_a un.goes.faults_b;
     same = un.same;
     goes = un.goes;
   }
@@ -62,21 +67,25 @@ module _ {D : Type 0} (tells : D → Bool) (faults : D → ℕ) (caller moment :
   -- one event more
   pub extends_event : (u v w : DatabaseView D) (own : List Happened) (event : Event) (outcome : Outcome) (reply : Reply) → Extends tells faults caller moment own u v
       → Happens tells faults caller moment event outcome reply v w → (outcome ≡ Fault → FaultRose faults u.journal w.journal)
+      → AreCounted faults (own ++ noted caller moment event outcome (calls_of w.journal) ∷ []) (disk_a u.journal) (disk_b u.journal) (disk_a w.journal) (disk_b w.journal)
       → Extends tells faults caller moment (own ++ noted caller moment event outcome (calls_of w.journal) ∷ []) u w
-  extends_event u v w own event outcome reply before happens cause =
+  extends_event u v w own event outcome reply before happens cause counted =
       let e : Happened = noted caller moment event outcome (calls_of w.journal) in
       record {
         leads = Leads-append u.state own (e ∷ []) v.state w.state before.leads (turn_leads v.state w.state caller moment event outcome reply (calls_of w.journal) happens.turns);
         grown = happens.grown ∙ ap (λ l. l ++ e ∷ []) before.grown ∙ append_assoc u.events own (e ∷ []);
         made = All-append (IsOf caller moment) own (e ∷ []) before.made ((refl, refl), tt);
         causes = All-append (HasCause faults u.journal w.journal) own (e ∷ []) (causes_first u v w own before.causes happens.goes) (cause, tt);
+        counted = counted;
         same = same_run u v w before.same happens.same;
         goes = goes_further tells faults u.journal v.journal w.journal before.goes happens.goes;
       }
 
   pub extends_one : (v w : DatabaseView D) (event : Event) (outcome : Outcome) (reply : Reply) → Happens tells faults caller moment event outcome reply v w
       → (outcome ≡ Fault → FaultRose faults v.journal w.journal) → Extends tells faults caller moment (noted caller moment event outcome (calls_of w.journal) ∷ []) v w
-  extends_one v w event outcome reply happens cause = extends_event v v w [] event outcome reply (extends_none v) happens cause
+  extends_one v w event outcome reply happens cause =
+      extends_event v v w [] event outcome reply (extends_none v) happens cause
+      (counted_one faults tells v.journal w.journal (noted caller moment event outcome (calls_of w.journal)) happens.goes cause)
 
   -- events, and then more
   pub extends_more : (u v w : DatabaseView D) (own more : List Happened) → Extends tells faults caller moment own u v → Extends tells faults caller moment more v w
@@ -86,6 +95,7 @@ module _ {D : Type 0} (tells : D → Bool) (faults : D → ℕ) (caller moment :
     grown = next.grown ∙ ap (λ l. l ++ more) first.grown ∙ append_assoc u.events own more;
     made = All-append (IsOf caller moment) own more first.made next.made;
     causes = All-append (HasCause faults u.journal w.journal) own more (causes_first u v w own first.causes next.goes) (causes_last u v w more first.goes next.goes next.causes);
+    counted = counted_more faults own more (disk_a u.journal) (disk_b u.journal) (disk_a v.journal) (disk_b v.journal) (disk_a w.journal) (disk_b w.journal) next.goes.faults_a next.goes.faults_b first.counted next.counted;
     same = same_run u v w first.same next.same;
     goes = goes_further tells faults u.journal v.journal w.journal first.goes next.goes;
   }

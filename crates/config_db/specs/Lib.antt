@@ -5,6 +5,7 @@ pub mod Crash
 pub mod Writing
 pub mod Book
 pub mod Starting
+pub mod Faults
 pub mod Moves
 pub mod Answers
 pub mod Closing

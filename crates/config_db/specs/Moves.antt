@@ -2,7 +2,7 @@
 use Rattle.std.specs.Prelude.{◌≡◌, ℕ, Bool, false, List, [], ◌∷◌, ◌++◌, None, IsSome}
 use Rattle.std.specs.List.{AllByRecursion}
 use Rattle.cfg_base.specs.declared.calls.Calls.{Calls}
-use Rattle.commit_journal.specs.Journal.{JournalView}
+use Rattle.commit_journal.specs.Journal.{JournalView, disk_a, disk_b}
 use Rattle.config_core.specs.declared.event.Event.{Event}
 use Rattle.config_core.specs.declared.event.Event.TheVariants.{Settle}
 use Rattle.config_core.specs.declared.event.Outcome.{Outcome}
@@ -16,6 +16,7 @@ use Rattle.session_history.specs.Events.{Leads, is_command}
 use Rattle.config_db.specs.View.{DatabaseView, IsSameRun}
 use Rattle.config_db.specs.Numbers.{calls_of}
 use Rattle.config_db.specs.Disks.{FaultRose, GoesOn}
+use Rattle.config_db.specs.Faults.{AreCounted}
 
 -- an event with its outcome is a step of the machine, with that reply
 pub record Turns (s : State) (caller moment : ℕ) (event : Event) (outcome : Outcome) (reply : Reply) (s' : State) : Type 0 where
@@ -74,5 +75,7 @@ pub record Extends {D : Type 0} (tells : D → Bool) (faults : D → ℕ) (calle
   pub grown : v'.events ≡ v.events ++ own
   pub made : AllByRecursion (IsOf caller moment) own
   pub causes : AllByRecursion (HasCause faults v.journal v'.journal) own
+  -- and no more of them have it than the counts rose by
+  pub counted : AreCounted faults own (disk_a v.journal) (disk_b v.journal) (disk_a v'.journal) (disk_b v'.journal)
   pub same : IsSameRun v v'
   pub goes : GoesOn tells faults v.journal v'.journal

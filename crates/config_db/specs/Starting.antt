@@ -5,7 +5,8 @@ use Rattle.config_core.specs.State.{opening_of}
 use Rattle.config_db.specs.View.{DatabaseView}
 
 -- a database that was just begun on these two disks, for these users: nothing happened in it
-pub record IsBegun {D : Type 0} (tells : D → Bool) (faults : D → ℕ) (a b : D) (users : List (List ℕ)) (limit : ℕ) (v : DatabaseView D) : Type 0 where
+pub record IsBegun {D : Type 0} (tells : D → Bool) (faults : D → ℕ) (a b : D) (users : List (List ℕ)) (limit : ℕ) (v : DatabaseView D)
+    : Type 0 where
   -- they are the users of callers 1, 2 and so on
   pub users_are : v.users ≡ users
   pub no_events : v.events ≡ []
