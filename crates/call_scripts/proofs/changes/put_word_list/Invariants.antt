@@ -1,0 +1,8 @@
+use Rattle.std.proofs.Common.{length}
+use Rattle.call_scripts.proofs.changes.put_word_list.Given as goal
+
+abbrev pub invariant-loop-word : goal.invariant-loop-word
+invariant-loop-word l = Unit {0}
+
+abbrev pub decreases-loop-word : goal.decreases-loop-word
+decreases-loop-word l = length l.left

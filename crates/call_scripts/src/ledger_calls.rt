@@ -1,0 +1,171 @@
+//! Calls of the entries of a list of commits, and of what the records of a journal read as.
+
+ghost use Rattle.std.specs.Prelude.{◌≡◌, ◌≤◌, length, IfOk, IsTrue};
+ghost use Rattle.commit_ledger.specs.Payload.{HasShortText, most_text, text_of};
+
+use cfg_base::{Bytes, Moment, Word};
+use cfg_tree::Tree;
+use commit_check::Judge;
+use commit_ledger::{Commit, Confirm, Entry, Ledger, LedgerFault, Via, payload_of};
+use curly_print::text_len;
+use record_code::{Payloads, Placed};
+use script_lines::{
+    Arg, Fault, number, say, say_bytes, say_number, say_pending, say_text, small_number, user_of,
+};
+use std::alloc::Global;
+use std::mem;
+
+/// The most bytes that the text of a commit has.
+const MAX_TEXT: u64 = 1_048_576;
+
+#[tactic(auto, unfolding(commit_ledger::specs::Payload::text_of))]
+fn has_short_text(tree: &Tree) -> bool
+    ensures { IsTrue result → length (text_of tree.now) ≤ most_text }
+{
+    text_len(tree) <= MAX_TEXT
+}
+
+fn via_of(arg: &[u8]) -> Result<Via, Fault> {
+    match arg {
+        b"cli" => Ok(Via::Cli),
+        b"other" => Ok(Via::Other),
+        _ => Err(Fault::Script("a commit came by cli or other")),
+    }
+}
+
+/// NUMBER USER cli|other SECONDS COMMENT MINUTES: a commit of the script's tree
+fn commit_of(alloc: Global, tree: &Tree, args: &[Arg]) -> Result<Commit, Fault> {
+    let [count, user, via, moment, comment, minutes] = args else {
+        return Err(Fault::Script("commit NUMBER USER cli|other SECONDS COMMENT MINUTES"));
+    };
+    Ok(Commit {
+        number: number(count)?,
+        user: user_of(alloc, user)?,
+        via: via_of(via)?,
+        moment: Moment::of(number(moment)?),
+        comment: Word::of(alloc, comment)?,
+        tree: tree.copy()?,
+        minutes: small_number(minutes)?,
+    })
+}
+
+/// NUMBER USER SECONDS
+fn confirm_of(alloc: Global, args: &[Arg]) -> Result<Confirm, Fault> {
+    let [count, user, moment] = args else {
+        return Err(Fault::Script("confirm NUMBER USER SECONDS"));
+    };
+    Ok(Confirm {
+        number: number(count)?,
+        user: user_of(alloc, user)?,
+        moment: Moment::of(number(moment)?),
+    })
+}
+
+fn entry_of(alloc: Global, tree: &Tree, args: &[Arg]) -> Result<Entry, Fault> {
+    match args {
+        [kind, fields @ ..] if kind.as_slice() == b"commit".as_slice() => {
+            Ok(Entry::Commit(commit_of(alloc, tree, fields)?))
+        }
+        [kind, fields @ ..] if kind.as_slice() == b"confirm".as_slice() => {
+            Ok(Entry::Confirm(confirm_of(alloc, fields)?))
+        }
+        _ => Err(Fault::Script("an entry is a commit or confirm")),
+    }
+}
+
+fn is_short(entry: &Entry) -> bool
+    ensures { IsTrue result → HasShortText entry.now }
+{
+    match entry {
+        Entry::Commit(commit) => has_short_text(&commit.tree),
+        Entry::Confirm(_) => true,
+    }
+}
+
+/// payload ENTRY: the bytes that a record keeps of it
+fn ask_payload(alloc: Global, tree: &Tree, args: &[Arg], out: &mut String) -> Result<(), Fault> {
+    let entry = entry_of(alloc, tree, args)?;
+    if !is_short(&entry) {
+        return Err(Fault::Script("the text of a commit has at most 1048576 bytes"));
+    }
+    let bytes = payload_of(alloc, &entry)?;
+    say_number(out, bytes.as_slice().len() as u64)?;
+    say_bytes(out, "bytes", bytes.as_slice())
+}
+
+/// record OFFSET KIND BYTES
+fn add_record(alloc: Global, records: &mut Payloads, args: &[Arg]) -> Result<(), Fault> {
+    let [offset, kind, bytes] = args else {
+        return Err(Fault::Script("record OFFSET KIND BYTES"));
+    };
+    let Ok(kind) = u8::try_from(number(kind)?) else {
+        return Err(Fault::Script("a kind is a number below 256"));
+    };
+    records.push(Placed {
+        offset: number(offset)?,
+        kind,
+        payload: Bytes::from(Vec::from_slice(alloc, bytes)?),
+    })?;
+    Ok(())
+}
+
+fn say_ledger(alloc: Global, out: &mut String, ledger: &Ledger) -> Result<(), Fault> {
+    let entries = ledger.count();
+    writeln!(out, "= entries {entries}")?;
+    match ledger.pending() {
+        Some(pending) => say_pending(out, pending.target, pending.deadline)?,
+        None => say(out, "none")?,
+    }
+    let lines = ledger.history_lines(alloc)?;
+    say_text(out, lines.as_slice())
+}
+
+/// ledger_of: what the records read as
+fn ask_ledger(alloc: Global, records: &Payloads, out: &mut String) -> Result<(), Fault> {
+    match Ledger::of(alloc, records, &Judge::of(alloc)) {
+        Ok(ledger) => say_ledger(alloc, out, &ledger),
+        Err(LedgerFault::BadRecord { offset }) => {
+            writeln!(out, "= bad record at {offset}")?;
+            Ok(())
+        }
+        Err(LedgerFault::NoMemory) => Err(Fault::NoMemory),
+    }
+}
+
+/// The records that are read as a list of commits.
+#[derive(Drop)]
+pub(crate) struct Records {
+    kept: Payloads,
+}
+
+impl Records {
+    pub(crate) fn new(alloc: Global) -> Records {
+        Records {
+            kept: Payloads::new(alloc),
+        }
+    }
+
+    /// What the records that are kept read as; none is kept then.
+    fn read(&mut self, alloc: Global, out: &mut String) -> Result<(), Fault> {
+        let records = mem::replace(&mut self.kept, Payloads::new(alloc));
+        ask_ledger(alloc, &records, out)
+    }
+
+    /// Answers a call of entries and records, and tells whether it is one.
+    pub(crate) fn ask(
+        &mut self,
+        alloc: Global,
+        tree: &Tree,
+        name: &str,
+        args: &[Arg],
+        out: &mut String,
+    ) -> Result<bool, Fault> {
+        match name {
+            "record" => add_record(alloc, &mut self.kept, args)?,
+            "ledger_of" => self.read(alloc, out)?,
+            "payload" => ask_payload(alloc, tree, args, out)?,
+            _ => return Ok(false),
+        }
+        Ok(true)
+    }
+}

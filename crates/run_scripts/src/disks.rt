@@ -1,0 +1,218 @@
+//! The two disks over which the service runs, and calls of them.
+
+use cfg_base::{Bytes, NoMemory};
+use disk_model::{Disk, DiskDone, FailAt, FailMode, MemDisk, Torn};
+use script_lines::{Arg, Fault, number, numbers, say, say_bytes, say_number, small_number};
+use std::alloc::Global;
+use std::mem;
+
+/// How many calls of `write_at` and `sync` each disk takes.
+const CALLS: u32 = 4_000;
+
+/// A disk, and the calls that are to fail of the next one in its place.
+#[derive(Drop)]
+struct StagedDisk {
+    disk: MemDisk,
+    failing: Vec<FailAt>,
+    failing_reads: Vec<u64>,
+}
+
+fn empty_disk(alloc: Global, room: u64) -> Result<MemDisk, NoMemory> {
+    MemDisk::new(alloc, room, CALLS, Vec::new(alloc), Vec::new(alloc))
+}
+
+fn say_contents(out: &mut String, disk: &MemDisk) -> Result<(), Fault> {
+    let bytes = disk.contents();
+    say_number(out, bytes.len() as u64)?;
+    say_bytes(out, "bytes", bytes)
+}
+
+/// Writes bytes at a place, and syncs.
+fn write(out: &mut String, disk: &mut MemDisk, at: u64, bytes: &[u8]) -> Result<(), Fault> {
+    if at > disk.contents().len() as u64 {
+        return Err(Fault::Script("a place that isn't behind the end of the disk"));
+    }
+    match (disk.write_at(at, bytes), disk.sync()) {
+        (DiskDone::Done, DiskDone::Done) => say(out, "done"),
+        _ => say(out, "failed"),
+    }
+}
+
+fn mode_of(arg: &[u8]) -> Result<FailMode, Fault> {
+    match arg {
+        b"nothing" => Ok(FailMode::Nothing),
+        b"effect" => Ok(FailMode::Effect),
+        _ => Err(Fault::Script("a call fails with nothing or effect")),
+    }
+}
+
+/// What a crash after so many calls of the disk may leave, with these torn bytes.
+fn image_of(
+    alloc: Global,
+    disk: &MemDisk,
+    call: u32,
+    length: u64,
+    bytes: &[u8],
+) -> Result<MemDisk, Fault> {
+    if u64::from(call) > disk.count() || length > disk.room() {
+        return Err(Fault::Script("so many calls were made, and the disk has room for the image"));
+    }
+    let bytes = Bytes::from(Vec::from_slice(alloc, bytes)?);
+    Ok(disk.image_after(alloc, call, &Torn { length, bytes })?)
+}
+
+/// The first bytes that a disk holds, so many.
+fn front_of(alloc: Global, disk: &MemDisk, length: u64) -> Result<Vec<u8>, Fault> {
+    match disk.contents().get(..length as usize) {
+        Some(front) => Ok(Vec::from_slice(alloc, front)?),
+        None => Err(Fault::Script("a length that the disk has")),
+    }
+}
+
+impl StagedDisk {
+    fn new(alloc: Global, room: u64) -> Result<StagedDisk, NoMemory> {
+        Ok(StagedDisk {
+            disk: empty_disk(alloc, room)?,
+            failing: Vec::new(alloc),
+            failing_reads: Vec::new(alloc),
+        })
+    }
+
+    /// An empty disk of so many bytes stands here, whose calls fail as was said.
+    fn make(&mut self, alloc: Global, room: u64) -> Result<(), NoMemory> {
+        let failing = mem::replace(&mut self.failing, Vec::new(alloc));
+        let failing_reads = mem::replace(&mut self.failing_reads, Vec::new(alloc));
+        self.disk = MemDisk::new(alloc, room, CALLS, failing, failing_reads)?;
+        Ok(())
+    }
+
+    /// disk-fails a|b nothing|effect CALL ..
+    fn fail(&mut self, mode: &[u8], calls: &[Arg]) -> Result<(), Fault> {
+        let mode = mode_of(mode)?;
+        for call in calls {
+            self.failing.push(FailAt {
+                call: small_number(call)?,
+                mode,
+            })?;
+        }
+        Ok(())
+    }
+
+    /// cut a|b LENGTH
+    fn cut(&mut self, alloc: Global, length: u64, out: &mut String) -> Result<(), Fault> {
+        let left = front_of(alloc, &self.disk, length)?;
+        let room = self.disk.room();
+        self.make(alloc, room)?;
+        write(out, &mut self.disk, 0, &left)
+    }
+
+    /// Takes a line of what the next disk is, and tells whether it is one.
+    fn keep(&mut self, alloc: Global, name: &str, args: &[Arg]) -> Result<bool, Fault> {
+        match (name, args) {
+            ("disk-fails", [mode, calls @ ..]) => self.fail(mode, calls)?,
+            ("disk-reads-fail", reads) => self.failing_reads = numbers(alloc, reads)?,
+            ("image", [call, length, bytes]) => {
+                self.disk = image_of(
+                    alloc,
+                    &self.disk,
+                    small_number(call)?,
+                    number(length)?,
+                    bytes,
+                )?;
+            }
+            _ => return Ok(false),
+        }
+        Ok(true)
+    }
+
+    /// Answers a call of the disk, and tells whether it is one.
+    fn ask(
+        &mut self,
+        alloc: Global,
+        name: &str,
+        args: &[Arg],
+        out: &mut String,
+    ) -> Result<bool, Fault> {
+        match (name, args) {
+            ("disk", []) => say_contents(out, &self.disk)?,
+            ("write_at", [at, bytes]) => write(out, &mut self.disk, number(at)?, bytes)?,
+            ("cut", [length]) => self.cut(alloc, number(length)?, out)?,
+            _ => return self.keep(alloc, name, args),
+        }
+        Ok(true)
+    }
+}
+
+/// Disks `a` and `b`.
+#[derive(Drop)]
+pub(crate) struct Disks {
+    a: StagedDisk,
+    b: StagedDisk,
+}
+
+impl Disks {
+    /// Two disks of so many bytes, which hold nothing.
+    pub(crate) fn new(alloc: Global, room: u64) -> Result<Disks, NoMemory> {
+        Ok(Disks {
+            a: StagedDisk::new(alloc, room)?,
+            b: StagedDisk::new(alloc, room)?,
+        })
+    }
+
+    /// Empty disks of so many bytes stand here.
+    pub(crate) fn make(&mut self, alloc: Global, room_a: u64, room_b: u64) -> Result<(), NoMemory> {
+        self.a.make(alloc, room_a)?;
+        self.b.make(alloc, room_b)
+    }
+
+    /// The two, in whose place stand two without room.
+    pub(crate) fn take(&mut self, alloc: Global) -> Result<(MemDisk, MemDisk), NoMemory> {
+        let none_a = empty_disk(alloc, 0)?;
+        let none_b = empty_disk(alloc, 0)?;
+        let a = mem::replace(&mut self.a.disk, none_a);
+        let b = mem::replace(&mut self.b.disk, none_b);
+        Ok((a, b))
+    }
+
+    pub(crate) fn put(&mut self, a: MemDisk, b: MemDisk) {
+        self.a.disk = a;
+        self.b.disk = b;
+    }
+
+    /// Answers a call of one of the two, and tells whether it is one.
+    fn ask(
+        &mut self,
+        alloc: Global,
+        name: &str,
+        args: &[Arg],
+        out: &mut String,
+    ) -> Result<bool, Fault> {
+        let [which, args @ ..] = args else {
+            return Ok(false);
+        };
+        match which.as_slice() {
+            b"a" => self.a.ask(alloc, name, args, out),
+            b"b" => self.b.ask(alloc, name, args, out),
+            _ => Ok(false),
+        }
+    }
+
+    /// Answers a call of the disks, and tells whether it is one.
+    pub(crate) fn answer(
+        &mut self,
+        alloc: Global,
+        name: &str,
+        args: &[Arg],
+        out: &mut String,
+    ) -> Result<bool, Fault> {
+        match (name, args) {
+            ("disks", [room]) => {
+                let room = number(room)?;
+                self.make(alloc, room, room)?;
+            }
+            ("disks", [room_a, room_b]) => self.make(alloc, number(room_a)?, number(room_b)?)?,
+            _ => return self.ask(alloc, name, args, out),
+        }
+        Ok(true)
+    }
+}

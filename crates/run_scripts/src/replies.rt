@@ -1,0 +1,84 @@
+//! Replies of the machine.
+
+use crate::asking::{put_minutes, put_quit};
+use cfg_base::UserName;
+use commands::Mode;
+use config_core::{Refusal, Reply};
+use curly_grammar::TextFault;
+use script_lines::{
+    Fault, put_bytes, say, say_broken, say_fault_of_line, say_line_fault, say_number, say_path,
+    say_text, say_text_fault,
+};
+
+fn say_no_rollback(out: &mut String, n: u32, kept: u32) -> Result<(), Fault> {
+    writeln!(out, "= no rollback {n}, {kept} kept")?;
+    Ok(())
+}
+
+/// The fault of a text, behind the word `text`.
+fn say_unread_text(out: &mut String, fault: TextFault) -> Result<(), Fault> {
+    say(out, "text")?;
+    say_text_fault(out, fault, None)
+}
+
+/// A commit with the options that it has.
+fn say_committed(out: &mut String, minutes: u32, quit: bool) -> Result<(), Fault> {
+    out.push_str("= committed")?;
+    put_minutes(out, minutes)?;
+    put_quit(out, quit)
+}
+
+/// The user whose session is in exclusive mode.
+fn say_locked(out: &mut String, user: &UserName) -> Result<(), Fault> {
+    out.push_str("= locked by")?;
+    put_bytes(out, user.as_word().as_bytes())?;
+    out.push_str("\n")?;
+    Ok(())
+}
+
+fn say_refusal(out: &mut String, refusal: &Refusal) -> Result<(), Fault> {
+    match refusal {
+        Refusal::WrongMode => say(out, "wrong mode"),
+        Refusal::Locked(user) => say_locked(out, user),
+        Refusal::Modified => say(out, "modified"),
+        Refusal::Unknown(path) => say_path(out, "unknown", path),
+        Refusal::BadValue(path) => say_path(out, "bad value", path),
+        Refusal::Incomplete(path) => say_path(out, "incomplete", path),
+        Refusal::Extra(path) => say_path(out, "extra", path),
+        Refusal::NotNamed(path) => say_path(out, "not named", path),
+        Refusal::NotOrdered(path) => say_path(out, "not ordered", path),
+        Refusal::NotThere(path) => say_path(out, "not there", path),
+        Refusal::AlreadyThere(path) => say_path(out, "already there", path),
+        Refusal::NotALevel(path) => say_path(out, "not a level", path),
+        Refusal::Protected(path) => say_path(out, "protected", path),
+        Refusal::TooMany => say(out, "too many"),
+        Refusal::Conflict(path) => say_path(out, "conflict", path),
+        Refusal::TooWide => say(out, "too wide"),
+        Refusal::NoRollback { n, kept } => say_no_rollback(out, *n, *kept),
+        Refusal::Text(fault) => say_unread_text(out, *fault),
+        Refusal::Line { line, place } => say_fault_of_line(out, *line, *place),
+        Refusal::LineEdit { line, fault } => say_line_fault(out, *line, fault),
+        Refusal::Check { number, path } => say_broken(out, *number, path),
+        Refusal::Exhausted => say(out, "exhausted"),
+        Refusal::DiskFault => say(out, "disk fault"),
+    }
+}
+
+pub(crate) fn say_reply(out: &mut String, reply: &Reply) -> Result<(), Fault> {
+    match reply {
+        Reply::Done => say(out, "done"),
+        Reply::LoggedOut => say(out, "logged out"),
+        Reply::Text(text) => {
+            say_number(out, text.as_slice().len() as u64)?;
+            say_text(out, text.as_slice())
+        }
+        Reply::Entered(Mode::Shared) => say(out, "entered"),
+        Reply::Entered(Mode::Private) => say(out, "entered private"),
+        Reply::Entered(Mode::Exclusive) => say(out, "entered exclusive"),
+        Reply::Left => say(out, "left"),
+        Reply::Loaded => say(out, "loaded"),
+        Reply::Checked => say(out, "checked"),
+        Reply::Committed { minutes, quit } => say_committed(out, *minutes, *quit),
+        Reply::Refused(refusal) => say_refusal(out, refusal),
+    }
+}

@@ -1,0 +1,172 @@
+//! Runs of the service, over the ends that the stage makes and the script's disks. Its beat is not used yet.
+
+ghost use Rattle.std.specs.Prelude.{◌≡◌, IfOk};
+ghost use Rattle.service.specs.Run.{AreEnds, users_of};
+
+use crate::disks::Disks;
+use crate::histories::say_happened;
+use cfg_base::{UserName, Words};
+use command_line::{Usage, read_words, words_ask_one_thing};
+use disk_model::MemDisk;
+use io_edge::{ListBeat, ListClock, ListSource, VecSink};
+use script_lines::{Fault, Part, Stage, args_of, say, say_bytes, say_text, words_of};
+use service::{Closed, StartWhy0, Ticker, run};
+use session_shell::End;
+use std::alloc::Global;
+use std::sync::Wait;
+use std::thread::Threads;
+use stored_ledger::StartWhy;
+
+type StagedEnd = End<ListSource, VecSink, ListClock>;
+
+type Ran = Closed<ListSource, VecSink, ListClock, ListBeat, MemDisk>;
+
+/// A session's end.
+fn end_of(alloc: Global, user: UserName, part: Part) -> Result<StagedEnd, Fault>
+    ensures { IfOk result (λ end. end.user ≡ user) }
+{
+    Ok(End {
+        user,
+        source: ListSource::new(part.pieces, part.failing_reads),
+        sink: VecSink::new(alloc, part.room, part.failing_writes)?,
+        clock: ListClock::new(part.clock),
+    })
+}
+
+/// An end for each user, in order.
+fn ends_of(alloc: Global, users: &[UserName], parts: Vec<Part>) -> Result<Vec<StagedEnd>, Fault>
+    ensures { IfOk result (λ ends. users_of ends.items ≡ users.now) }
+{
+    let mut parts = parts.into_iter();
+    let mut ends = Vec::new(alloc);
+    for user in users {
+        let Some(part) = parts.next() else {
+            return Err(Fault::Script("an end for each user"));
+        };
+        ends.push(end_of(alloc, user.clone()?, part)?)?;
+    }
+    Ok(ends)
+}
+
+/// The ends that the words ask for. Words that are refused ask for none, and are given one.
+fn asked_ends(alloc: Global, words: &Words, stage: Stage) -> Result<Vec<StagedEnd>, Fault>
+    ensures { IfOk result (λ ends. AreEnds words.now ends.items) }
+{
+    words_ask_one_thing();
+    let parts = stage.into_parts()?;
+    match read_words(alloc, words) {
+        Ok(asked) => ends_of(alloc, asked.users.as_slice(), parts),
+        Err(Usage::Refused) => ends_of(alloc, &[UserName::root(alloc)?], parts),
+        Err(Usage::NoMemory) => Err(Fault::NoMemory),
+    }
+}
+
+/// A ticker that asks nothing.
+fn idle_ticker(alloc: Global) -> Ticker<ListBeat, ListClock> {
+    Ticker {
+        beat: ListBeat::new(Vec::new(alloc)),
+        clock: ListClock::new(Vec::new(alloc)),
+    }
+}
+
+/// What the words ask, over what is on the stage and on disks without room, which the script's disks replace.
+fn ran<R: Threads + Wait + Sync>(
+    rt: &R,
+    alloc: Global,
+    stage: Stage,
+    disks: &mut Disks,
+    text: &str,
+) -> Result<Ran, Fault> {
+    let words = words_of(alloc, &args_of(alloc, text)?)?;
+    let ends = asked_ends(alloc, &words, stage)?;
+    let (a, b) = disks.take(alloc)?;
+    Ok(run(rt, alloc, &words, ends, idle_ticker(alloc), a, b))
+}
+
+/// The number of a session, where there are several.
+pub(crate) fn say_session(out: &mut String, count: usize, place: usize) -> Result<(), Fault> {
+    if count > 1 {
+        let number = place.saturating_add(1);
+        writeln!(out, "= session {number}")?;
+    }
+    Ok(())
+}
+
+/// Why the start was refused, if it was.
+fn say_why(out: &mut String, why: &StartWhy0) -> Result<(), Fault> {
+    let StartWhy0::Why(why) = why else {
+        return Ok(());
+    };
+    match why {
+        StartWhy::Exists => say(out, "why exists"),
+        StartWhy::NotAJournal => say(out, "why not a journal"),
+        StartWhy::Damaged {
+            offset,
+            kept,
+            computed,
+        } => {
+            writeln!(out, "= why damaged at {offset}")?;
+            say_bytes(out, "kept", kept)?;
+            say_bytes(out, "computed", computed)
+        }
+        StartWhy::BadRecord { offset } => {
+            writeln!(out, "= why bad record at {offset}")?;
+            Ok(())
+        }
+        StartWhy::DiskFault => say(out, "why disk fault"),
+        StartWhy::NoMemory => say(out, "why no memory"),
+    }
+}
+
+fn say_output(out: &mut String, ran: &Ran) -> Result<(), Fault> {
+    let status = ran.status;
+    writeln!(out, "= status {status}")?;
+    say_why(out, &ran.why)?;
+    for (place, end) in ran.ends.iter().enumerate() {
+        say_session(out, ran.ends.len(), place)?;
+        say_text(out, end.sink.contents())?;
+    }
+    Ok(())
+}
+
+/// How many bytes a disk has that is made for a new journal.
+const ROOM: u64 = 1 << 22;
+
+/// fresh: two disks with a new journal
+pub(crate) fn make_fresh<R: Threads + Wait + Sync>(
+    rt: &R,
+    alloc: Global,
+    disks: &mut Disks,
+) -> Result<(), Fault> {
+    disks.make(alloc, ROOM, ROOM)?;
+    let ran = ran(rt, alloc, Stage::new(alloc), disks, "init d")?;
+    let made = ran.status == 0;
+    let Closed { disk_a, disk_b, .. } = ran;
+    disks.put(disk_a, disk_b);
+    if made {
+        Ok(())
+    } else {
+        Err(Fault::Script("no call fails of a disk on which a journal is made"))
+    }
+}
+
+/// run WORDS..: the status, what was written, the turns and the history; or run_output WORDS..: the status and what was written.
+/// The disks come back.
+pub(crate) fn ask_run<R: Threads + Wait + Sync>(
+    rt: &R,
+    alloc: Global,
+    stage: &mut Stage,
+    disks: &mut Disks,
+    whole: bool,
+    text: &str,
+    out: &mut String,
+) -> Result<(), Fault> {
+    let ran = ran(rt, alloc, stage.take(alloc), disks, text)?;
+    say_output(out, &ran)?;
+    if whole {
+        say_happened(out, &ran.turns, &ran.history)?;
+    }
+    let Closed { disk_a, disk_b, .. } = ran;
+    disks.put(disk_a, disk_b);
+    Ok(())
+}

@@ -1,0 +1,295 @@
+//! Steps of four callers on one machine, with faults of its disk.
+
+ghost use Rattle.std.specs.Prelude.{◌≡◌, ◌<◌, ◌≤◌, length, IfOk};
+ghost use Rattle.commands.specs.Sound.{IsSound};
+ghost use Rattle.config_core.specs.Machine.{Fits};
+ghost use Rattle.config_core.specs.Prepared.{Follows};
+
+use crate::line_calls::is_configuration;
+use crate::replies::say_reply;
+use cfg_base::{Bytes, Moment, Users};
+use commands::Command;
+use commit_ledger::{Ledger, Via};
+use config_core::{Core, Event, Need, Outcome, Prepared, Reply};
+use script_lines::{
+    Arg, Fault, KeptText, bytes_of, first_and_rest, number, say, say_bytes, say_path, say_pending,
+    small_number, user_of,
+};
+use shell_words::{Words0, read_line};
+use std::alloc::Global;
+
+/// The machine over the factory commit, for `alice`, `bob`, `carol` and `dave`.
+#[derive(Drop)]
+pub(crate) struct Machine {
+    core: Core,
+    ghost callers: { length core.callers ≡ 4 },
+}
+
+/// The caller of that number.
+fn caller_of(number: &[u8]) -> Result<u32, Fault>
+    ensures { IfOk result (λ caller. (0 < caller) × (caller ≤ 4)) }
+{
+    let caller = small_number(number)?;
+    if caller == 0 || caller > 4 {
+        return Err(Fault::Script("a caller is 1 to 4"));
+    }
+    Ok(caller)
+}
+
+/// That moment, or the last event's where that is later.
+fn later(core: &Core, moment: Moment) -> Moment
+    ensures { core.now.greatest ≤ result }
+{
+    core.greatest().later(moment)
+}
+
+impl Machine {
+    pub(crate) fn new(alloc: Global) -> Result<Machine, Fault> {
+        let mut users = Users::new(alloc);
+        users.push(user_of(alloc, b"alice")?)?;
+        users.push(user_of(alloc, b"bob")?)?;
+        users.push(user_of(alloc, b"carol")?)?;
+        users.push(user_of(alloc, b"dave")?)?;
+        Ok(Machine {
+            core: Core::new(alloc, Ledger::factory(alloc)?, &users)?,
+        })
+    }
+
+    fn accept(&mut self, prepared: Prepared, outcome: Outcome) -> Reply
+        requires { Follows prepared self.old.core }
+    {
+        self.core.accept(prepared, outcome)
+    }
+
+    /// An event that is carried out.
+    fn done(&mut self, caller: u32, moment: Moment, event: &Event) -> Result<Reply, Fault>
+        requires { Fits self.old.core caller moment event.now }
+    {
+        let prepared = self.core.prepare(caller, moment, event)?;
+        Ok(self.accept(prepared, Outcome::Done))
+    }
+
+    /// An event with which the disk fails.
+    fn failed(&mut self, caller: u32, moment: Moment, event: &Event) -> Result<Reply, Fault>
+        requires { Fits self.old.core caller moment event.now }
+    {
+        let prepared = self.core.prepare(caller, moment, event)?;
+        Ok(self.accept(prepared, Outcome::Fault))
+    }
+
+    /// A command of which the entry fails.
+    fn failed_entry(&mut self, caller: u32, moment: Moment, event: &Event) -> Result<Reply, Fault>
+        requires { Fits self.old.core caller moment event.now }
+    {
+        let prepared = self.core.prepare(caller, moment, event)?;
+        if prepared.entry().is_none() {
+            return Err(Fault::Script("the command makes an entry"));
+        }
+        Ok(self.accept(prepared, Outcome::Fault))
+    }
+
+    /// The reply to a command that nothing comes before.
+    fn ask(&mut self, caller: u32, moment: Moment, command: Command) -> Result<Reply, Fault>
+        requires caller { (0 < caller) × (caller ≤ 4) }
+        requires sound { IsSound command }
+    {
+        let moment = later(&self.core, moment);
+        match self.core.next(moment) {
+            Need::Nothing => self.done(caller, moment, &Event::Command(command)),
+            Need::Settle => Err(Fault::Script("no entry is in flight")),
+            Need::Revert => Err(Fault::Script("no deadline is due")),
+        }
+    }
+
+    /// The reply to a command while the disk fails.
+    fn ask_failing(&mut self, caller: u32, moment: Moment, command: Command) -> Result<Reply, Fault>
+        requires caller { (0 < caller) × (caller ≤ 4) }
+        requires sound { IsSound command }
+    {
+        let moment = later(&self.core, moment);
+        match self.core.next(moment) {
+            Need::Nothing => self.failed_entry(caller, moment, &Event::Command(command)),
+            Need::Settle => self.failed(caller, moment, &Event::Command(command)),
+            Need::Revert => Err(Fault::Script("no deadline is due")),
+        }
+    }
+
+    fn settle(&mut self, moment: Moment, kept: bool) -> Result<Reply, Fault> {
+        let moment = later(&self.core, moment);
+        match self.core.next(moment) {
+            Need::Settle => self.done(0, moment, &Event::Settle(kept)),
+            Need::Revert | Need::Nothing => Err(Fault::Script("an entry is in flight")),
+        }
+    }
+
+    fn revert(&mut self, moment: Moment) -> Result<Reply, Fault> {
+        let moment = later(&self.core, moment);
+        match self.core.next(moment) {
+            Need::Revert => self.done(0, moment, &Event::Revert),
+            Need::Settle | Need::Nothing => Err(Fault::Script("a deadline is due")),
+        }
+    }
+
+    fn revert_failing(&mut self, moment: Moment) -> Result<Reply, Fault> {
+        let moment = later(&self.core, moment);
+        match self.core.next(moment) {
+            Need::Revert => self.failed(0, moment, &Event::Revert),
+            Need::Settle | Need::Nothing => Err(Fault::Script("a deadline is due")),
+        }
+    }
+
+    fn need(&self, moment: Moment) -> Need {
+        self.core.next(later(&self.core, moment))
+    }
+
+    /// Rolls back what is due, and says so.
+    fn revert_due(&mut self, moment: Moment, out: &mut String) -> Result<(), Fault> {
+        if self.need(moment) == Need::Revert {
+            self.revert(moment)?;
+            say(out, "reverted")?;
+        }
+        Ok(())
+    }
+
+    /// need SECONDS
+    fn ask_need(&self, args: &[Arg], out: &mut String) -> Result<(), Fault> {
+        let [seconds] = args else {
+            return Err(Fault::Script("need SECONDS"));
+        };
+        match self.need(Moment::of(number(seconds)?)) {
+            Need::Settle => say(out, "settle"),
+            Need::Revert => say(out, "revert"),
+            Need::Nothing => say(out, "nothing"),
+        }
+    }
+
+    /// settle SECONDS kept|lost
+    fn ask_settle(&mut self, args: &[Arg], out: &mut String) -> Result<(), Fault> {
+        let [seconds, end] = args else {
+            return Err(Fault::Script("settle SECONDS kept|lost"));
+        };
+        let moment = Moment::of(number(seconds)?);
+        let reply = match end.as_slice() {
+            b"kept" => self.settle(moment, true)?,
+            b"lost" => self.settle(moment, false)?,
+            _ => return Err(Fault::Script("settle SECONDS kept|lost")),
+        };
+        say_reply(out, &reply)
+    }
+
+    /// revert SECONDS done|failing
+    fn ask_revert(&mut self, args: &[Arg], out: &mut String) -> Result<(), Fault> {
+        let [seconds, end] = args else {
+            return Err(Fault::Script("revert SECONDS done|failing"));
+        };
+        let moment = Moment::of(number(seconds)?);
+        let reply = match end.as_slice() {
+            b"done" => self.revert(moment)?,
+            b"failing" => self.revert_failing(moment)?,
+            _ => return Err(Fault::Script("revert SECONDS done|failing")),
+        };
+        say_reply(out, &reply)
+    }
+
+    /// level_of CALLER
+    fn ask_level(&self, args: &[Arg], out: &mut String) -> Result<(), Fault> {
+        let [caller] = args else {
+            return Err(Fault::Script("level_of CALLER"));
+        };
+        say_path(out, "level", self.core.level(caller_of(caller)?))
+    }
+
+    /// ledger: what is kept of the list of entries, and the greatest moment
+    fn ask_ledger(&self, out: &mut String) -> Result<(), Fault> {
+        let ledger = self.core.ledger();
+        let last = ledger.last();
+        let entries = ledger.count();
+        let number = last.number;
+        let via = match last.via {
+            Via::Cli => "cli",
+            Via::Other => "other",
+        };
+        let moment = last.moment.seconds();
+        let statements = last.tree.count();
+        let greatest = self.core.greatest().seconds();
+        writeln!(out, "= entries {entries}")?;
+        writeln!(out, "= last {number} via {via} at {moment}")?;
+        say_bytes(out, "user", last.user.as_word().as_bytes())?;
+        writeln!(out, "= statements {statements}")?;
+        writeln!(out, "= greatest {greatest}")?;
+        Ok(())
+    }
+
+    /// pending: the deadline of a commit confirmed, and the commit to which it goes back
+    fn ask_pending(&self, out: &mut String) -> Result<(), Fault> {
+        match self.core.ledger().pending() {
+            Some(pending) => say_pending(out, pending.target, pending.deadline),
+            None => say(out, "none"),
+        }
+    }
+
+    /// Answers a look at the machine or an event that is no command, and tells whether the call is one.
+    pub(crate) fn answer(
+        &mut self,
+        alloc: Global,
+        call: &str,
+        args: &[Arg],
+        out: &mut String,
+    ) -> Result<bool, Fault> {
+        match call {
+            "machine" => *self = Machine::new(alloc)?,
+            "level_of" => self.ask_level(args, out)?,
+            "ledger" => self.ask_ledger(out)?,
+            "pending" => self.ask_pending(out)?,
+            "need" => self.ask_need(args, out)?,
+            "settle" => self.ask_settle(args, out)?,
+            "revert" => self.ask_revert(args, out)?,
+            _ => return Ok(false),
+        }
+        Ok(true)
+    }
+}
+
+/// The command of a line; a load has the text that is kept, and none is kept then.
+fn command_of(
+    alloc: Global,
+    configuring: bool,
+    line: &[u8],
+    kept: &mut KeptText,
+) -> Result<Command, Fault>
+    ensures { IfOk result IsSound }
+{
+    match read_line(alloc, configuring, line) {
+        Ok(Some(Words0::Whole(command))) => Ok(command),
+        Ok(Some(Words0::NeedsText(way))) => Ok(Command::Load {
+            way,
+            text: Bytes::from(kept.take(alloc)),
+        }),
+        _ => Err(Fault::Script("the line of a step is a command")),
+    }
+}
+
+/// step and failing_step CALLER SECONDS operational|configuration LINE, where the mode says how the line is read
+pub(crate) fn ask_step(
+    alloc: Global,
+    machine: &mut Machine,
+    kept: &mut KeptText,
+    failing: bool,
+    text: &str,
+    out: &mut String,
+) -> Result<(), Fault> {
+    let (caller, text) = first_and_rest(text);
+    let (seconds, text) = first_and_rest(text);
+    let (mode, line) = first_and_rest(text);
+    let caller = caller_of(caller.as_bytes())?;
+    let moment = Moment::of(number(seconds.as_bytes())?);
+    let line = bytes_of(alloc, line)?;
+    let command = command_of(alloc, is_configuration(mode)?, &line, kept)?;
+    let reply = if failing {
+        machine.ask_failing(caller, moment, command)?
+    } else {
+        machine.revert_due(moment, out)?;
+        machine.ask(caller, moment, command)?
+    };
+    say_reply(out, &reply)
+}
