@@ -1,5 +1,5 @@
--- A history that one caller makes alone, in memory: what it is asked leaves no choice.
-use Rattle.std.proofs.Common.{◌≡◌, ℕ, ◌+◌, List, [], ◌∷◌, ◌++◌, length, max, false, refl, sym, ap, subst, ◌∙◌, append_assoc, None, Some, arith, slice_get}
+-- A history that one caller makes alone while no disk fails, without the numbers of calls: what it is asked leaves no choice.
+use Rattle.std.proofs.Common.{◌≡◌, ℕ, ◌+◌, List, [], ◌∷◌, ◌++◌, length, max, false, refl, sym, ap, subst, ◌∙◌, append_assoc, arith, slice_get}
 use Rattle.std.proofs.lemmas.Bool.{false≢true}
 use Rattle.std.proofs.lemmas.List.{append-nil, length-append}
 use Rattle.std.specs.List.{AllByRecursion}
@@ -7,19 +7,30 @@ use Rattle.commands.specs.declared.command.Command.{Command}
 use Rattle.config_core.specs.declared.event.Event.{Event}
 use Rattle.config_core.specs.declared.event.Event.TheVariants.{Settle, Revert, Command as CommandOf}
 use Rattle.config_core.specs.declared.event.Outcome.TheVariants.{Done}
-use Rattle.commit_ledger.specs.Kept.{Kept}
 use Rattle.config_core.specs.declared.reply.Reply.{Reply}
-use Rattle.config_core.specs.State.{State, opening_of}
+use Rattle.config_core.specs.State.{State}
 use Rattle.config_core.specs.Serving.{Turned}
 use Rattle.config_core.specs.Machine.{Free, InFlight, Missed, Steps, StepsFrom, Waiting, later, waiting_of}
 use Rattle.session_history.specs.declared.history.Happened.{Happened}
-use Rattle.session_history.specs.Events.{IsAt, Leads, is_command}
+use Rattle.session_history.specs.Events.{IsAt, IsLegal, Leads, is_command}
 use Rattle.session_history.proofs.EventLemmas.{Leads-append, at_seam}
+use Rattle.session_shell.specs.declared.door.Given0.{Given0}
 use Rattle.session_shell.specs.declared.door.Given0.TheVariants.{Kept as KeptAt, NoMemory}
 use Rattle.session_shell.specs.Law.{IsDetermined}
-use Rattle.service.specs.History.{Follows, IsInMemory, IsMade, NoCommand, is_settling}
-use Rattle.service.specs.Asking.{done_event}
-use Rattle.service.specs.Log.{FollowsIn, Log, opened}
+use Rattle.service.specs.History.{Follows, IsMade, NoCommand, is_settling}
+use Rattle.service.specs.Taking.{done_event}
+use Rattle.service.proofs.ListLemmas.{all_back, all_front, some_is}
+
+-- an event is done, has no numbers of calls, and settles nothing
+abbrev pub IsPlain : Happened → Type 0
+IsPlain event = (event.outcome ≡ Done) × (event.calls ≡ record { a = 0; b = 0 }) × (is_settling event.event ≡ false)
+
+-- how such a history follows after one ask of the caller that makes it alone
+pub record FollowsAlone (opening : State) (caller : ℕ) (events : List Happened) (command : Command) (answer : ℕ) (given : Given0) (events' : List Happened) : Type 0 where
+  pub follows : Follows opening caller events command answer given events'
+  pub alone : follows.grows.others ≡ []
+  pub legal : IsLegal opening events'
+  pub plain : AllByRecursion IsPlain follows.grows.own
 
 -- events and then more lead through a state in between
 pub Leads-split : (s : State) (events more : List Happened) (last : State) → Leads s (events ++ more) last → (mid : State) × Leads s events mid × Leads mid more last
@@ -27,16 +38,16 @@ Leads-split s [] more last leads = (s, refl, leads)
 Leads-split s (event ∷ events) more last leads =
     let rest = Leads-split leads.1.state events more last leads.3 in (rest.0, (leads.0, leads.1, leads.2, rest.1), rest.2)
 
--- an event of a caller in memory is what it is by its kind
-done_is : (caller moment : ℕ) (event : Event) (happened : Happened) → IsMade caller moment happened → IsInMemory happened → happened.event ≡ event → happened ≡ done_event caller moment event
-done_is caller moment event happened made memory is =
+-- a plain event of a caller is what it is by its kind
+done_is : (caller moment : ℕ) (event : Event) (happened : Happened) → IsMade caller moment happened → IsPlain happened → happened.event ≡ event → happened ≡ done_event caller moment event
+done_is caller moment event happened made plain is =
     ap (λ x. record { caller = x; moment = happened.moment; event = happened.event; outcome = happened.outcome; calls = happened.calls }) made.0
     ∙ ap (λ x. record { caller = caller; moment = x; event = happened.event; outcome = happened.outcome; calls = happened.calls }) made.1
     ∙ ap (λ x. record { caller = caller; moment = moment; event = x; outcome = happened.outcome; calls = happened.calls }) is
-    ∙ ap (λ x. record { caller = caller; moment = moment; event = event; outcome = x; calls = happened.calls }) memory.0
-    ∙ ap (λ x. record { caller = caller; moment = moment; event = event; outcome = Done; calls = x }) memory.1
+    ∙ ap (λ x. record { caller = caller; moment = moment; event = event; outcome = x; calls = happened.calls }) plain.0
+    ∙ ap (λ x. record { caller = caller; moment = moment; event = event; outcome = Done; calls = x }) plain.1
 
--- what comes before a command in memory is a revert
+-- what comes before a command is a revert, where no entry was in flight
 reverts : (event : Event) → is_command event ≡ false → is_settling event ≡ false → event ≡ Revert
 reverts (Settle is_kept) is is' = absurd (false≢true (sym is'))
 reverts Revert is is' = refl
@@ -48,20 +59,9 @@ not_both (InFlight made) s s' caller command one other steps steps' = steps
 not_both Missed s s' caller command one other steps steps' = steps
 not_both Free s s' caller command one other steps steps' = steps'
 
--- all of a caller's own events at a moment in memory
+-- plain events of a caller at a moment
 abbrev pub AreOwn : ℕ → ℕ → List Happened → Type 0
-AreOwn caller moment own = AllByRecursion (IsMade caller moment) own × AllByRecursion IsInMemory own
-
-pub all_front : {A : Type 0} (P : A → Type 0) (xs ys : List A) → AllByRecursion P (xs ++ ys) → AllByRecursion P xs
-all_front P [] ys all = tt
-all_front P (x ∷ xs) ys all = (all.0, all_front P xs ys all.1)
-
-pub all_back : {A : Type 0} (P : A → Type 0) (xs ys : List A) → AllByRecursion P (xs ++ ys) → AllByRecursion P ys
-all_back P [] ys all = all
-all_back P (x ∷ xs) ys all = all_back P xs ys all.1
-
-pub some_is : {A : Type 0} {a b : A} → Some a ≡ Some b → a ≡ b
-some_is {A} {a} {b} is = ap (λ o. elim o [ None ↦ a | Some x ↦ x ]) is
+AreOwn caller moment own = AllByRecursion (IsMade caller moment) own × AllByRecursion IsPlain own
 
 module _ (opening : State) (leads_once : (events : List Happened) (one other : State) → Leads opening events one → Leads opening events other → one ≡ other) where
   -- the first events of two turns from one state, up to the same command
@@ -84,105 +84,94 @@ module _ (opening : State) (leads_once : (events : List Happened) (one other : S
       ap (λ z. z ∷ xs) same ∙ ap (λ l. y ∷ l)
       (same_front (events ++ y ∷ []) leads'.1.state caller moment command xs ys last last' on' none.1 none'.1 (own.0.1, own.1.1) (own'.0.1, own'.1.1) (subst (λ m. Leads m (xs ++ done_event caller moment (CommandOf command) ∷ []) last) state leads.3) leads'.3)
 
--- one turn of a log's caller, of which the command was given: what came before it, and the command
-record Turn (log : Log) (command : Command) (answer place : ℕ) (log' : Log) : Type 0 where
+-- one turn of the caller, of which the command was given: what came before it, and the command
+record Turn (opening : State) (caller : ℕ) (events : List Happened) (command : Command) (answer place : ℕ) (events' : List Happened) : Type 0 where
   pub before : State
-  pub leads : Leads (opened log) log.events before
+  pub leads : Leads opening events before
   pub front : List Happened
   pub no_command : NoCommand front
-  pub own : AreOwn log.caller (max answer before.greatest) front
-  pub is : log'.events ≡ log.events ++ (front ++ done_event log.caller (max answer before.greatest) (CommandOf command) ∷ [])
+  pub own : AreOwn caller (max answer before.greatest) front
+  pub is : events' ≡ events ++ (front ++ done_event caller (max answer before.greatest) (CommandOf command) ∷ [])
   pub last : State
-  pub on : Leads before (front ++ done_event log.caller (max answer before.greatest) (CommandOf command) ∷ []) last
-  pub at_end : length log'.events ≡ place + 1
+  pub on : Leads before (front ++ done_event caller (max answer before.greatest) (CommandOf command) ∷ []) last
+  pub at_end : length events' ≡ place + 1
 
-turn_of : (log log' : Log) (command : Command) (answer place : ℕ) (reply : Reply) → ((events : List Happened) (one other : State) → Leads (opened log) events one → Leads (opened log) events other → one ≡ other) → FollowsIn log command answer (KeptAt place reply) log' → Turn log command answer place log'
-turn_of log log' command answer place reply leads_once follows = record {
-  before = f.grows.before;
-  leads = leads;
-  front = f.turn.front;
-  no_command = f.turn.no_command;
-  own = (all_front _ f.turn.front (f.turn.last ∷ []) made, all_front _ f.turn.front (f.turn.last ∷ []) in_memory);
-  is = grown ∙ ap (λ l. log.events ++ l) own_is;
-  last = follows.legal.0;
-  on = subst (λ l. Leads f.grows.before l follows.legal.0) own_is (subst (λ s. Leads s f.grows.own follows.legal.0) (leads_once log.events split.0 f.grows.before split.1 leads) split.2);
-  at_end = f.turn.at_end;
-}
-  where
-    f : Follows (opened log) log.caller log.events command answer (KeptAt place reply) log'.events
-    f = follows.events
+module _ (opening : State) (caller : ℕ) (leads_once : (events : List Happened) (one other : State) → Leads opening events one → Leads opening events other → one ≡ other) where
+  turn_of : (events events' : List Happened) (command : Command) (answer place : ℕ) (reply : Reply) → FollowsAlone opening caller events command answer (KeptAt place reply) events' → Turn opening caller events command answer place events'
+  turn_of events events' command answer place reply follows = record {
+    before = f.grows.before;
+    leads = leads;
+    front = f.turn.front;
+    no_command = f.turn.no_command;
+    own = (all_front _ f.turn.front (f.turn.last ∷ []) made, all_front _ f.turn.front (f.turn.last ∷ []) plain);
+    is = grown ∙ ap (λ l. events ++ l) own_is;
+    last = follows.legal.0;
+    on = subst (λ l. Leads f.grows.before l follows.legal.0) own_is (subst (λ s. Leads s f.grows.own follows.legal.0) (leads_once events split.0 f.grows.before split.1 leads) split.2);
+    at_end = f.turn.at_end;
+  }
+    where
+      f : Follows opening caller events command answer (KeptAt place reply) events'
+      f = follows.follows
 
-    leads : Leads (opened log) log.events f.grows.before
-    leads = subst (λ l. Leads (opened log) l f.grows.before) (ap (λ l. log.events ++ l) follows.alone ∙ append-nil log.events) f.grows.leads
+      leads : Leads opening events f.grows.before
+      leads = subst (λ l. Leads opening l f.grows.before) (ap (λ l. events ++ l) follows.alone ∙ append-nil events) f.grows.leads
 
-    grown : log'.events ≡ log.events ++ f.grows.own
-    grown = f.grows.grown ∙ ap (λ l. log.events ++ (l ++ f.grows.own)) follows.alone
+      grown : events' ≡ events ++ f.grows.own
+      grown = f.grows.grown ∙ ap (λ l. events ++ (l ++ f.grows.own)) follows.alone
 
-    split : (mid : State) × Leads (opened log) log.events mid × Leads mid f.grows.own follows.legal.0
-    split = Leads-split (opened log) log.events f.grows.own follows.legal.0 (subst (λ l. Leads (opened log) l follows.legal.0) grown follows.legal.1)
+      split : (mid : State) × Leads opening events mid × Leads mid f.grows.own follows.legal.0
+      split = Leads-split opening events f.grows.own follows.legal.0 (subst (λ l. Leads opening l follows.legal.0) grown follows.legal.1)
 
-    made : AllByRecursion (IsMade log.caller (max answer f.grows.before.greatest)) (f.turn.front ++ f.turn.last ∷ [])
-    made = subst (AllByRecursion (IsMade log.caller (max answer f.grows.before.greatest))) f.turn.is_own f.grows.made
+      made : AllByRecursion (IsMade caller (max answer f.grows.before.greatest)) (f.turn.front ++ f.turn.last ∷ [])
+      made = subst (AllByRecursion (IsMade caller (max answer f.grows.before.greatest))) f.turn.is_own f.grows.made
 
-    in_memory : AllByRecursion IsInMemory (f.turn.front ++ f.turn.last ∷ [])
-    in_memory = subst (AllByRecursion IsInMemory) f.turn.is_own follows.in_memory
+      plain : AllByRecursion IsPlain (f.turn.front ++ f.turn.last ∷ [])
+      plain = subst (AllByRecursion IsPlain) f.turn.is_own follows.plain
 
-    ahead : List Happened
-    ahead = log.events ++ f.turn.front
+      whole : events' ≡ (events ++ f.turn.front) ++ f.turn.last ∷ []
+      whole = grown ∙ ap (λ l. events ++ l) f.turn.is_own ∙ sym (append_assoc events f.turn.front (f.turn.last ∷ []))
 
-    whole : log'.events ≡ (log.events ++ f.turn.front) ++ f.turn.last ∷ []
-    whole = grown ∙ ap (λ l. log.events ++ l) f.turn.is_own ∙ sym (append_assoc log.events f.turn.front (f.turn.last ∷ []))
+      place_is : place ≡ length (events ++ f.turn.front)
+      place_is = omega (arith, f.turn.at_end, ap length whole, length-append (events ++ f.turn.front) (f.turn.last ∷ []))
 
-    place_is : place ≡ length (log.events ++ f.turn.front)
-    place_is = omega (arith, f.turn.at_end, ap length whole, length-append (log.events ++ f.turn.front) (f.turn.last ∷ []))
+      last_is : f.turn.last ≡ f.named.event
+      last_is = some_is (sym (ap (λ l. slice_get l place) whole ∙ ap (λ p. slice_get ((events ++ f.turn.front) ++ f.turn.last ∷ []) p) place_is ∙ at_seam (events ++ f.turn.front) [] f.turn.last) ∙ f.named.is_at.is)
 
-    last_is : f.turn.last ≡ f.named.event
-    last_is = some_is (sym (ap (λ l. slice_get l place) whole ∙ ap (λ p. slice_get ((log.events ++ f.turn.front) ++ f.turn.last ∷ []) p) place_is ∙ at_seam (log.events ++ f.turn.front) [] f.turn.last) ∙ f.named.is_at.is)
+      own_is : f.grows.own ≡ f.turn.front ++ done_event caller (max answer f.grows.before.greatest) (CommandOf command) ∷ []
+      own_is = f.turn.is_own ∙ ap (λ e. f.turn.front ++ e ∷ []) (done_is caller (max answer f.grows.before.greatest) (CommandOf command) f.turn.last (all_back _ f.turn.front (f.turn.last ∷ []) made).0 (all_back _ f.turn.front (f.turn.last ∷ []) plain).0
+          (ap (λ e. e.event) last_is ∙ f.named.asks))
 
-    own_is : f.grows.own ≡ f.turn.front ++ done_event log.caller (max answer f.grows.before.greatest) (CommandOf command) ∷ []
-    own_is = f.turn.is_own ∙ ap (λ e. f.turn.front ++ e ∷ []) (done_is log.caller (max answer f.grows.before.greatest) (CommandOf command) f.turn.last (all_back _ f.turn.front (f.turn.last ∷ []) made).0 (all_back _ f.turn.front (f.turn.last ∷ []) in_memory).0
-        (ap (λ e. e.event) last_is ∙ f.named.asks))
+  -- such a history leaves no choice
+  pub FollowsAlone-determined : ((events : List Happened) (place : ℕ) (before again : State) (event same : Happened) (one other : Reply) → IsAt opening events place before event one → IsAt opening events place again same other → (event ≡ same) × (before ≡ again) × (one ≡ other))
+      → IsDetermined (FollowsAlone opening caller)
+  FollowsAlone-determined at_once events a b command answer (KeptAt place reply) (KeptAt place' reply') one other want want' = (ap (λ p. KeptAt p reply) same_place ∙ ap (KeptAt place') same_reply, same_events)
+    where
+      t : Turn opening caller events command answer place a
+      t = turn_of events a command answer place reply one
 
-log_same : (a b : Log) → a.kept ≡ b.kept → a.users ≡ b.users → a.events ≡ b.events → a.caller ≡ b.caller → a ≡ b
-log_same a b kept users events caller =
-    ap (λ x. record { kept = x; users = a.users; events = a.events; caller = a.caller }) kept ∙ ap (λ x. record { kept = b.kept; users = x; events = a.events; caller = a.caller }) users
-    ∙ ap (λ x. record { kept = b.kept; users = b.users; events = x; caller = a.caller }) events ∙ ap (λ x. record { kept = b.kept; users = b.users; events = b.events; caller = x }) caller
+      t' : Turn opening caller events command answer place' b
+      t' = turn_of events b command answer place' reply' other
 
--- a log in memory leaves no choice
-pub FollowsIn-determined : ((kept : Kept) (users : List (List ℕ)) (events : List Happened) (one other : State) → Leads (opening_of kept users) events one → Leads (opening_of kept users) events other → one ≡ other) →
-    ((kept : Kept) (users : List (List ℕ)) (events : List Happened) (place : ℕ) (before again : State) (event same : Happened) (one other : Reply) → IsAt (opening_of kept users) events place before event one
-    → IsAt (opening_of kept users) events place again same other → (event ≡ same) × (before ≡ again) × (one ≡ other)) → IsDetermined FollowsIn
-FollowsIn-determined leads_once at_once log a b command answer (KeptAt place reply) (KeptAt place' reply') one other want want' = (
-  ap (λ p. KeptAt p reply) same_place ∙ ap (KeptAt place') same_reply,
-  log_same a b (one.kept ∙ sym other.kept) (one.users ∙ sym other.users) same_events (one.caller ∙ sym other.caller),
-)
-  where
-    t : Turn log command answer place a
-    t = turn_of log a command answer place reply (leads_once log.kept log.users) one
+      state : t.before ≡ t'.before
+      state = leads_once events t.before t'.before t.leads t'.leads
 
-    t' : Turn log command answer place' b
-    t' = turn_of log b command answer place' reply' (leads_once log.kept log.users) other
+      moment : max answer t.before.greatest ≡ max answer t'.before.greatest
+      moment = ap (λ s. max answer s.greatest) state
 
-    state : t.before ≡ t'.before
-    state = leads_once log.kept log.users log.events t.before t'.before t.leads t'.leads
+      front : t.front ≡ t'.front
+      front = same_front opening leads_once events t'.before caller (max answer t'.before.greatest) command t.front t'.front t.last t'.last t'.leads t.no_command t'.no_command
+          (subst (λ m. AreOwn caller m t.front) moment t.own) t'.own
+          (subst (λ s. Leads s (t.front ++ done_event caller (max answer t'.before.greatest) (CommandOf command) ∷ []) t.last) state (subst (λ m. Leads t.before (t.front ++ done_event caller m (CommandOf command) ∷ []) t.last) moment t.on)) t'.on
 
-    moment : max answer t.before.greatest ≡ max answer t'.before.greatest
-    moment = ap (λ s. max answer s.greatest) state
+      same_events : a ≡ b
+      same_events = t.is ∙ ap (λ l. events ++ (l ++ done_event caller (max answer t.before.greatest) (CommandOf command) ∷ [])) front
+          ∙ ap (λ m. events ++ (t'.front ++ done_event caller m (CommandOf command) ∷ [])) moment ∙ sym t'.is
 
-    front : t.front ≡ t'.front
-    front = same_front (opened log) (leads_once log.kept log.users) log.events t'.before log.caller (max answer t'.before.greatest) command t.front t'.front t.last t'.last t'.leads t.no_command t'.no_command
-        (subst (λ m. AreOwn log.caller m t.front) moment t.own) t'.own
-        (subst (λ s. Leads s (t.front ++ done_event log.caller (max answer t'.before.greatest) (CommandOf command) ∷ []) t.last) state (subst (λ m. Leads t.before (t.front ++ done_event log.caller m (CommandOf command) ∷ []) t.last) moment t.on)) t'.on
+      same_place : place ≡ place'
+      same_place = omega (arith, t.at_end, t'.at_end, ap length same_events)
 
-    same_events : a.events ≡ b.events
-    same_events = t.is ∙ ap (λ l. log.events ++ (l ++ done_event log.caller (max answer t.before.greatest) (CommandOf command) ∷ [])) front
-        ∙ ap (λ m. log.events ++ (t'.front ++ done_event log.caller m (CommandOf command) ∷ [])) moment ∙ sym t'.is
-
-    same_place : place ≡ place'
-    same_place = omega (arith, t.at_end, t'.at_end, ap length same_events)
-
-    same_reply : reply ≡ reply'
-    same_reply = (at_once log.kept log.users b.events place' one.events.named.before other.events.named.before one.events.named.event other.events.named.event reply reply'
-        (subst (λ p. IsAt (opened log) b.events p one.events.named.before one.events.named.event reply) same_place (subst (λ l. IsAt (opened log) l place one.events.named.before one.events.named.event reply) same_events one.events.named.is_at)) other.events.named.is_at).2
-FollowsIn-determined leads_once at_once log a b command answer NoMemory given' one other want want' = absurd (want refl)
-FollowsIn-determined leads_once at_once log a b command answer (KeptAt place reply) NoMemory one other want want' = absurd (want' refl)
+      same_reply : reply ≡ reply'
+      same_reply = (at_once b place' one.follows.named.before other.follows.named.before one.follows.named.event other.follows.named.event reply reply'
+          (subst (λ p. IsAt opening b p one.follows.named.before one.follows.named.event reply) same_place (subst (λ l. IsAt opening l place one.follows.named.before one.follows.named.event reply) same_events one.follows.named.is_at)) other.follows.named.is_at).2
+  FollowsAlone-determined at_once events a b command answer NoMemory given' one other want want' = absurd (want refl)
+  FollowsAlone-determined at_once events a b command answer (KeptAt place reply) NoMemory one other want want' = absurd (want' refl)

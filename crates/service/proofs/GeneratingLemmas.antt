@@ -1,5 +1,5 @@
 -- A configuration that was made by three commands of the first caller.
-use Rattle.std.proofs.Common.{◌≡◌, ◌≤◌, length, min, arith, ℕ, List, [], ◌∷◌, ◌++◌, Some, Ok, Err, refl, sym, subst, ap, ◌∙◌}
+use Rattle.std.proofs.Common.{◌≡◌, ◌≤◌, length, min, arith, ℕ, List, [], ◌∷◌, Some, Ok, Err, refl, sym, subst, ap, ◌∙◌}
 use Rattle.std.specs.Prelude.{Result, IsOk, OnOk}
 use Rattle.commands.specs.declared.command.Command.{Command}
 use Rattle.std.specs.FinMap as map
@@ -17,7 +17,7 @@ use Rattle.session_history.specs.declared.history.Happened.{Happened}
 use Rattle.session_history.specs.declared.history.History.{History}
 use Rattle.session_history.specs.Events.{IsLegal, Leads}
 use Rattle.session_history.proofs.EventLemmas.{Leads-append}
-use Rattle.service.specs.Asking.{Happens, done_event}
+use Rattle.service.specs.Taking.{Happens, done_event}
 use Rattle.service.specs.Generating.{Generates, IsCounted, IsDone, IsGenerated, IsMadeFor}
 
 -- an event leads on to the state that it leaves

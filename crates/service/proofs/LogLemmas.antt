@@ -1,108 +1,183 @@
 -- A log that follows after one ask.
-use Rattle.std.proofs.Common.{◌≡◌, ℕ, ◌+◌, List, [], ◌∷◌, ◌++◌, length, take, max, refl, sym, ap, subst, ◌∙◌, append_assoc, arith, slice_get}
+use Rattle.std.proofs.Common.{◌≡◌, ◌<◌, ◌≤◌, ⊎_elim, inl, inr, ℕ, ◌+◌, Bool, List, [], ◌∷◌, ◌++◌, length, take, max, refl, sym, ap, subst, ◌∙◌, append_assoc, arith, slice_get}
 use Rattle.std.specs.List.{AllByRecursion}
+use Rattle.std.proofs.lemmas.Bool.{cases_lt}
 use Rattle.std.proofs.lemmas.List.{append-nil, length-append}
 use Rattle.std.proofs.Math.Seq.{take-append_seam}
+use Rattle.cfg_base.specs.Counts.{Rose}
 use Rattle.commands.specs.declared.command.Command.{Command}
+use Rattle.commit_journal.specs.Journal.{JournalView}
+use Rattle.config_core.specs.declared.event.Event.{Event}
 use Rattle.config_core.specs.declared.event.Event.TheVariants.{Command as CommandOf}
 use Rattle.config_core.specs.declared.reply.Reply.{Reply}
-use Rattle.config_core.specs.State.{State}
+use Rattle.config_core.specs.Machine.{Steps}
+use Rattle.config_core.specs.Serving.{Turned}
+use Rattle.config_core.specs.State.{State, opening_of}
+use Rattle.config_db.specs.declared.answer.Answered.{Answered}
+use Rattle.config_db.specs.declared.answer.Answered.TheVariants.{Kept, NoMemory}
+use Rattle.config_db.specs.Answers.{Answers, IsAnswer, IsAnswered, moment_at}
+use Rattle.config_db.specs.Disks.{FaultRose, GoesOn}
+use Rattle.config_db.specs.Moves.{Extends, HasCause, IsOf}
+use Rattle.config_db.specs.Starting.{IsBegun}
+use Rattle.config_db.specs.View.{DatabaseView, opened}
 use Rattle.session_history.specs.declared.history.Happened.{Happened}
-use Rattle.session_history.specs.Events.{IsAsked, IsAt, Leads, places_from, places_of}
+use Rattle.session_history.specs.Events.{IsAsked, IsAt, Leads, is_command, places_from, places_of}
 use Rattle.session_history.proofs.EventLemmas.{Leads-append, at_seam, no_places, one_place, places_from-append, places_of-append}
 use Rattle.session_shell.specs.declared.door.Given0.{Given0}
-use Rattle.session_shell.specs.declared.door.Given0.TheVariants.{Kept, NoMemory}
-use Rattle.service.specs.Asking.{Asks, IsAnswered, IsGiven, done_event}
-use Rattle.service.specs.History.{IsMade, IsTurn, Names, places_given}
-use Rattle.service.specs.Log.{FollowsIn, IsLog, Log, opened}
-use Rattle.service.proofs.AskingLemmas.{All-append}
+use Rattle.service.specs.History.{IsTurn, Names, places_given}
+use Rattle.service.specs.Log.{AddsUp, FollowsIn, IsLog, Log, given_of}
+use Rattle.service.specs.Naming.{same_opened}
+use Rattle.service.proofs.ListLemmas.{All-append, All-weaker, all_back}
 
--- the command stands at its place of the grown history
-is_asked : (opening s : State) (caller answer moment : ℕ) (command : Command) (place : ℕ) (reply : Reply) (events own : List Happened) → Leads opening events s → moment ≡ max answer s.greatest → IsAnswered caller moment command place reply s events own →
-    IsAsked opening (events ++ own) place caller answer command reply
-is_asked opening s caller answer moment command place reply events own leads is_moment given =
-    let event : Happened = done_event caller moment (CommandOf command) in
-    let ahead : List Happened = events ++ given.front in
-    let whole : events ++ own ≡ ahead ++ event ∷ [] = ap (λ l. events ++ l) given.is_own ∙ sym (append_assoc events given.front (event ∷ [])) in
-    record {
-      before = given.before;
-      event = event;
-      is_at = subst (λ l. IsAt opening l place given.before event reply) (sym whole) (record {
-        within = omega (arith, given.at_end, length-append ahead (event ∷ []));
-        is = ap (λ p. slice_get (ahead ++ event ∷ []) p) given.at_end ∙ at_seam ahead [] event;
-        leads = subst (λ front. Leads opening front given.before) (sym (ap (λ p. take p (ahead ++ event ∷ [])) given.at_end ∙ take-append_seam ahead (event ∷ []))) (Leads-append opening events given.front s given.before leads given.leads);
-        turned = given.turned;
-        steps = given.steps;
-        replied = given.replied;
-      });
-      own = refl;
-      when = omega (arith, is_moment, given.since, given.no_earlier);
-      asks = refl;
-    }
+-- a step of the machine is one of the event that it has become
+steps_of : (s : State) (caller moment : ℕ) (event : Event) (turned : Turned) (h : Happened) → h.caller ≡ caller → h.moment ≡ moment → h.event ≡ event → Steps s caller moment event h.outcome turned → Steps s h.caller h.moment h.event h.outcome turned
+steps_of s caller moment event turned h callers moments events steps =
+    subst (λ x. Steps s x h.moment h.event h.outcome turned) (sym callers)
+    (subst (λ x. Steps s caller x h.event h.outcome turned) (sym moments) (subst (λ x. Steps s caller moment x h.outcome turned) (sym events) steps))
 
-named : (opening s : State) (caller answer moment : ℕ) (command : Command) (given : Given0) (events own : List Happened) → Leads opening events s → moment ≡ max answer s.greatest → IsGiven caller moment command given s events own → Names opening caller (events ++ own) command answer given
-named opening s caller answer moment command (Kept place reply) events own leads is_moment given = is_asked opening s caller answer moment command place reply events own leads is_moment given
-named opening s caller answer moment command NoMemory events own leads is_moment given = tt
+-- the last of a caller's own events is the caller's, at that moment
+last_of : (caller moment : ℕ) (front own : List Happened) (last : Happened) → own ≡ front ++ last ∷ [] → AllByRecursion (IsOf caller moment) own → IsOf caller moment last
+last_of caller moment front own last is made = (all_back (IsOf caller moment) front (last ∷ []) (subst (AllByRecursion (IsOf caller moment)) is made)).0
 
--- the places of a caller's own events
-places : (s : State) (caller moment : ℕ) (command : Command) (given : Given0) (events own : List Happened) → IsGiven caller moment command given s events own → places_of caller (events ++ own) ≡ places_of caller events ++ places_given given
-places s caller moment command (Kept place reply) events own given =
-    let event : Happened = done_event caller moment (CommandOf command) in
-    let at_end : length events + length given.front ≡ place = omega (arith, given.at_end, length-append events given.front) in
-    places_of-append caller events own
-    ∙ ap (λ l. places_of caller events ++ places_from (length events) caller l) given.is_own
-    ∙ ap (λ l. places_of caller events ++ l) (places_from-append (length events) caller given.front (event ∷ [])
-    ∙ ap (λ l. l ++ places_from (length events + length given.front) caller (event ∷ [])) (no_places (length events) caller given.front given.no_command)
-    ∙ one_place (length events + length given.front) caller event refl refl
-    ∙ ap (λ p. p ∷ []) at_end)
-places s caller moment command NoMemory events own given =
-    places_of-append caller events own ∙ ap (λ l. places_of caller events ++ l) (no_places (length events) caller own given)
+module _ {D : Type 0} where
+  -- the command stands at its place of the grown history
+  is_asked : (opening : State) (caller answer moment : ℕ) (command : Command) (place : ℕ) (reply : Reply) (own : List Happened) (v v' : DatabaseView D) → Leads opening v.events v.state → moment ≡ max answer v.state.greatest
+      → AllByRecursion (IsOf caller moment) own → IsAnswered caller moment command place reply own v v' → IsAsked opening (v.events ++ own) place caller answer command reply
+  is_asked opening caller answer moment command place reply own v v' leads is_moment made given =
+      let ahead : List Happened = v.events ++ given.front in
+      let whole : v.events ++ own ≡ ahead ++ given.last ∷ [] = ap (λ l. v.events ++ l) given.is_own ∙ sym (append_assoc v.events given.front (given.last ∷ [])) in
+      let last : IsOf caller moment given.last = last_of caller moment given.front own given.last given.is_own made in
+      record {
+        before = given.before;
+        event = given.last;
+        is_at = subst (λ l. IsAt opening l place given.before given.last reply) (sym whole) (record {
+          within = omega (arith, given.at_end, length-append ahead (given.last ∷ []));
+          is = ap (λ p. slice_get (ahead ++ given.last ∷ []) p) given.at_end ∙ at_seam ahead [] given.last;
+          leads = subst (λ front. Leads opening front given.before) (sym (ap (λ p. take p (ahead ++ given.last ∷ [])) given.at_end ∙ take-append_seam ahead (given.last ∷ [])))
+              (Leads-append opening v.events given.front v.state given.before leads given.leads);
+          turned = given.turned;
+          steps = steps_of given.before caller moment (CommandOf command) given.turned given.last last.0 last.1 given.asks given.steps;
+          replied = given.replied;
+        });
+        own = last.0;
+        when = omega (arith, last.1, is_moment, given.since, given.no_later);
+        asks = given.asks;
+      }
 
--- what a turn's own events are
-turned : (s : State) (caller moment : ℕ) (command : Command) (given : Given0) (events own events' : List Happened) → events' ≡ events ++ own → IsGiven caller moment command given s events own → IsTurn given own events'
-turned s caller moment command (Kept place reply) events own events' grown given =
-    let event : Happened = done_event caller moment (CommandOf command) in
-    record {
-      front = given.front;
-      last = event;
-      is_own = given.is_own;
-      no_command = given.no_command;
-      at_end = omega (arith, ap length grown, length-append events own, ap length given.is_own, length-append given.front (event ∷ []), given.at_end, length-append events given.front);
-    }
-turned s caller moment command NoMemory events own events' grown given = given
+  named : (opening : State) (caller answer moment : ℕ) (command : Command) (answered : Answered) (own : List Happened) (v v' : DatabaseView D) → Leads opening v.events v.state → moment ≡ max answer v.state.greatest
+      → AllByRecursion (IsOf caller moment) own → IsAnswer caller moment command answered own v v' → Names opening caller (v.events ++ own) command answer (given_of answered)
+  named opening caller answer moment command (Kept place reply) own v v' leads is_moment made given = is_asked opening caller answer moment command place reply own v v' leads is_moment made given
+  named opening caller answer moment command NoMemory own v v' leads is_moment made given = tt
 
--- the log after one ask
-pub FollowsIn-of : (core core' : State) (log log' : Log) (moment answer : ℕ) (command : Command) (given : Given0) → IsLog core log → moment ≡ max answer core.greatest → Asks log.caller moment command given core core' log.events log'.events → log'.kept ≡ log.kept → log'.users ≡ log.users → log'.caller ≡ log.caller →
-    FollowsIn log command answer given log'
-FollowsIn-of core core' log log' moment answer command given is is_moment asks kept users caller = record {
-  kept = kept;
-  users = users;
-  caller = caller;
-  events = record {
-    grows = record {
-      others = [];
-      own = asks.own;
-      grown = asks.on.grown;
-      not_own = tt;
-      before = core;
-      leads = subst (λ l. Leads (opened log) l core) (sym (append-nil log.events)) is.leads;
-      made = subst (λ m. AllByRecursion (IsMade log.caller m) asks.own) is_moment asks.on.made;
+  -- the places of a caller's own events
+  places : (caller moment : ℕ) (command : Command) (answered : Answered) (own : List Happened) (v v' : DatabaseView D) → AllByRecursion (IsOf caller moment) own → IsAnswer caller moment command answered own v v'
+      → places_of caller (v.events ++ own) ≡ places_of caller v.events ++ places_given (given_of answered)
+  places caller moment command (Kept place reply) own v v' made given =
+      let at_end : length v.events + length given.front ≡ place = omega (arith, given.at_end, length-append v.events given.front) in
+      let last : IsOf caller moment given.last = last_of caller moment given.front own given.last given.is_own made in
+      places_of-append caller v.events own
+      ∙ ap (λ l. places_of caller v.events ++ places_from (length v.events) caller l) given.is_own
+      ∙ ap (λ l. places_of caller v.events ++ l) (places_from-append (length v.events) caller given.front (given.last ∷ [])
+      ∙ ap (λ l. l ++ places_from (length v.events + length given.front) caller (given.last ∷ [])) (no_places (length v.events) caller given.front given.no_command)
+      ∙ one_place (length v.events + length given.front) caller given.last (ap is_command given.asks) last.0
+      ∙ ap (λ p. p ∷ []) at_end)
+  places caller moment command NoMemory own v v' made given =
+      places_of-append caller v.events own ∙ ap (λ l. places_of caller v.events ++ l) (no_places (length v.events) caller own given)
+
+  -- what a turn's own events are
+  turned : (caller moment : ℕ) (command : Command) (answered : Answered) (own : List Happened) (v v' : DatabaseView D) → v'.events ≡ v.events ++ own → IsAnswer caller moment command answered own v v' → IsTurn (given_of answered) own v'.events
+  turned caller moment command (Kept place reply) own v v' grown given = record {
+    front = given.front;
+    last = given.last;
+    is_own = given.is_own;
+    no_command = given.no_command;
+    at_end = omega (arith, ap length grown, length-append v.events own, ap length given.is_own, length-append given.front (given.last ∷ []), given.at_end, length-append v.events given.front);
+  }
+  turned caller moment command NoMemory own v v' grown given = given
+
+-- a count that rose in a part of the calls rose in all
+rose_more : (a b c : ℕ) → Rose a b → b ≤ c → Rose a c
+rose_more a b c (inl rose) le = inl (omega (arith, rose, le))
+rose_more a b c (inr full) le = inr full
+
+pub rose_since : (a b c : ℕ) → a ≤ b → b ≤ c → Rose b c → Rose a c
+rose_since a b c le more (inl rose) = inl (omega (arith, rose, le))
+rose_since a b c le more (inr full) = ⊎_elim (λ below. inl (omega (arith, below, more))) (λ same. inr (omega (arith, same, full))) (cases_lt a b)
+
+module _ {D : Type 0} (tells : D → Bool) (faults : D → ℕ) where
+  goes_nowhere : (j : JournalView D) → GoesOn tells faults j j
+  goes_nowhere j = record { calls = record { a = omega arith; b = omega arith }; tells_a = refl; tells_b = refl; faults_a = omega arith; faults_b = omega arith }
+
+  goes_further : (i j k : JournalView D) → GoesOn tells faults i j → GoesOn tells faults j k → GoesOn tells faults i k
+  goes_further i j k first then_on = record {
+    calls = record { a = omega (arith, first.calls.a, then_on.calls.a); b = omega (arith, first.calls.b, then_on.calls.b) };
+    tells_a = then_on.tells_a ∙ first.tells_a;
+    tells_b = then_on.tells_b ∙ first.tells_b;
+    faults_a = omega (arith, first.faults_a, then_on.faults_a);
+    faults_b = omega (arith, first.faults_b, then_on.faults_b);
+  }
+
+  rose_first : (i j k : JournalView D) → FaultRose faults i j → GoesOn tells faults j k → FaultRose faults i k
+  rose_first i j k (inl rose) on = inl (rose_more _ _ _ rose on.faults_a)
+  rose_first i j k (inr rose) on = inr (rose_more _ _ _ rose on.faults_b)
+
+  rose_last : (i j k : JournalView D) → GoesOn tells faults i j → GoesOn tells faults j k → FaultRose faults j k → FaultRose faults i k
+  rose_last i j k on more (inl rose) = inl (rose_since _ _ _ on.faults_a more.faults_a rose)
+  rose_last i j k on more (inr rose) = inr (rose_since _ _ _ on.faults_b more.faults_b rose)
+
+  -- nothing happened
+  pub AddsUp-none : (v : DatabaseView D) → AddsUp tells faults [] v v
+  AddsUp-none v = record { same = record { opening = refl; users = refl }; goes = goes_nowhere v.journal; causes = tt }
+
+  pub AddsUp-of : (caller moment : ℕ) (own : List Happened) (v v' : DatabaseView D) → Extends tells faults caller moment own v v' → AddsUp tells faults own v v'
+  AddsUp-of caller moment own v v' extends = record { same = extends.same; goes = extends.goes; causes = extends.causes }
+
+  -- events, and then more
+  pub AddsUp-then : (own more : List Happened) (u v w : DatabaseView D) → AddsUp tells faults own u v → AddsUp tells faults more v w → AddsUp tells faults (own ++ more) u w
+  AddsUp-then own more u v w first next = record {
+    same = record { opening = next.same.opening ∙ first.same.opening; users = next.same.users ∙ first.same.users };
+    goes = goes_further u.journal v.journal w.journal first.goes next.goes;
+    causes = All-append (HasCause faults u.journal w.journal) own more
+        (All-weaker (HasCause faults u.journal v.journal) (HasCause faults u.journal w.journal) own (λ e cause is. rose_first u.journal v.journal w.journal (cause is) next.goes) first.causes)
+        (All-weaker (HasCause faults v.journal w.journal) (HasCause faults u.journal w.journal) more (λ e cause is. rose_last u.journal v.journal w.journal first.goes next.goes (cause is)) next.causes);
+  }
+
+  -- the log after one ask
+  pub FollowsIn-of : (log log' : Log D) (answer : ℕ) (command : Command) (answered : Answered) (given : Given0) → IsLog log → Answers tells faults log.caller (moment_at answer log.database) command answered log.database log'.database
+      → log'.caller ≡ log.caller → given ≡ given_of answered → FollowsIn tells faults log command answer given log'
+  FollowsIn-of log log' answer command answered given is asks caller gives = subst (λ g. FollowsIn tells faults log command answer g log') (sym gives) (record {
+    caller = caller;
+    follows = record {
+      grows = record {
+        others = [];
+        own = asks.own;
+        grown = asks.extends.grown;
+        not_own = tt;
+        before = log.database.state;
+        leads = subst (λ l. Leads (opened log.database) l log.database.state) (sym (append-nil log.database.events)) is.leads;
+        made = asks.extends.made;
+      };
+      named = subst (λ l. Names (opened log.database) log.caller l command answer (given_of answered)) (sym asks.extends.grown)
+          (named (opened log.database) log.caller answer (moment_at answer log.database) command answered asks.own log.database log'.database is.leads refl asks.extends.made asks.answer);
+      turn = turned log.caller (moment_at answer log.database) command answered asks.own log.database log'.database asks.extends.grown asks.answer;
+      places = ap (places_of log.caller) asks.extends.grown ∙ places log.caller (moment_at answer log.database) command answered asks.own log.database log'.database asks.extends.made asks.answer;
     };
-    named = subst (λ l. Names (opened log) log.caller l command answer given) (sym asks.on.grown) (named (opened log) core log.caller answer moment command given log.events asks.own is.leads is_moment asks.answer);
-    turn = turned core log.caller moment command given log.events asks.own log'.events asks.on.grown asks.answer;
-    places = ap (places_of log.caller) asks.on.grown ∙ places core log.caller moment command given log.events asks.own asks.answer;
-  };
-  alone = refl;
-  legal = (core', subst (λ l. Leads (opened log) l core') (sym asks.on.grown) (Leads-append (opened log) log.events asks.own core core' is.leads asks.on.leads));
-  in_memory = asks.on.in_memory;
-}
+    alone = refl;
+    adds = AddsUp-of log.caller (moment_at answer log.database) asks.own log.database log'.database asks.extends;
+  })
 
--- the machine with its log after one ask
-pub IsLog-of : (core core' : State) (log : Log) (events' : List Happened) (moment : ℕ) (command : Command) (given : Given0) → IsLog core log → Asks log.caller moment command given core core' log.events events' → IsLog core' (record log { events = events' })
-IsLog-of core core' log events' moment command given is asks = record {
-  leads = subst (λ l. Leads (opened log) l core') (sym asks.on.grown) (Leads-append (opened log) log.events asks.own core core' is.leads asks.on.leads);
-  in_memory = subst (AllByRecursion _) (sym asks.on.grown) (All-append _ log.events asks.own is.in_memory asks.on.in_memory);
-  free = asks.on.free;
-  callers = asks.on.callers ∙ is.callers;
-  caller = is.caller;
-}
+  -- it is a log again
+  pub IsLog-of : (log log' : Log D) (answer : ℕ) (command : Command) (answered : Answered) → IsLog log → Answers tells faults log.caller (moment_at answer log.database) command answered log.database log'.database → log'.caller ≡ log.caller → IsLog log'
+  IsLog-of log log' answer command answered is asks caller = record {
+    leads = subst (λ o. Leads o log'.database.events log'.database.state) (sym (same_opened log.database log'.database asks.extends.same))
+        (subst (λ l. Leads (opened log.database) l log'.database.state) (sym asks.extends.grown)
+        (Leads-append (opened log.database) log.database.events asks.own log.database.state log'.database.state is.leads asks.extends.leads));
+    caller = subst (λ n. (0 < n) × (n ≤ length log'.database.users)) (sym caller) (subst (λ l. (0 < log.caller) × (log.caller ≤ length l)) (sym asks.extends.same.users) is.caller);
+  }
+
+  -- a database that was just begun, in which the first of some users asks
+  pub IsLog-begun : (a b : D) (users : List (List ℕ)) (limit : ℕ) (v : DatabaseView D) → IsBegun tells faults a b users limit v → 0 < length users → IsLog (record { database = v; caller = 1 })
+  IsLog-begun a b users limit v begun some = record {
+    leads = subst (λ l. Leads (opened v) l v.state) (sym begun.no_events) (begun.starts ∙ ap (opening_of v.opening) (sym begun.users_are));
+    caller = (omega arith, subst (λ l. 1 ≤ length l) (sym begun.users_are) some);
+  }

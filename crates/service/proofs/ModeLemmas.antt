@@ -1,5 +1,5 @@
 -- The runs that serve no session.
-use Rattle.std.proofs.Common.{◌≡◌, ◌≢◌, ◌+◌, ◌++◌, ◌⊎◌, inl, inr, ⊎_elim, ℕ, Bool, List, [], ◌∷◌, length, map, codes, get_or, Option, refl, sym, ap, subst, ◌∙◌, arith}
+use Rattle.std.proofs.Common.{◌≡◌, ◌≢◌, inl, inr, ⊎_elim, ℕ, Bool, List, [], ◌∷◌, length, codes, get_or, Option, refl, sym, ap, subst, ◌∙◌, arith}
 use Rattle.command_line.specs.Asked.{Asks, name_of}
 use Rattle.command_line.specs.Asked.{users_of as users_asked}
 use Rattle.command_line.specs.Given.{given}
@@ -14,14 +14,13 @@ use Rattle.modes.specs.declared.did.Did.{Did}
 use Rattle.modes.specs.Modes.{IsCheck, IsInit, IsTold, status_of}
 use Rattle.session_history.specs.declared.history.History.{History}
 use Rattle.session_shell.specs.declared.end.End.{End}
-use Rattle.session_shell.specs.declared.turn.Turn.{Turn}
 use Rattle.stored_ledger.specs.declared.why.StartWhy.{StartWhy}
 use Rattle.stored_ledger.specs.declared.why.StartWhy.TheVariants.{Exists, NotAJournal, Damaged, BadRecord, DiskFault, NoMemory}
 use Rattle.service.specs.declared.closed.Closed.{Closed}
 use Rattle.service.specs.Modes.{IsGen, RunsIn, RunsMode, did_of}
-use Rattle.service.specs.Run.{AreEnds, EachEnd, IsFaultless, IsIdle, IsServed, users_of}
+use Rattle.service.specs.Run.{AreEnds, users_of}
 use Rattle.std.proofs.lemmas.List.{length-map}
-use Rattle.service.proofs.RunLemmas.{as_many, complete_of, status_is_not_1}
+use Rattle.service.proofs.RunLemmas.{as_many}
 
 first_byte : (a b : List ℕ) → a ≡ b → get_or a 0 0 ≡ get_or b 0 0
 first_byte a b is = ap (λ (l : List ℕ). get_or l 0 0) is
@@ -48,7 +47,7 @@ pub some_user : (words : List (List ℕ)) (asked : Asked) → Asks words asked �
 some_user words asked asks other = one_user words asked asks other
 
 -- no status of these modes is that of words that ask nothing
-refused_is_not_1 : (why : StartWhy) → status_of why ≡ 1 → ⊥
+pub refused_is_not_1 : (why : StartWhy) → status_of why ≡ 1 → ⊥
 refused_is_not_1 Exists is = omega (arith, is)
 refused_is_not_1 NotAJournal is = omega (arith, is)
 refused_is_not_1 (Damaged offset kept computed) is = omega (arith, is)
@@ -161,25 +160,12 @@ check_apart is = let other : 99 ≡ 115 = first_byte (codes "check") (codes "ser
 pub gen_apart : Gen ≡ Serve → ⊥
 gen_apart is = let other : 103 ≡ 115 = first_byte (codes "gen") (codes "serve") (ap name_of is) in omega (arith, other)
 
+pub init_is_not_gen : Init ≡ Gen → ⊥
+init_is_not_gen is = let other : 105 ≡ 103 = first_byte (codes "init") (codes "gen") (ap name_of is) in omega (arith, other)
+
+pub check_is_not_gen : Check ≡ Gen → ⊥
+check_is_not_gen is = let other : 99 ≡ 103 = first_byte (codes "check") (codes "gen") (ap name_of is) in omega (arith, other)
+
 -- the place of mode gen says a number
 pub place_of : (words : List (List ℕ)) (asked : Asked) → Asks words asked → asked.mode ≡ Gen → IsSpelling (Number 1 3000) asked.place
 place_of words asked asks is = subst (λ (l : List ℕ). IsSpelling (Number 1 3000) l) (sym asks.meant.place) (asks.meant.number (asks.meant.mode ∙ ap name_of is))
-
--- sessions that were served, or for which memory was wanting
-module _ {S K C : Type 0} (left : S → Option (List ℕ)) (source_faults : S → ℕ) (held : K → Option (List ℕ)) (sink_faults : K → ℕ) (coming : C → Option (ℕ → ℕ)) where
-  abbrev pub WasServed : Asked → List (End S K C) → List (End S K C) → List (List Turn) → History → ℕ → Type 0
-  WasServed asked ends ends' turns history status =
-      ((status ≡ 9) × IsIdle ends ends' turns history) ⊎ IsServed left source_faults held sink_faults coming asked.limits.input ends ends' turns history status
-
-  pub served_is_not_1 : (asked : Asked) (ends ends' : List (End S K C)) (turns : List (List Turn)) (history : History) (status : ℕ) → WasServed asked ends ends' turns history status → status ≡ 1 → ⊥
-  served_is_not_1 asked ends ends' turns history status (inl idle) one = omega (arith, one, idle.0)
-  served_is_not_1 asked ends ends' turns history status (inr served) one = status_is_not_1 (map (λ result. result.how) served.results) (sym served.is_status ∙ one)
-
-  pub served_so : (asked other : Asked) (ends ends' : List (End S K C)) (turns : List (List Turn)) (history : History) (status : ℕ) → asked ≡ other → WasServed asked ends ends' turns history status
-      → WasServed other ends ends' turns history status
-  served_so asked other ends ends' turns history status same was = subst (λ (x : Asked). WasServed x ends ends' turns history status) same was
-
-  pub served_complete : (asked : Asked) (ends ends' : List (End S K C)) (turns : List (List Turn)) (history : History) (status : ℕ) → WasServed asked ends ends' turns history status
-      → EachEnd (IsFaultless left source_faults sink_faults asked.limits.input) ends ends' → (status ≡ 0) ⊎ (status ≡ 9)
-  served_complete asked ends ends' turns history status (inl idle) each = inr idle.0
-  served_complete asked ends ends' turns history status (inr served) each = complete_of left source_faults held sink_faults coming asked.limits.input ends ends' turns history status served each

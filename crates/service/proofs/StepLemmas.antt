@@ -20,7 +20,7 @@ use Rattle.std.proofs.Math.ListN.{length-set}
 use Rattle.config_core.specs.Machine.{Fits, FitsIn, Free, InFlight, Missed, Steps, StepsFrom, Waiting, later, reverted, waiting_for, waiting_of}
 use Rattle.config_core.specs.Prepared.{CanEnd, IsPrepared, applied, effected, ended, need_in, replied, settled_in}
 use Rattle.session_history.specs.declared.history.Happened.{Happened}
-use Rattle.service.specs.Asking.{Happens, done_event}
+use Rattle.service.specs.Taking.{Happens, done_event}
 
 -- with nothing in flight, what stands before a command is a missed deadline or nothing
 waits : (s : State) (moment : ℕ) → s.flight ≡ None → waiting_of s moment ≡ waiting_for None (is_revert_due s.kept moment)

@@ -19,7 +19,7 @@ use Rattle.modes.specs.Texts.{gen_text}
 use Rattle.session_history.specs.declared.history.Happened.{Happened}
 use Rattle.session_history.specs.declared.history.History.{History}
 use Rattle.session_history.specs.Events.{IsLegal}
-use Rattle.service.specs.Asking.{Happens}
+use Rattle.service.specs.Taking.{Happens}
 
 -- the first caller's command, at the moment of the state before it, is done with this reply
 abbrev pub IsDone : Command → Reply → State → State → List Happened → List Happened → Type 0

@@ -1,5 +1,5 @@
 -- How a history grows by what a caller asks, and one session over a part of it. This project's own.
-use Rattle.std.specs.Prelude.{◌≡◌, ◌≢◌, ℕ, ◌+◌, List, [], ◌∷◌, ◌++◌, length, max, Bool, true, false, Option}
+use Rattle.std.specs.Prelude.{◌≡◌, ◌≢◌, ℕ, ◌+◌, List, [], ◌∷◌, ◌++◌, length, map, max, Bool, true, false, Option}
 use Rattle.std.specs.List.{AllByRecursion}
 use Rattle.commands.specs.declared.command.Command.{Command}
 use Rattle.config_core.specs.declared.event.Event.{Event}
@@ -26,15 +26,23 @@ is_settling (Settle is_kept) = true
 is_settling Revert = false
 is_settling (CommandOf command) = false
 
--- an event is done while no disk is called; so nothing is ever in flight, and none settles it
-abbrev pub IsInMemory : Happened → Type 0
-IsInMemory event = (event.outcome ≡ Done) × (event.calls ≡ record { a = 0; b = 0 }) × (is_settling event.event ≡ false)
+-- an event is done, and settles nothing: no entry was in flight
+abbrev pub IsCalm : Happened → Type 0
+IsCalm event = (event.outcome ≡ Done) × (is_settling event.event ≡ false)
 
--- a legal history in memory that one caller made alone
+-- a legal history that one caller made alone, and in which no disk failed
 pub record IsAlone (opening : State) (caller : ℕ) (events : List Happened) : Type 0 where
   pub legal : IsLegal opening events
   pub own : AllByRecursion (λ event. event.caller ≡ caller) events
-  pub in_memory : AllByRecursion IsInMemory events
+  pub calm : AllByRecursion IsCalm events
+
+-- an event but for the numbers of calls
+abbrev pub uncounted : Happened → Happened
+uncounted event = record event { calls = record { a = 0; b = 0 } }
+
+-- two histories have the same events but for the numbers of calls
+abbrev pub AreAlike : List Happened → List Happened → Type 0
+AreAlike events events' = map uncounted events ≡ map uncounted events'
 
 -- others' events came, and then the caller's own, at the greater of the clock's answer and the greatest moment before them
 pub record Grows (opening : State) (caller answer : ℕ) (events events' : List Happened) : Type 0 where

@@ -1,20 +1,18 @@
 -- The run of the service: what it hands back, and when each status comes.
-use Rattle.std.specs.Prelude.{◌≡◌, ◌≢◌, ◌<◌, ◌≤◌, ◌+◌, ◌⊎◌, ℕ, List, [], ◌∷◌, length, map, slice_get, Option, None, Some}
+use Rattle.std.specs.Prelude.{◌≡◌, ◌≢◌, ◌≤◌, ◌⊎◌, ℕ, List, [], ◌∷◌, length, map, slice_get, Option, None, Some}
 use Rattle.std.specs.List.{AllByRecursion}
 use Rattle.cfg_base.specs.Counts.{Rose}
 use Rattle.command_line.specs.Asked.{Asks}
 use Rattle.command_line.specs.declared.asked.Asked.{Asked}
-use Rattle.command_line.specs.declared.asked.RunMode.TheVariants.{Init, Check}
-use Rattle.commit_ledger.specs.Kept.{factory}
-use Rattle.config_core.specs.State.{State, opening_of}
+use Rattle.command_line.specs.declared.asked.RunMode.TheVariants.{Gen}
+use Rattle.config_core.specs.State.{State}
 use Rattle.session_history.specs.declared.history.Happened.{Happened}
 use Rattle.session_history.specs.declared.history.History.{History}
-use Rattle.session_history.specs.Events.{IsLegal, StaysAccepted}
 use Rattle.session_shell.specs.declared.end.End.{End}
 use Rattle.session_shell.specs.declared.turn.How.{How}
 use Rattle.session_shell.specs.declared.turn.How.TheVariants.{Clean, SourceFault, SinkFault, InputFull, NoMemory}
 use Rattle.session_shell.specs.declared.turn.Turn.{Turn}
-use Rattle.service.specs.History.{HasSession, IsInMemory}
+use Rattle.service.specs.History.{HasSession}
 
 -- the words ask something
 abbrev pub IsAsking : List (List ℕ) → Type 0
@@ -22,7 +20,7 @@ IsAsking words = (asked : Asked) × Asks words asked
 
 -- the words ask for a mode that begins with disks
 abbrev pub BeginsWithDisks : List (List ℕ) → Type 0
-BeginsWithDisks words = (asked : Asked) × Asks words asked × ((asked.mode ≡ Init) ⊎ (asked.mode ≡ Check))
+BeginsWithDisks words = (asked : Asked) × Asks words asked × (asked.mode ≢ Gen)
 
 -- the users of ends, in order
 abbrev pub users_of : {S K C : Type 0} → List (End S K C) → List (List ℕ)
@@ -83,28 +81,6 @@ pub record IsResult {S K C : Type 0} (left : S → Option (List ℕ)) (source_fa
   pub user : result.new.user ≡ result.old.user
   pub source_cause : result.how ≡ SourceFault → Rose (source_faults result.old.source) (source_faults result.new.source)
   pub sink_cause : result.how ≡ SinkFault → Rose (sink_faults result.old.sink) (sink_faults result.new.sink)
-
--- the sessions were served over the factory commit, as callers 1, 2 and so on: the history is legal, each event is one of
--- theirs and done, the active configuration is accepted all along, each session is what its bytes say, and the status is that
--- of the first one that didn't end clean
-pub record IsServed {S K C : Type 0} (left : S → Option (List ℕ)) (source_faults : S → ℕ) (held : K → Option (List ℕ))
-    (sink_faults : K → ℕ) (coming : C → Option (ℕ → ℕ)) (limit : ℕ) (ends ends' : List (End S K C)) (turns : List (List Turn))
-    (history : History) (status : ℕ) : Type 0 where
-  pub results : List (SessionResult S K C)
-  pub old : map (λ result. result.old) results ≡ ends
-  pub new : map (λ result. result.new) results ≡ ends'
-  pub turned : map (λ result. result.turns) results ≡ turns
-  pub each : (k : ℕ) (result : SessionResult S K C) → slice_get results k ≡ Some result
-      → IsResult left source_faults held sink_faults coming (opening_of factory (users_of ends)) limit history.events.items
-      (k + 1) result
-  pub is_status : status ≡ status_of_all (map (λ result. result.how) results)
-  pub opening : history.opening ≡ Some factory
-  pub users : history.users ≡ users_of ends
-  pub no_calls : history.made ≡ record { a = 0; b = 0 }
-  pub legal : IsLegal (opening_of factory (users_of ends)) history.events.items
-  pub callers : AllByRecursion (λ event. (0 < event.caller) × (event.caller ≤ length ends)) history.events.items
-  pub in_memory : AllByRecursion IsInMemory history.events.items
-  pub accepted : StaysAccepted (opening_of factory (users_of ends)) history.events.items
 
 -- an input that is told and no longer than the limit
 abbrev pub Fits : ℕ → Option (List ℕ) → Type 0

@@ -1,115 +1,112 @@
-//! The machine with what happened to it: the door of each session in memory.
+//! The database with the caller whose turn it is: the door of each session.
 
-ghost use Rattle.std.specs.Prelude.{◌≡◌, ◌<◌, ◌≤◌, [], ◌∷◌, length, IfOk, Some, None};
-ghost use Rattle.std.specs.List.{AllByRecursion};
-ghost use Rattle.commit_ledger.specs.Kept.{factory};
-ghost use Rattle.session_history.specs.Events.{IsLegal};
-ghost use Rattle.service.specs.History.{IsInMemory};
-ghost use Rattle.service.specs.Log.{FollowsIn, NamesIn, opened};
+ghost use Rattle.std.specs.Prelude.{◌≡◌, ◌<◌, ◌≤◌, length, IfOk, IfErr};
+ghost use Rattle.commit_journal.specs.Journal.{disk_a, disk_b};
+ghost use Rattle.config_db.specs.Closing.{IsClosed};
+ghost use Rattle.config_db.specs.Starting.{IsBegun};
+ghost use Rattle.config_db.specs.View.{opened};
+ghost use Rattle.session_history.specs.Events.{Leads};
+ghost use Rattle.stored_ledger.specs.Starting.{IsFound, IsNotFound};
+ghost use Rattle.service.specs.Log.{FollowsIn, NamesIn, given_of};
 ghost use Rattle.service.specs.Naming.{keeps_names, names_given};
 
-use crate::asking::{NO_CALLS, ask};
-use cfg_base::{Moment, NoMemory, UserName, Users};
+use cfg_base::{Limits, Moment, Users};
 use commands::Command;
-use commit_ledger::Ledger;
-use config_core::Core;
-use session_history::{Happened, History};
+use config_db::{Answered, ClosedBook, Database};
+use disk_model::Disk;
 use session_shell::{Door, Given0};
 use std::alloc::Global;
 use std::marker::Model;
 use std::sync::Wait;
+use stored_ledger::StartFault;
 
-/// The machine, the list of entries over which it began, its events, and the caller that asks.
-#[derive(Drop)]
-pub(crate) struct Book {
-    core: Core,
-    opening: Ledger,
-    users: Users,
-    events: Vec<Happened>,
+/// The database, and the caller that asks.
+pub(crate) struct Book<D: Disk> {
+    database: Database<D>,
     caller: u32,
 }
 
-impl Model for Book {
+impl<D: Disk> Model for Book<D> {
     ghost use Rattle.std.specs.Coded.{codes};
     ghost use Rattle.cfg_tree.specs.Statements.{statements_code};
     ghost use Rattle.service.specs.Log.{Log, IsLog};
 
-    ghost Value = { Log };
+    ghost Value = { Log D };
 
     ghost coded = { Prim.hlevel (codes, statements_code) };
 
-    ghost view = { λ b. record { kept = b.opening; users = b.users; events = b.events.items; caller = b.caller } };
+    ghost view = { λ b. record { database = b.database; caller = b.caller } };
 
-    ghost invariant = { λ b. IsLog b.core
-        (record { kept = b.opening; users = b.users; events = b.events.items; caller = b.caller }) };
+    ghost invariant = { λ b. IsLog (record { database = b.database; caller = b.caller }) };
 }
 
-impl Door for Book {
+/// What the database answered, as a door gives it.
+fn given(answered: Answered) -> Given0
+    ensures { result ≡ given_of answered }
+{
+    match answered {
+        Answered::Kept { place, reply } => Given0::Kept { place, reply },
+        Answered::NoMemory => Given0::NoMemory,
+    }
+}
+
+impl<D: Disk> Door for Book<D> {
     ghost names = { NamesIn };
 
-    ghost follows = { FollowsIn };
+    ghost follows = { FollowsIn D.tells D.faults };
 
     fn ask<R: Wait>(&mut self, _rt: &R, moment: Moment, command: Command) -> Given0 {
-        let moment = moment.later(self.core.greatest());
-        ask(
-            &mut self.core,
-            &mut self.events,
-            self.caller,
-            moment,
-            command,
-        )
+        given(self.database.step(self.caller, moment, command))
     }
 
-    ghost named = { names_given };
+    ghost named = { names_given D.tells D.faults };
 
-    ghost keeps = { keeps_names };
+    ghost keeps = { keeps_names D.tells D.faults };
 }
 
-impl Book {
-    /// The service over the factory commit, for its users, of whom the first asks.
-    pub(crate) fn new(alloc: Global, users: Users) -> Result<Book, NoMemory>
-        requires { (0 < length users) × (length users ≤ 64) }
-        ensures { IfOk result (λ log. log ≡ record { kept = factory; users = users; events = []; caller = 1 }) }
+impl<D: Disk> Book<D> {
+    /// Opens the database on two disks for these users, of whom the first asks.
+    pub(crate) fn start(
+        alloc: Global,
+        a: D,
+        b: D,
+        users: Users,
+        limits: Limits,
+    ) -> Result<Book<D>, StartFault<D>>
+        requires { 0 < length users }
+        ensures begun { IfOk result (λ log. IsBegun D.tells D.faults a b users limits.journal log.database) }
+        ensures found { IfOk result (λ log. IsFound D.tells D.history a b (disk_a log.database.journal)
+            (disk_b log.database.journal) log.database.opening) }
+        ensures err { IfErr result (λ fault.
+            IsNotFound D.tells D.history D.faults a b fault.why fault.a fault.b) }
     {
-        let core = Core::new(alloc, Ledger::factory(alloc)?, &users)?;
-        Ok(Book {
-            core,
-            opening: Ledger::factory(alloc)?,
-            users,
-            events: Vec::new(alloc),
-            caller: 1,
-        })
+        match Database::start(alloc, a, b, users, limits) {
+            Ok(database) => Ok(Book {
+                database,
+                caller: 1,
+            }),
+            Err(fault) => Err(fault),
+        }
     }
 
     /// Hands the turn to another caller.
     pub(crate) fn hand_to(&mut self, caller: u32)
-        requires { (0 < caller) × (caller ≤ length self.old.users) }
+        requires { (0 < caller) × (caller ≤ length self.old.database.users) }
         ensures { self.new ≡ record self.old { caller = caller } }
     {
         self.caller = caller;
     }
 
-    /// All that happened.
-    pub(crate) fn into_history(self) -> History
-        ensures opening { result.opening ≡ Some self.kept }
-        ensures users { result.users ≡ self.users }
-        ensures events { result.events.items ≡ self.events }
-        ensures legal { IsLegal (opened self) self.events }
-        ensures in_memory { AllByRecursion IsInMemory self.events }
-        ensures made { result.made ≡ record { a = 0; b = 0 } }
+    /// Ends the database: what is in flight is settled, and all is handed back.
+    pub(crate) fn close(self) -> ClosedBook<D>
+        ensures leads { Leads (opened self.database) self.database.events self.database.state }
+        ensures closed { IsClosed D.tells D.history D.faults self.database result.history result.fault
+            result.a result.b }
     {
         let Book {
-            core: _,
-            opening,
-            users,
-            events,
+            database,
             caller: _,
         } = self;
-        History {
-            opening: Some(opening),
-            users,
-            made: NO_CALLS,
-            events,
-        }
+        database.close()
     }
 }

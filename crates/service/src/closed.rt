@@ -1,12 +1,13 @@
 ghost use Rattle.std.specs.Prelude.{◌≡◌, [], None};
 ghost use Rattle.service.specs.Run.{IsEmpty};
 
-use crate::asking::NO_CALLS;
-use cfg_base::Users;
+use cfg_base::{Calls, Users};
 use modes::StartWhy0;
 use session_history::History;
 use session_shell::{End, TurnList};
 use std::alloc::Global;
+
+pub(crate) const NO_CALLS: Calls = Calls { a: 0, b: 0 };
 
 /// What tells when another tick is due, and the time of it.
 #[derive(Drop)]

@@ -10,7 +10,8 @@ ghost use Rattle.config_core.specs.declared.reply.Reply.TheVariants.{Entered, Lo
 ghost use Rattle.commit_ledger.specs.Kept.{factory};
 ghost use Rattle.service.specs.Generating.{Generates, IsCounted, IsDone, IsGenerated, IsMadeFor};
 
-use crate::asking::{NO_CALLS, take};
+use crate::closed::NO_CALLS;
+use crate::taking::take;
 use cfg_base::{Bytes, NoMemory, Users, Word};
 use commands::{Command, LoadWay, Mode};
 use commit_check::{accepted_configurations_fit, check};

@@ -1,19 +1,20 @@
-//! The configuration service: its top call, which serves the sessions of its ends.
+//! The configuration service: its top call, which serves the sessions of its ends over the list of commits on two disks.
 //!
-//! Guarantees: `run` serves its sessions as the machine of one event at a time would, and hands everything back
-//! (specs/Run.antt).
-//! Leaves to others: what the words ask (`command_line`), what the machine does (`config_core`), what a session is (`session_shell`), what a history says
-//! (`session_history`), and the program round it (`confd`).
+//! Guarantees: `run` serves its sessions as the machine of one event at a time would, keeps what they commit on the disks,
+//! through a crash at any moment, and hands everything back (specs/Serving.antt).
+//! Leaves to others: what the words ask (`command_line`), what the machine does (`config_core`), how its entries are kept
+//! (`config_db`), what a session is (`session_shell`), what a history says (`session_history`), and the program round it
+//! (`confd`).
 #![tactic(auto)]
 
 mod alone;
-mod asking;
 mod book;
 mod closed;
 mod generating;
 mod laws;
 mod served;
 mod serving;
+mod taking;
 
 pub use closed::{Closed, Ticker};
 pub use laws::sessions_have_one_text;

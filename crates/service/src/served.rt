@@ -1,28 +1,24 @@
 //! Sessions served one after another, as callers 1, 2 and so on.
 
-ghost use Rattle.std.specs.Prelude.{◌≡◌, ◌≤◌, ◌<◌, ◌+◌, ◌==◌, [], ℕ, List, length, if◌then◌else◌, IfOk, vec_capacity};
-ghost use Rattle.commit_ledger.specs.Kept.{factory};
+ghost use Rattle.std.specs.Prelude.{◌≡◌, ◌≤◌, ◌<◌, ◌+◌, ◌==◌, [], ℕ, List, length, if◌then◌else◌};
+ghost use Rattle.std.specs.Prelude.{IfOk, vec_capacity};
+ghost use Rattle.config_db.specs.View.{DatabaseView};
 ghost use Rattle.session_shell.specs.declared.end.End.{End as EndOf};
 ghost use Rattle.service.specs.Run.{status_of, users_of};
-ghost use Rattle.service.specs.Served.{AreServed, AreUnderway, Serves};
+ghost use Rattle.service.specs.Served.{AreServed, AreUnderway, ServesOne};
 
 use crate::book::Book;
 use cfg_base::{Limits, NoMemory, Users};
+use disk_model::Disk;
 use io_edge::{Clock, Sink, Source};
 use session_shell::{End, Ended, How, NoSession, Session, TurnList};
 use std::alloc::Global;
 use std::sync::Wait;
 
-/// The machine with its history, and the lists of turns: the room of a run's answer, taken before a session begins.
-pub(crate) struct Room {
-    pub book: Book,
-    pub lists: Vec<TurnList>,
-}
-
 /// Sessions that are served one after another: the ends that wait and behind them those of the sessions that were served, their
 /// turns, and the status of the first one that didn't end clean.
-pub(crate) struct Served<S, K, C> {
-    pub book: Book,
+pub(crate) struct Served<S, K, C, D: Disk> {
+    pub book: Book<D>,
     pub ends: Vec<End<S, K, C>>,
     pub lists: Vec<TurnList>,
     pub status: u8,
@@ -40,28 +36,24 @@ pub(crate) fn status_of(how: How) -> u8
     }
 }
 
-/// The room for as many sessions as there are users.
-pub(crate) fn prepare(alloc: Global, users: Users) -> Result<Room, NoMemory>
-    requires { (0 < length users) × (length users ≤ 64) }
-    ensures book { IfOk result (λ room. room.book ≡ record { kept = factory; users = users; events = []; caller = 1 }) }
-    ensures lists { IfOk result (λ room. (room.lists.items ≡ []) × (vec_capacity room.lists ≡ length users)) }
+/// The room of a run's answer: for as many lists of turns as there are users.
+pub(crate) fn room(alloc: Global, users: &Users) -> Result<Vec<TurnList>, NoMemory>
+    ensures { IfOk result (λ lists. (lists.items ≡ []) × (vec_capacity lists ≡ length users.now)) }
 {
-    let lists = Vec::with_capacity(alloc, users.as_slice().len())?;
-    let book = Book::new(alloc, users)?;
-    Ok(Room { book, lists })
+    Vec::with_capacity(alloc, users.as_slice().len()).map_err(|_| NoMemory)
 }
 
 /// Serves the session of a caller.
-fn serve_one<R: Wait, S: Source, K: Sink, C: Clock>(
+fn serve_one<R: Wait, S: Source, K: Sink, C: Clock, D: Disk>(
     rt: &R,
     alloc: Global,
-    book: &mut Book,
+    book: &mut Book<D>,
     number: u32,
     end: End<S, K, C>,
     limits: Limits,
 ) -> Ended<S, K, C>
-    requires { (0 < number) × (number ≤ length book.old.users) }
-    ensures { Serves S.left S.faults K.held K.faults C.coming number limits.input book.old book.new
+    requires { (0 < number) × (number ≤ length book.old.database.users) }
+    ensures { ServesOne S.left S.faults K.held K.faults C.coming D.tells D.faults number limits.input book.old book.new
         (record { how = result.how; old = end; new = result.end; turns = result.turns }) }
 {
     book.hand_to(number);
@@ -84,22 +76,22 @@ fn first_status(status: u8, how: How) -> u8
 }
 
 /// Serves the session of the caller of that number, whose end waits first.
-fn serve_next<R: Wait, S: Source, K: Sink, C: Clock>(
+fn serve_next<R: Wait, S: Source, K: Sink, C: Clock, D: Disk>(
     rt: &R,
     alloc: Global,
-    served: &mut Served<S, K, C>,
+    served: &mut Served<S, K, C, D>,
     number: u32,
     limits: Limits,
 )
-    requires number { (0 < number) × (number ≤ length served.old.book.users) }
+    requires number { (0 < number) × (number ≤ length served.old.book.database.users) }
     requires ends { 0 < length served.old.ends.items }
     requires room { length served.old.lists.items < vec_capacity served.old.lists }
-    ensures served { (ends : List (EndOf S K C)) (count : ℕ) → number ≡ count + 1 → count < length ends
-        → AreUnderway S.left S.faults K.held K.faults C.coming limits.input ends count served.old.ends.items
-        served.old.lists.items served.old.book served.old.status
-        → AreUnderway S.left S.faults K.held K.faults C.coming limits.input ends (count + 1) served.new.ends.items
-        served.new.lists.items served.new.book served.new.status }
-    ensures users { served.new.book.users ≡ served.old.book.users }
+    ensures served { (first : DatabaseView D) (ends : List (EndOf S K C)) (count : ℕ) → number ≡ count + 1
+        → count < length ends → AreUnderway S.left S.faults K.held K.faults C.coming D.tells D.faults limits.input first ends
+        count served.old.ends.items served.old.lists.items served.old.book.database served.old.status
+        → AreUnderway S.left S.faults K.held K.faults C.coming D.tells D.faults limits.input first ends
+        (count + 1) served.new.ends.items served.new.lists.items served.new.book.database served.new.status }
+    ensures users { served.new.book.database.users ≡ served.old.book.database.users }
     ensures ends { length served.new.ends.items ≡ length served.old.ends.items }
     ensures lists { length served.new.lists.items ≡ length served.old.lists.items + 1 }
     ensures room { vec_capacity served.new.lists ≡ vec_capacity served.old.lists }
@@ -116,21 +108,22 @@ fn serve_next<R: Wait, S: Source, K: Sink, C: Clock>(
     served.status = first_status(served.status, how);
 }
 
-/// Serves the sessions of all ends, one after another.
-pub(crate) fn serve_all<R: Wait, S: Source, K: Sink, C: Clock>(
+/// Serves the sessions of all ends, one after another, over a database in which nothing happened yet.
+pub(crate) fn serve_all<R: Wait, S: Source, K: Sink, C: Clock, D: Disk>(
     rt: &R,
     alloc: Global,
-    room: Room,
+    book: Book<D>,
+    lists: Vec<TurnList>,
     ends: Vec<End<S, K, C>>,
     limits: Limits,
-) -> Served<S, K, C>
-    requires book { room.book ≡ record { kept = factory; users = users_of ends.items; events = []; caller = 1 } }
-    requires lists { (room.lists.items ≡ []) × (vec_capacity room.lists ≡ length ends.items) }
+) -> Served<S, K, C, D>
+    requires fresh { book.database.events ≡ [] }
+    requires users { book.database.users ≡ users_of ends.items }
+    requires lists { (lists.items ≡ []) × (vec_capacity lists ≡ length ends.items) }
     requires few { length ends.items ≤ 64 }
-    ensures { AreServed S.left S.faults K.held K.faults C.coming limits.input (users_of ends.items) ends.items
-        result.ends.items result.lists.items result.book result.status }
+    ensures { AreServed S.left S.faults K.held K.faults C.coming D.tells D.faults limits.input book.database ends.items
+        result.ends.items result.lists.items result.book.database result.status }
 {
-    let Room { book, lists } = room;
     let count = ends.len() as u32;
     let mut served = Served {
         book,

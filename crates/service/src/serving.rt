@@ -1,28 +1,32 @@
 //! The top call: it does what its words ask, and hands everything back.
 
 ghost use Rattle.std.specs.Prelude.{◌≡◌, ◌≢◌, ◌⊎◌, ◌↔◌, ◌<◌, ◌≤◌, [], length, vec_capacity};
-ghost use Rattle.commit_ledger.specs.Kept.{factory};
 ghost use Rattle.command_line.specs.Asked.{Asks};
 ghost use Rattle.command_line.specs.declared.asked.Asked.{Asked};
 ghost use Rattle.command_line.specs.declared.asked.RunMode.TheVariants.{Serve};
-ghost use Rattle.modes.specs.declared.did.StartWhy0.TheVariants.{None as NoWhy};
+ghost use Rattle.modes.specs.declared.did.StartWhy0.TheVariants.{None as NoWhy, Why};
+ghost use Rattle.modes.specs.Modes.{status_of as status_of_start};
+ghost use Rattle.stored_ledger.specs.Starting.{IsNotFound};
 ghost use Rattle.service.specs.Modes.{IsUndone, RunsMode};
-ghost use Rattle.service.specs.Run.{AreEnds, BeginsWithDisks, EachEnd, IsAsking, IsFaultless, IsIdle, IsServed, users_of};
+ghost use Rattle.service.specs.Run.{AreEnds, BeginsWithDisks, EachEnd, IsAsking, IsFaultless, IsIdle, users_of};
+ghost use Rattle.service.specs.Served.{IsServedOver, status_over};
+ghost use Rattle.service.specs.Serving.{AreSound, IsNotStarted, Serves};
 
 use crate::alone::{run_check, run_gen, run_init};
+use crate::book::Book;
 use crate::closed::{Closed, Ticker, no_history};
-use crate::served::{Room, Served, prepare, serve_all};
+use crate::served::{Served, room, serve_all};
 use cfg_base::{Limits, NoMemory, Words};
 use command_line::{Asked, RunMode, Usage, read_words, words_ask_one_thing};
-use config_core::active_configuration_stays_accepted;
+use config_db::ClosedBook;
 use disk_model::Disk;
 use io_edge::{Beat, Clock, Sink, Source};
 use modes::StartWhy0;
-use session_history::histories_stay_accepted;
-use session_shell::End;
+use session_shell::{End, TurnList};
 use std::alloc::Global;
 use std::sync::Wait;
 use std::thread::Threads;
+use stored_ledger::{StartFault, StartWhy, starts_have_one_cause};
 
 /// A run that was not begun.
 fn idle<S, K, C, B, D>(
@@ -51,48 +55,126 @@ fn idle<S, K, C, B, D>(
     }
 }
 
-/// Serves the sessions of ends for which there is room.
-fn serve<R: Wait, S: Source, K: Sink, C: Clock, B, D>(
-    rt: &R,
-    alloc: Global,
-    room: Room,
-    ends: Vec<End<S, K, C>>,
-    limits: Limits,
-    ticker: Ticker<B, C>,
-    disk_a: D,
-    disk_b: D,
-) -> Closed<S, K, C, B, D>
-    requires book { room.book ≡ record { kept = factory; users = users_of ends.items; events = []; caller = 1 } }
-    requires lists { (room.lists.items ≡ []) × (vec_capacity room.lists ≡ length ends.items) }
-    requires few { length ends.items ≤ 64 }
-    ensures served { IsServed S.left S.faults K.held K.faults C.coming limits.input ends.items result.ends.items
-        result.turns.items result.history result.status }
-    ensures why { result.why ≡ NoWhy }
-    ensures ticker { result.ticker ≡ ticker }
-    ensures disks { (result.disk_a ≡ disk_a) × (result.disk_b ≡ disk_b) }
+/// The status of a refused start.
+fn status_of_start(why: StartWhy) -> u8
+    ensures { result ≡ status_of_start why }
 {
-    active_configuration_stays_accepted();
-    histories_stay_accepted();
-    let Served {
-        book,
-        ends,
-        lists,
-        status,
-    } = serve_all(rt, alloc, room, ends, limits);
+    match why {
+        StartWhy::NotAJournal => 2,
+        StartWhy::Damaged { .. } => 3,
+        StartWhy::DiskFault => 4,
+        StartWhy::Exists => 8,
+        StartWhy::NoMemory => 9,
+        StartWhy::BadRecord { .. } => 10,
+    }
+}
+
+/// A run whose start was refused.
+fn refused<S, K, C, B, D>(
+    alloc: Global,
+    fault: StartFault<D>,
+    ends: Vec<End<S, K, C>>,
+    ticker: Ticker<B, C>,
+) -> Closed<S, K, C, B, D>
+    ensures status { result.status ≡ status_of_start fault.why }
+    ensures idle { IsIdle ends.items result.ends.items result.turns.items result.history }
+    ensures why { result.why ≡ Why fault.why }
+    ensures ticker { result.ticker ≡ ticker }
+    ensures disks { (result.disk_a ≡ fault.a) × (result.disk_b ≡ fault.b) }
+{
+    let StartFault {
+        why,
+        a: disk_a,
+        b: disk_b,
+    } = fault;
     Closed {
-        status,
-        why: StartWhy0::None,
+        status: status_of_start(why),
+        why: StartWhy0::Why(why),
         ends,
         ticker,
-        turns: lists,
-        history: book.into_history(),
+        turns: Vec::new(alloc),
+        history: no_history(alloc),
         disk_a,
         disk_b,
     }
 }
 
-/// Serves sessions as the words ask, where there is memory for it.
-fn serve_asked<R: Wait, S: Source, K: Sink, C: Clock, B, D>(
+/// The status of a run whose sessions came to one, by whether an entry is in flight at its end.
+fn status_over(fault: bool, status: u8) -> u8
+    ensures { result ≡ status_over fault status }
+{
+    if fault { 4 } else { status }
+}
+
+/// Serves the sessions of ends for which there is room, over a database in which nothing happened yet, and closes it.
+fn serve<R: Wait, S: Source, K: Sink, C: Clock, B, D: Disk>(
+    rt: &R,
+    alloc: Global,
+    book: Book<D>,
+    lists: Vec<TurnList>,
+    ends: Vec<End<S, K, C>>,
+    limits: Limits,
+    ticker: Ticker<B, C>,
+) -> Closed<S, K, C, B, D>
+    requires fresh { book.database.events ≡ [] }
+    requires users { book.database.users ≡ users_of ends.items }
+    requires lists { (lists.items ≡ []) × (vec_capacity lists ≡ length ends.items) }
+    requires few { length ends.items ≤ 64 }
+    ensures served { IsServedOver S.left S.faults K.held K.faults C.coming D.tells D.history D.faults limits.input
+        ends.items book.database result }
+    ensures ticker { result.ticker ≡ ticker }
+{
+    let Served {
+        book,
+        ends,
+        lists,
+        status,
+    } = serve_all(rt, alloc, book, lists, ends, limits);
+    let ClosedBook {
+        history,
+        fault,
+        a,
+        b,
+    } = book.close();
+    Closed {
+        status: status_over(fault, status),
+        why: StartWhy0::None,
+        ends,
+        ticker,
+        turns: lists,
+        history,
+        disk_a: a,
+        disk_b: b,
+    }
+}
+
+/// Opens the database, and serves the sessions over it.
+fn serve_from<R: Wait, S: Source, K: Sink, C: Clock, B, D: Disk>(
+    rt: &R,
+    alloc: Global,
+    lists: Vec<TurnList>,
+    asked: Asked,
+    ends: Vec<End<S, K, C>>,
+    ticker: Ticker<B, C>,
+    disk_a: D,
+    disk_b: D,
+) -> Closed<S, K, C, B, D>
+    requires users { users_of ends.items ≡ asked.users }
+    requires some { (0 < length asked.users) × (length asked.users ≤ 64) }
+    requires lists { (lists.items ≡ []) × (vec_capacity lists ≡ length asked.users) }
+    ensures served { Serves S.left S.faults K.held K.faults C.coming D.tells D.history D.faults asked.limits.input
+        ends.items disk_a disk_b result }
+    ensures ticker { result.ticker ≡ ticker }
+{
+    let limits = asked.limits;
+    match Book::start(alloc, disk_a, disk_b, asked.users, limits) {
+        Ok(book) => serve(rt, alloc, book, lists, ends, limits, ticker),
+        Err(fault) => refused(alloc, fault, ends, ticker),
+    }
+}
+
+/// Serves sessions as the words ask, where there is memory for the answer. No disk is called before that is known.
+fn serve_asked<R: Wait, S: Source, K: Sink, C: Clock, B, D: Disk>(
     rt: &R,
     alloc: Global,
     asked: Asked,
@@ -103,22 +185,19 @@ fn serve_asked<R: Wait, S: Source, K: Sink, C: Clock, B, D>(
 ) -> Closed<S, K, C, B, D>
     requires users { users_of ends.items ≡ asked.users }
     requires some { (0 < length asked.users) × (length asked.users ≤ 64) }
-    ensures served { ((result.status ≡ 9) × IsIdle ends.items result.ends.items result.turns.items result.history)
-        ⊎ IsServed S.left S.faults K.held K.faults C.coming asked.limits.input ends.items result.ends.items
-        result.turns.items result.history result.status }
-    ensures why { result.why ≡ NoWhy }
+    ensures served { Serves S.left S.faults K.held K.faults C.coming D.tells D.history D.faults asked.limits.input
+        ends.items disk_a disk_b result }
     ensures ticker { result.ticker ≡ ticker }
-    ensures disks { (result.disk_a ≡ disk_a) × (result.disk_b ≡ disk_b) }
 {
-    let limits = asked.limits;
-    match prepare(alloc, asked.users) {
-        Ok(room) => serve(rt, alloc, room, ends, limits, ticker, disk_a, disk_b),
+    match room(alloc, &asked.users) {
+        Ok(lists) => serve_from(rt, alloc, lists, asked, ends, ticker, disk_a, disk_b),
         Err(NoMemory) => idle(alloc, 9, ends, ticker, disk_a, disk_b),
     }
 }
 
-/// Does what the words ask, with the ends that they ask for. Mode serve serves the sessions one after another, as callers 1, 2
-/// and so on; each other mode has one end, whose source isn't read. Where memory is wanting all parts come back.
+/// Does what the words ask, with the ends that they ask for. Mode serve opens the list of commits on the two disks, serves the
+/// sessions one after another, as callers 1, 2 and so on, and closes the list; each other mode has one end, whose source isn't
+/// read. Where memory is wanting all parts come back.
 pub fn run<R, S, K, C, B, D>(
     rt: &R,
     alloc: Global,
@@ -139,11 +218,12 @@ where
     ensures usage { (result.status ≡ 1) ↔ ((result.status ≢ 9) × (IsAsking words.now → ⊥)) }
     ensures refused { (IsAsking words.now → ⊥) → IsIdle ends.items result.ends.items result.turns.items result.history }
     ensures served { (asked : Asked) → Asks words.now asked → asked.mode ≡ Serve
-        → ((result.status ≡ 9) × IsIdle ends.items result.ends.items result.turns.items result.history)
-        ⊎ IsServed S.left S.faults K.held K.faults C.coming asked.limits.input ends.items result.ends.items
-        result.turns.items result.history result.status }
-    // Where no source and no sink has a fault and each input is told and within the limit, all sessions end clean.
+        → Serves S.left S.faults K.held K.faults C.coming D.tells D.history D.faults asked.limits.input
+        ends.items disk_a disk_b result }
+    // Where the disks spell a list, no disk, no source and no sink has a fault, and each input is told and within the limit, all
+    // sessions end clean.
     ensures complete { (asked : Asked) → Asks words.now asked → asked.mode ≡ Serve
+        → AreSound D.tells D.history D.faults disk_a disk_b result.disk_a result.disk_b
         → EachEnd (IsFaultless S.left S.faults K.faults asked.limits.input) ends.items result.ends.items
         → (result.status ≡ 0) ⊎ (result.status ≡ 9) }
     ensures modes { (asked : Asked) → Asks words.now asked → asked.mode ≢ Serve
@@ -155,6 +235,7 @@ where
         → (result.disk_a ≡ disk_a) × (result.disk_b ≡ disk_b) × (result.why ≡ NoWhy) }
 {
     words_ask_one_thing();
+    starts_have_one_cause();
     let asked = match read_words(alloc, words) {
         Ok(asked) => asked,
         Err(Usage::Refused) => return idle(alloc, 1, ends, ticker, disk_a, disk_b),

@@ -1,4 +1,4 @@
-use Rattle.std.proofs.Common.{◌≡◌, ◌++◌, ◌∷◌, [], remove, refl, sym, subst, ap, ◌∙◌}
+use Rattle.std.proofs.Common.{◌++◌, ◌∷◌, [], remove, refl, subst, ap, ◌∙◌}
 use Rattle.cfg_values.specs.Number.{IsNumberWithin}
 use Rattle.command_line.specs.declared.asked.RunMode.TheVariants.{Gen}
 use Rattle.service.proofs.ModeLemmas.{gen_ran, ran_mode, the_one}

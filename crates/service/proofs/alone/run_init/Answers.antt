@@ -1,4 +1,4 @@
-use Rattle.std.proofs.Common.{◌≡◌, ◌++◌, ◌∷◌, [], remove, refl, sym, subst, ap, ◌∙◌}
+use Rattle.std.proofs.Common.{◌++◌, ◌∷◌, [], remove, refl, sym, subst, ap, ◌∙◌}
 use Rattle.command_line.specs.declared.asked.RunMode.TheVariants.{Init}
 use Rattle.modes.specs.Modes.{IsInit}
 use Rattle.service.specs.Run.{IsEmpty}

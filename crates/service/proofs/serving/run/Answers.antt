@@ -1,7 +1,8 @@
-use Rattle.std.proofs.Common.{◌≡◌, ◌∙◌, sym, ap, inl, inr, refl, subst, arith}
+use Rattle.std.proofs.Common.{◌∙◌, sym, ap, inr, arith}
 use Rattle.command_line.specs.declared.asked.Asked.{Asked}
-use Rattle.command_line.specs.declared.asked.RunMode.TheVariants.{Init, Serve, Check, Gen}
-use Rattle.service.proofs.ModeLemmas.{check_apart, gen_apart, gen_leaves, init_apart, mode_is_not_1, moded, not_served, one_end, place_of, served_complete, served_is_not_1, served_so, some_user}
+use Rattle.command_line.specs.declared.asked.RunMode.TheVariants.{Init, Check, Gen}
+use Rattle.service.proofs.ModeLemmas.{check_apart, check_is_not_gen, gen_apart, gen_leaves, init_apart, init_is_not_gen, mode_is_not_1, moded, not_served, one_end, place_of, some_user}
+use Rattle.service.proofs.ServingLemmas.{serves_complete, serves_is_not_1, serves_so}
 use Rattle.service.proofs.RunLemmas.{few_users}
 use Rattle.service.proofs.serving.run.Goals as goal
 
@@ -13,7 +14,7 @@ serve_asked-requires-clause-some g c = few_users c.args.words.now c.in-Ok.asked 
 
 pub returns-in-Serve-clause-usage : goal.returns-in-Serve-clause-usage
 returns-in-Serve-clause-usage g c = (
-  λ one. absurd (served_is_not_1 g.S.Source.left g.S.Source.faults g.K.Sink.held g.K.Sink.faults g.C.Clock.coming c.in-Ok.asked c.args.ends.items c.serve_asked.result.ends.items c.serve_asked.result.turns.items c.serve_asked.result.history c.serve_asked.result.status c.serve_asked.ensures.served one),
+  λ one. absurd (serves_is_not_1 g.S.Source.left g.S.Source.faults g.K.Sink.held g.K.Sink.faults g.C.Clock.coming g.D.Disk.tells g.D.Disk.history g.D.Disk.faults c.in-Ok.asked.limits.input c.args.ends.items c.args.disk_a c.args.disk_b c.serve_asked.result c.serve_asked.ensures.served one),
   λ both. absurd (both.1 (c.in-Ok.asked, c.in-Ok.ensures.ok)),
 )
 
@@ -22,21 +23,21 @@ returns-in-Serve-clause-refused g c = λ not. absurd (not (c.in-Ok.asked, c.in-O
 
 pub returns-in-Serve-clause-served : goal.returns-in-Serve-clause-served
 returns-in-Serve-clause-served g c = λ asked asks serve.
-    served_so g.S.Source.left g.S.Source.faults g.K.Sink.held g.K.Sink.faults g.C.Clock.coming c.in-Ok.asked asked c.args.ends.items c.serve_asked.result.ends.items c.serve_asked.result.turns.items c.serve_asked.result.history c.serve_asked.result.status
+    serves_so g.S.Source.left g.S.Source.faults g.K.Sink.held g.K.Sink.faults g.C.Clock.coming g.D.Disk.tells g.D.Disk.history g.D.Disk.faults c.in-Ok.asked asked c.args.ends.items c.args.disk_a c.args.disk_b c.serve_asked.result
     (c.words_ask_one_thing.ensures c.args.words.now c.in-Ok.asked asked c.in-Ok.ensures.ok asks) c.serve_asked.ensures.served
 
 pub returns-in-Serve-clause-complete : goal.returns-in-Serve-clause-complete
-returns-in-Serve-clause-complete g c = λ asked asks serve each.
-    served_complete g.S.Source.left g.S.Source.faults g.K.Sink.held g.K.Sink.faults g.C.Clock.coming asked c.args.ends.items c.serve_asked.result.ends.items c.serve_asked.result.turns.items c.serve_asked.result.history c.serve_asked.result.status
-    (served_so g.S.Source.left g.S.Source.faults g.K.Sink.held g.K.Sink.faults g.C.Clock.coming c.in-Ok.asked asked c.args.ends.items c.serve_asked.result.ends.items c.serve_asked.result.turns.items c.serve_asked.result.history c.serve_asked.result.status
-    (c.words_ask_one_thing.ensures c.args.words.now c.in-Ok.asked asked c.in-Ok.ensures.ok asks) c.serve_asked.ensures.served) each
+returns-in-Serve-clause-complete g c = λ asked asks serve sound each.
+    serves_complete g.S.Source.left g.S.Source.faults g.K.Sink.held g.K.Sink.faults g.C.Clock.coming g.D.Disk.tells g.D.Disk.history g.D.Disk.faults c.starts_have_one_cause.ensures.spelled asked.limits.input c.args.ends.items c.args.disk_a c.args.disk_b c.serve_asked.result
+    (serves_so g.S.Source.left g.S.Source.faults g.K.Sink.held g.K.Sink.faults g.C.Clock.coming g.D.Disk.tells g.D.Disk.history g.D.Disk.faults c.in-Ok.asked asked c.args.ends.items c.args.disk_a c.args.disk_b c.serve_asked.result
+    (c.words_ask_one_thing.ensures c.args.words.now c.in-Ok.asked asked c.in-Ok.ensures.ok asks) c.serve_asked.ensures.served) sound each
 
 pub returns-in-Serve-clause-modes : goal.returns-in-Serve-clause-modes
 returns-in-Serve-clause-modes g c = λ asked asks other.
     absurd (other (sym (ap (λ (x : Asked). x.mode) (c.words_ask_one_thing.ensures c.args.words.now c.in-Ok.asked asked c.in-Ok.ensures.ok asks)) ∙ c.in-Serve.is))
 
 pub returns-in-Serve-clause-disks : goal.returns-in-Serve-clause-disks
-returns-in-Serve-clause-disks g c = λ not. (c.serve_asked.ensures.disks.0, c.serve_asked.ensures.disks.1, c.serve_asked.ensures.why)
+returns-in-Serve-clause-disks g c = λ not. absurd (not (c.in-Ok.asked, c.in-Ok.ensures.ok, λ gen. gen_apart (sym gen ∙ c.in-Serve.is)))
 
 pub run_init-requires-clause-one : goal.run_init-requires-clause-one
 run_init-requires-clause-one g c = one_end c.args.words.now c.args.ends.items c.in-Ok.asked c.requires.ends c.in-Ok.ensures.ok (λ serve. init_apart (sym c.in-Init.is ∙ serve))
@@ -55,7 +56,7 @@ returns-in-Init-clause-served g c = λ asked asks serve.
     absurd (not_served Init c.in-Ok.asked asked init_apart (c.words_ask_one_thing.ensures c.args.words.now c.in-Ok.asked asked c.in-Ok.ensures.ok asks) c.in-Init.is serve)
 
 pub returns-in-Init-clause-complete : goal.returns-in-Init-clause-complete
-returns-in-Init-clause-complete g c = λ asked asks serve each.
+returns-in-Init-clause-complete g c = λ asked asks serve sound each.
     absurd (not_served Init c.in-Ok.asked asked init_apart (c.words_ask_one_thing.ensures c.args.words.now c.in-Ok.asked asked c.in-Ok.ensures.ok asks) c.in-Init.is serve)
 
 pub returns-in-Init-clause-modes : goal.returns-in-Init-clause-modes
@@ -64,7 +65,7 @@ returns-in-Init-clause-modes g c = λ asked asks other.
     (c.words_ask_one_thing.ensures c.args.words.now c.in-Ok.asked asked c.in-Ok.ensures.ok asks) c.run_init.ensures.ran)
 
 pub returns-in-Init-clause-disks : goal.returns-in-Init-clause-disks
-returns-in-Init-clause-disks g c = λ not. absurd (not (c.in-Ok.asked, c.in-Ok.ensures.ok, inl c.in-Init.is))
+returns-in-Init-clause-disks g c = λ not. absurd (not (c.in-Ok.asked, c.in-Ok.ensures.ok, λ gen. init_is_not_gen (sym c.in-Init.is ∙ gen)))
 
 pub run_check-requires-clause-one : goal.run_check-requires-clause-one
 run_check-requires-clause-one g c = one_end c.args.words.now c.args.ends.items c.in-Ok.asked c.requires.ends c.in-Ok.ensures.ok (λ serve. check_apart (sym c.in-Check.is ∙ serve))
@@ -83,7 +84,7 @@ returns-in-Check-clause-served g c = λ asked asks serve.
     absurd (not_served Check c.in-Ok.asked asked check_apart (c.words_ask_one_thing.ensures c.args.words.now c.in-Ok.asked asked c.in-Ok.ensures.ok asks) c.in-Check.is serve)
 
 pub returns-in-Check-clause-complete : goal.returns-in-Check-clause-complete
-returns-in-Check-clause-complete g c = λ asked asks serve each.
+returns-in-Check-clause-complete g c = λ asked asks serve sound each.
     absurd (not_served Check c.in-Ok.asked asked check_apart (c.words_ask_one_thing.ensures c.args.words.now c.in-Ok.asked asked c.in-Ok.ensures.ok asks) c.in-Check.is serve)
 
 pub returns-in-Check-clause-modes : goal.returns-in-Check-clause-modes
@@ -92,7 +93,7 @@ returns-in-Check-clause-modes g c = λ asked asks other.
     (c.words_ask_one_thing.ensures c.args.words.now c.in-Ok.asked asked c.in-Ok.ensures.ok asks) c.run_check.ensures.ran)
 
 pub returns-in-Check-clause-disks : goal.returns-in-Check-clause-disks
-returns-in-Check-clause-disks g c = λ not. absurd (not (c.in-Ok.asked, c.in-Ok.ensures.ok, inr c.in-Check.is))
+returns-in-Check-clause-disks g c = λ not. absurd (not (c.in-Ok.asked, c.in-Ok.ensures.ok, λ gen. check_is_not_gen (sym c.in-Check.is ∙ gen)))
 
 pub run_gen-requires-clause-one : goal.run_gen-requires-clause-one
 run_gen-requires-clause-one g c = one_end c.args.words.now c.args.ends.items c.in-Ok.asked c.requires.ends c.in-Ok.ensures.ok (λ serve. gen_apart (sym c.in-Gen.is ∙ serve))
@@ -117,7 +118,7 @@ returns-in-Gen-clause-served g c = λ asked asks serve.
     absurd (not_served Gen c.in-Ok.asked asked gen_apart (c.words_ask_one_thing.ensures c.args.words.now c.in-Ok.asked asked c.in-Ok.ensures.ok asks) c.in-Gen.is serve)
 
 pub returns-in-Gen-clause-complete : goal.returns-in-Gen-clause-complete
-returns-in-Gen-clause-complete g c = λ asked asks serve each.
+returns-in-Gen-clause-complete g c = λ asked asks serve sound each.
     absurd (not_served Gen c.in-Ok.asked asked gen_apart (c.words_ask_one_thing.ensures c.args.words.now c.in-Ok.asked asked c.in-Ok.ensures.ok asks) c.in-Gen.is serve)
 
 pub returns-in-Gen-clause-modes : goal.returns-in-Gen-clause-modes

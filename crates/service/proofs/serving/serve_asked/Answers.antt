@@ -1,9 +1,11 @@
-use Rattle.std.proofs.Common.{sym, ◌∙◌, arith}
-use Rattle.service.proofs.ModeLemmas.{ends_are}
+use Rattle.std.proofs.Common.{inl}
 use Rattle.service.proofs.serving.serve_asked.Goals as goal
 
-pub serve-requires-clause-lists : goal.serve-requires-clause-lists
-serve-requires-clause-lists g c = (c.in-Ok.ensures.lists.0, c.in-Ok.ensures.lists.1 ∙ sym (ends_are c.args.ends.items c.args.asked.users c.requires.users))
-
-pub serve-requires-clause-few : goal.serve-requires-clause-few
-serve-requires-clause-few g c = omega (arith, ends_are c.args.ends.items c.args.asked.users c.requires.users, c.requires.some.1)
+pub returns-in-Err-clause-served : goal.returns-in-Err-clause-served
+returns-in-Err-clause-served g c = inl (record {
+  status_is = c.idle.ensures.status;
+  idle = c.idle.ensures.idle;
+  why = c.idle.ensures.why;
+  disk_a_same = c.idle.ensures.disks.0;
+  disk_b_same = c.idle.ensures.disks.1;
+})

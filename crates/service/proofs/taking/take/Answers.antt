@@ -1,7 +1,7 @@
 use Rattle.std.proofs.Common.{◌∷◌, [], ◌++◌, ap, ◌∙◌}
-use Rattle.service.specs.Asking.{done_event}
+use Rattle.service.specs.Taking.{done_event}
 use Rattle.service.proofs.StepLemmas.{Happens-of}
-use Rattle.service.proofs.asking.take.Goals as goal
+use Rattle.service.proofs.taking.take.Goals as goal
 
 pub returns-clause-ok : goal.returns-clause-ok
 returns-clause-ok c =
