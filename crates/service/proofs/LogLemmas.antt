@@ -6,7 +6,7 @@ use Rattle.std.proofs.lemmas.List.{append-nil, length-append}
 use Rattle.std.proofs.Math.Seq.{take-append_seam}
 use Rattle.cfg_base.specs.Counts.{Rose}
 use Rattle.commands.specs.declared.command.Command.{Command}
-use Rattle.commit_journal.specs.Journal.{JournalView}
+use Rattle.commit_journal.specs.Journal.{JournalView, disk_a, disk_b}
 use Rattle.config_core.specs.declared.event.Event.{Event}
 use Rattle.config_core.specs.declared.event.Event.TheVariants.{Command as CommandOf}
 use Rattle.config_core.specs.declared.reply.Reply.{Reply}
@@ -20,6 +20,7 @@ use Rattle.config_db.specs.Disks.{FaultRose, GoesOn}
 use Rattle.config_db.specs.Moves.{Extends, HasCause, IsOf}
 use Rattle.config_db.specs.Starting.{IsBegun}
 use Rattle.config_db.specs.View.{DatabaseView, opened}
+use Rattle.config_db.proofs.FaultLemmas.{counted_more, counted_none}
 use Rattle.session_history.specs.declared.history.Happened.{Happened}
 use Rattle.session_history.specs.Events.{IsAsked, IsAt, Leads, is_command, places_from, places_of}
 use Rattle.session_history.proofs.EventLemmas.{Leads-append, at_seam, no_places, one_place, places_from-append, places_of-append}
@@ -127,10 +128,10 @@ module _ {D : Type 0} (tells : D → Bool) (faults : D → ℕ) where
 
   -- nothing happened
   pub AddsUp-none : (v : DatabaseView D) → AddsUp tells faults [] v v
-  AddsUp-none v = record { same = record { opening = refl; users = refl }; goes = goes_nowhere v.journal; causes = tt }
+  AddsUp-none v = record { same = record { opening = refl; users = refl }; goes = goes_nowhere v.journal; causes = tt; counted = counted_none faults _ _ _ _ (omega arith) (omega arith) }
 
   pub AddsUp-of : (caller moment : ℕ) (own : List Happened) (v v' : DatabaseView D) → Extends tells faults caller moment own v v' → AddsUp tells faults own v v'
-  AddsUp-of caller moment own v v' extends = record { same = extends.same; goes = extends.goes; causes = extends.causes }
+  AddsUp-of caller moment own v v' extends = record { same = extends.same; goes = extends.goes; causes = extends.causes; counted = extends.counted }
 
   -- events, and then more
   pub AddsUp-then : (own more : List Happened) (u v w : DatabaseView D) → AddsUp tells faults own u v → AddsUp tells faults more v w → AddsUp tells faults (own ++ more) u w
@@ -140,6 +141,7 @@ module _ {D : Type 0} (tells : D → Bool) (faults : D → ℕ) where
     causes = All-append (HasCause faults u.journal w.journal) own more
         (All-weaker (HasCause faults u.journal v.journal) (HasCause faults u.journal w.journal) own (λ e cause is. rose_first u.journal v.journal w.journal (cause is) next.goes) first.causes)
         (All-weaker (HasCause faults v.journal w.journal) (HasCause faults u.journal w.journal) more (λ e cause is. rose_last u.journal v.journal w.journal first.goes next.goes (cause is)) next.causes);
+    counted = counted_more faults own more (disk_a u.journal) (disk_b u.journal) (disk_a v.journal) (disk_b v.journal) (disk_a w.journal) (disk_b w.journal) next.goes.faults_a next.goes.faults_b first.counted next.counted;
   }
 
   -- the log after one ask

@@ -1,5 +1,5 @@
 -- A run of mode serve, put together from the start, the sessions and the closing.
-use Rattle.std.proofs.Common.{◌≡◌, ◌⊎◌, ◌<◌, ◌≤◌, ◌+◌, ℕ, Bool, true, false, IsTrue, is_some, List, ◌++◌, length, map, refl, sym, ap, subst, ◌∙◌, arith, Option, Some, slice_get, inl, inr}
+use Rattle.std.proofs.Common.{◌≡◌, ◌⊎◌, ◌<◌, ◌≤◌, ◌+◌, ℕ, Bool, true, false, IsTrue, is_some, List, [], ◌++◌, length, map, refl, sym, ap, subst, ◌∙◌, arith, Option, Some, slice_get, inl, inr}
 use Rattle.std.specs.List.{AllByRecursion}
 use Rattle.std.proofs.lemmas.List.{length-map}
 use Rattle.command_line.specs.declared.asked.Asked.{Asked}
@@ -9,10 +9,12 @@ use Rattle.config_core.specs.declared.event.Outcome.TheVariants.{Fault}
 use Rattle.config_core.specs.State.{State, opening_of}
 use Rattle.config_db.specs.Closing.{IsHandedBack, SettlesLast}
 use Rattle.config_db.specs.Crash.{IsCrashSafe}
+use Rattle.config_db.specs.Faults.{AreCounted}
 use Rattle.config_db.specs.Moves.{HasCause}
 use Rattle.config_db.specs.Numbers.{AreRising, calls_of, no_calls}
 use Rattle.config_db.specs.Starting.{IsBegun}
 use Rattle.config_db.specs.View.{DatabaseView, opened}
+use Rattle.config_db.proofs.FaultLemmas.{counted_more, counted_none}
 use Rattle.disk_model.specs.Disk.{History as DiskHistory}
 use Rattle.modes.specs.Modes.{status_of as status_of_start}
 use Rattle.session_history.specs.declared.history.Happened.{Happened}
@@ -162,6 +164,14 @@ module _ {S K C B D : Type 0} (left : S → Option (List ℕ)) (source_faults : 
     up_to : (m n : D) → DiskRose faults m n (disk_a last.journal) (disk_b last.journal) → DiskRose faults m n closed.disk_a closed.disk_b
     up_to m n rose = subst (λ x. DiskRose faults m n x closed.disk_b) (sym handed.disk_of_a) (subst (λ x. DiskRose faults m n (disk_a last.journal) x) (sym handed.disk_of_b) rose)
 
+    -- no more events end with a fault than the counts rose by, from the disks that the start was handed on
+    counted : AreCounted faults closed.history.events.items a b closed.disk_a closed.disk_b
+    counted = subst (λ l. AreCounted faults l a b closed.disk_a closed.disk_b) (sym events_are)
+        (subst (λ x. AreCounted faults (v.events ++ settles.own) a b x closed.disk_b) (sym handed.disk_of_a)
+        (subst (λ x. AreCounted faults (v.events ++ settles.own) a b (disk_a last.journal) x) (sym handed.disk_of_b)
+        (counted_more faults [] (v.events ++ settles.own) a b (disk_a first.journal) (disk_b first.journal) (disk_a last.journal) (disk_b last.journal) whole.goes.faults_a whole.goes.faults_b
+        (counted_none faults a b (disk_a first.journal) (disk_b first.journal) begun.opened.later_a begun.opened.later_b) whole.counted)))
+
     causes : HaveCauses faults a b closed.disk_a closed.disk_b closed.history.events.items
     causes = record {
       later_a = omega (arith, since_a.0, since_a.1);
@@ -169,6 +179,7 @@ module _ {S K C B D : Type 0} (left : S → Option (List ℕ)) (source_faults : 
       causes = subst (AllByRecursion (λ (event : Happened). event.outcome ≡ Fault → DiskRose faults a b closed.disk_a closed.disk_b)) (sym events_are)
           (All-weaker (HasCause faults first.journal last.journal) (λ (event : Happened). event.outcome ≡ Fault → DiskRose faults a b closed.disk_a closed.disk_b) (v.events ++ settles.own)
           (λ event cause fault. disk_rose_since faults a b (disk_a first.journal) (disk_b first.journal) closed.disk_a closed.disk_b since_a since_b (up_to (disk_a first.journal) (disk_b first.journal) (cause fault))) whole.causes);
+      counted = counted;
     }
 
     is_ended : IsEnded faults a b closed.disk_a closed.disk_b last.state (map (λ result. result.how) served.results) closed.status

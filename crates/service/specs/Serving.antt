@@ -9,6 +9,7 @@ use Rattle.config_core.specs.State.{State, opening_of}
 use Rattle.config_db.specs.Answers.{IsOneSettling}
 use Rattle.config_db.specs.Closing.{AreRead}
 use Rattle.config_db.specs.Crash.{IsCrashSafe}
+use Rattle.config_db.specs.Faults.{AreCounted}
 use Rattle.config_db.specs.Numbers.{AreRising, no_calls}
 use Rattle.disk_model.specs.Disk.{History as DiskHistory, contents_of}
 use Rattle.modes.specs.declared.did.StartWhy0.TheVariants.{None as NoWhy, Why}
@@ -91,11 +92,13 @@ pub record AreStored {D : Type 0} (tells : D → Bool) (history : D → DiskHist
   -- they spell the list at the end, and of an entry that is in flight still it isn't known
   pub read : BothTell tells a b → AreRead (history a') (history b') last
 
--- an event has the outcome of a fault only where a disk's count of faults rose in this run, and no count falls
+-- an event has the outcome of a fault only where a disk's count of faults rose in this run, and no count falls; the commands that
+-- have it are at most as many as the counts rose by, and so are the other events
 pub record HaveCauses {D : Type 0} (faults : D → ℕ) (a b a' b' : D) (events : List Happened) : Type 0 where
   pub later_a : faults a ≤ faults a'
   pub later_b : faults b ≤ faults b'
   pub causes : AllByRecursion (λ event. event.outcome ≡ Fault → DiskRose faults a b a' b') events
+  pub counted : AreCounted faults events a b a' b'
 
 -- the status of a run whose sessions ended so, by whether an entry is in flight at its end
 abbrev pub status_at_end : Bool → List How → ℕ

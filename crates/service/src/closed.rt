@@ -20,8 +20,8 @@ pub struct Ticker<B, C> {
 #[derive(Drop)]
 pub struct Closed<S, K, C, B, D> {
     /// 0 where all went well; 1 for words that ask nothing; 2, 3, 4, 8, 9 or 10 for a start that was refused, by its cause
-    /// (`why`); 5, 6 or 7 for a session whose source failed, whose sink failed or whose input has too many bytes; 9 for want of
-    /// memory.
+    /// (`why`); 4 also where an entry is in flight at the end; 5, 6 or 7 for a session whose source failed, whose sink failed or
+    /// whose input has too many bytes; 9 for want of memory.
     pub status: u8,
     pub why: StartWhy0,
     pub ends: Vec<End<S, K, C>>,
