@@ -2,11 +2,11 @@
 # Prints the memory of trees made anew from their lists: the peak of a program over a tree of 16,000 statements that keeps it not
 # at all, twice without a change, which is one tree, and 51 times with one statement changed before each; each is made beside the
 # one before it. But for the first, a peak has the list in it from which the last tree is made.
-# Builds nothing: the program is the one that `rt run` leaves in crates/scripts.
+# Builds nothing: the program is the one that `rt run` leaves in crates/call_scripts.
 set -eu
 cd "$(dirname "$0")/.."
-program=$PWD/crates/scripts/out/scripts
-[ -x "$program" ] || { echo "there is no program at $program: rt run in crates/scripts builds it" >&2; exit 1; }
+program=$PWD/crates/call_scripts/out/call_scripts
+[ -x "$program" ] || { echo "there is no program at $program: rt run in crates/call_scripts builds it" >&2; exit 1; }
 work=$(mktemp -d)
 trap 'rm -rf "$work"' EXIT
 

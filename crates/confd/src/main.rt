@@ -2,7 +2,8 @@
 //!
 //! Guarantees: the words handed to the service are those of the command line but for the program's own name, and they are
 //! judged before anything is made for a session; there is one end for each user that they name.
-//! Leaves to others: what words ask (`command_line`), and the service itself (`service`). That terminals, files and clocks behave as their adapters say is trusted.
+//! Leaves to others: what words ask (`command_line`), and the service itself (`service`). That terminals, files and clocks behave
+//! as their adapters say is trusted.
 #![tactic(auto)]
 
 ghost use Rattle.std.specs.Prelude.{◌≡◌, ◌≢◌, ◌↔◌, ◌<◌, length, drop, map, Err, IfOk, OnErr, string_bytes};
@@ -114,9 +115,9 @@ where
 {
     match asked.mode {
         RunMode::Init => run_over(rt, words, ends, make_disks(rt, &asked.place)?),
-        RunMode::Check => run_over(rt, words, ends, open_disks(rt, &asked.place)?),
-        // The service answers from memory, and mode gen has no journal.
-        RunMode::Serve | RunMode::Gen => run_over(rt, words, ends, no_disks(rt.alloc())?),
+        RunMode::Serve | RunMode::Check => run_over(rt, words, ends, open_disks(rt, &asked.place)?),
+        // Mode gen calls none of the disks that it is handed.
+        RunMode::Gen => run_over(rt, words, ends, no_disks(rt.alloc())?),
     }
 }
 
