@@ -11,7 +11,7 @@ use std::rt::{Env, Files};
 use std::{env, fs, io, str};
 
 /// Asks what a line asks. What it answers is the question from now on.
-fn ask<R, A: Answers<R>>(
+fn ask<R: Sync, A: Answers<R>>(
     rt: &R,
     alloc: Global,
     script: &mut A,
@@ -29,7 +29,7 @@ fn ask<R, A: Answers<R>>(
 }
 
 /// Takes a line whose copies are written out: an answer that is expected, or the next question.
-fn take_expanded<R, A: Answers<R>>(
+fn take_expanded<R: Sync, A: Answers<R>>(
     rt: &R,
     alloc: Global,
     script: &mut A,
@@ -48,7 +48,7 @@ fn take_expanded<R, A: Answers<R>>(
     Ok(())
 }
 
-fn take<R, A: Answers<R>>(
+fn take<R: Sync, A: Answers<R>>(
     rt: &R,
     alloc: Global,
     script: &mut A,
@@ -67,7 +67,7 @@ fn take<R, A: Answers<R>>(
 }
 
 /// Answers the lines of a script, up to its last question.
-fn answer_lines<R, A: Answers<R>>(
+fn answer_lines<R: Sync, A: Answers<R>>(
     rt: &R,
     alloc: Global,
     script: &mut A,
@@ -86,7 +86,7 @@ fn answer_lines<R, A: Answers<R>>(
 }
 
 /// Answers a script, and reports what isn't as the script expects.
-fn check<R, A: Answers<R>>(
+fn check<R: Sync, A: Answers<R>>(
     rt: &R,
     alloc: Global,
     script: &mut A,
@@ -100,7 +100,7 @@ fn check<R, A: Answers<R>>(
 }
 
 /// Checks a file with what answers its lines.
-fn check_file<R: Files + AllocGlobal, A: Answers<R>>(
+fn check_file<R: Files + AllocGlobal + Sync, A: Answers<R>>(
     rt: &R,
     alloc: Global,
     script: &mut A,
@@ -116,7 +116,7 @@ fn check_file<R: Files + AllocGlobal, A: Answers<R>>(
 /// Checks a file, prints the report, and tells whether all is as expected.
 fn report_file<R, A>(rt: &R, name: &str) -> io::Result<bool>
 where
-    R: Files + Print + AllocGlobal,
+    R: Files + Print + AllocGlobal + Sync,
     A: Answers<R>,
 {
     let alloc = rt.alloc();
@@ -131,7 +131,7 @@ where
 
 fn report_files<R, A>(rt: &R) -> io::Result<bool>
 where
-    R: Env + Files + Print + AllocGlobal,
+    R: Env + Files + Print + AllocGlobal + Sync,
     A: Answers<R>,
 {
     let mut right = true;
@@ -146,7 +146,7 @@ where
 /// memory is wanting.
 pub fn check_files<R, A>(rt: &R) -> ExitCode
 where
-    R: Env + Files + Print + AllocGlobal,
+    R: Env + Files + Print + AllocGlobal + Sync,
     A: Answers<R>,
 {
     match report_files::<R, A>(rt) {

@@ -1,5 +1,7 @@
 //! What answers the lines of a script, and lines that are asked once for each of some numbers.
 
+ghost use Rattle.std.specs.Thread.{IsSync};
+
 use crate::fault::Fault;
 use crate::words::{first_and_rest, number};
 use std::alloc::Global;
@@ -10,7 +12,8 @@ pub trait Answers<R>: Drop {
     fn new(alloc: Global) -> Result<Self, Fault>;
 
     /// Answers a line that is no `each`: each answer is a line that begins with `=`.
-    fn answer(&mut self, rt: &R, line: &str, out: &mut String) -> Result<(), Fault>;
+    fn answer(&mut self, rt: &R, line: &str, out: &mut String) -> Result<(), Fault>
+        requires { IsSync R.row };
 }
 
 /// A line with a number in place of each `%`.
@@ -55,7 +58,7 @@ impl Last {
 }
 
 /// What a line answers with that number.
-fn answer_at<R, A: Answers<R>>(
+fn answer_at<R: Sync, A: Answers<R>>(
     rt: &R,
     alloc: Global,
     script: &mut A,
@@ -69,7 +72,7 @@ fn answer_at<R, A: Answers<R>>(
 }
 
 /// each FROM TO LINE: the line for each number, and how often each answer came
-fn answer_each<R, A: Answers<R>>(
+fn answer_each<R: Sync, A: Answers<R>>(
     rt: &R,
     alloc: Global,
     script: &mut A,
@@ -89,7 +92,7 @@ fn answer_each<R, A: Answers<R>>(
 }
 
 /// What a line answers.
-pub(crate) fn answer_line<R, A: Answers<R>>(
+pub(crate) fn answer_line<R: Sync, A: Answers<R>>(
     rt: &R,
     alloc: Global,
     script: &mut A,

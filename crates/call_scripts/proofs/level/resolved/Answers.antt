@@ -5,4 +5,4 @@ pub resolve-requires : goal.resolve-requires
 resolve-requires c = top_is_level _ c.top.ensures
 
 pub returns : goal.returns
-returns c = below_top _ _ c.top.ensures c.resolve-2.ensures.target
+returns c = below_top _ _ c.top.ensures c.resolve.ensures.target
