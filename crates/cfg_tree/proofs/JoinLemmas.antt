@@ -18,6 +18,11 @@ pub few_more : (old words given all : List (List ℕ)) → all ≡ words_of_both
 few_more old words [] all e = ap (λ (ws : List (List ℕ)). words_of_both false old ws) e
 few_more old words (word ∷ given) all e = ap (λ (ws : List (List ℕ)). words_of_both false old ws) e
 
+-- a statement that is met once has its own words
+pub nothing_more : (many : Bool) (old new : List (List ℕ)) → new ≡ [] → words_of_both many old new ≡ old
+nothing_more true old new none = ap (joined old) none
+nothing_more false old new none = ap (words_of_both false old) none
+
 -- a value with more words, and then with more again
 pub met_more : (self : Pair Value) (path : List Step) (value new : Value) (order more words all : List (List ℕ)) (inactive protected many : Bool)
     → ◌≡◌ {A = Pair Value} (path, with_more path value order words) self

@@ -25,6 +25,7 @@ mod naming;
 mod pending;
 mod reading;
 mod reorder;
+mod sharing;
 mod steps;
 mod store;
 mod target;

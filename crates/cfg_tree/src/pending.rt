@@ -71,6 +71,22 @@ fn words_of_both(
     WordList::of(alloc, &new)
 }
 
+/// The words of the statement of a path, with those that are to be joined to them. Most statements are met once, and have none.
+#[tactic(auto, using(crate::proofs::JoinLemmas::nothing_more))]
+fn with_later(
+    alloc: Global,
+    path: &Path,
+    old: WordList,
+    new: Vec<Word>,
+) -> Result<WordList, NoMemory>
+    ensures { IfOk result (λ words. words ≡ words_of_both (is_many_at path.now) old new.items) }
+{
+    if new.is_empty() {
+        return Ok(old);
+    }
+    words_of_both(alloc, is_many(path), old, new)
+}
+
 /// A statement, and the names and words that are to be joined to its own.
 #[derive(Debug, Drop)]
 pub struct Pending {
@@ -145,7 +161,7 @@ impl Pending {
             order,
             words,
         } = self;
-        let words = words_of_both(alloc, is_many(&path), value.words, words)?;
+        let words = with_later(alloc, &path, value.words, words)?;
         let order = value.order.joined(alloc, &order)?;
         Ok((
             path,

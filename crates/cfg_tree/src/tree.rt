@@ -24,6 +24,7 @@ use crate::fault::TreeFault;
 use crate::gather::{GatherFault, gathered_in};
 use crate::moving::{CopyFault, copy_in, rename_in};
 use crate::naming::with_child_names;
+use crate::sharing::made_beside;
 use crate::steps::Steps;
 use crate::store::Entries;
 use crate::walk::Walk;
@@ -156,6 +157,14 @@ impl Tree {
             alloc: self.alloc,
             statements,
         })
+    }
+
+    /// The same tree, made anew: it shares with the older one what is equal in both, page by page.
+    pub fn beside(&self, alloc: Global, older: &Tree) -> Result<Tree, NoMemory>
+        ensures { IfOk result (λ tree. tree ≡ self.now) }
+    {
+        let statements = made_beside(alloc, &older.statements, self)?;
+        Ok(Tree { alloc, statements })
     }
 
     /// Puts a value at a path whose parent is there.

@@ -1,7 +1,7 @@
 use Rattle.std.proofs.Common.{◌≡◌, ◌∙◌, sym, ap, refl, List, [], ◌∷◌, ◌++◌, rules}
 use Rattle.cfg_base.specs.declared.value.Value.{Value}
 use Rattle.cfg_base.specs.declared.path.Step.{Step}
-use Rattle.call_scripts.proofs.kept.statements_of.Goals as goal
+use Rattle.cfg_tree.proofs.sharing.statements_of.Goals as goal
 
 moved : {X : Type 0} (xs : List X) (x : X) (ys : List X) → (xs ++ x ∷ []) ++ ys ≡ xs ++ x ∷ ys
 moved [] x ys = refl

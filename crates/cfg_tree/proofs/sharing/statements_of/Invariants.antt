@@ -1,5 +1,5 @@
 use Rattle.std.proofs.Common.{◌≡◌, ◌++◌, length}
-use Rattle.commit_ledger.proofs.sharing.statements_of.Given as goal
+use Rattle.cfg_tree.proofs.sharing.statements_of.Given as goal
 
 abbrev pub invariant-loop-path : goal.invariant-loop-path
 invariant-loop-path l = l.items.items ++ l.left ≡ l.initial.left
