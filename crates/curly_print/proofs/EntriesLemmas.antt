@@ -1,5 +1,5 @@
--- What is given right below a path, among the entries of an expansion from that path on.
-use Rattle.std.proofs.Common.{◌≡◌, ℕ, ◌<◌, arith, Bool, true, false, cond, T, ◌&&◌, ◌==◌, ◌+◌, List, [], ◌∷◌, ◌++◌, length, filter, Some, refl, sym, ap, ◌∙◌, append-nil, append_assoc, length-append, eqb-true, eq-eqb, None}
+-- The entries of a map that stand below a path, from that path on.
+use Rattle.std.proofs.Common.{◌≡◌, ℕ, ◌<◌, arith, nat_lt, Bool, true, false, cond, T, ◌&&◌, ◌==◌, ◌+◌, List, [], ◌∷◌, ◌++◌, length, filter, Some, refl, sym, ap, ◌∙◌, append-nil, append_assoc, length-append, eqb-true, eq-eqb, None}
 use Rattle.std.specs.FinMap as finite
 use Rattle.std.specs.FinMap.Entries.{find, is_sorted, below_all}
 use Rattle.std.specs.Map.{keys_of}
@@ -9,53 +9,34 @@ use Rattle.std.specs.declared.cmp.Ordering.{Ordering}
 use Rattle.std.specs.declared.cmp.Ordering.TheVariants.{Less, Equal, Greater}
 use Rattle.cfg_base.specs.Order.{path_cmp}
 use Rattle.cfg_base.specs.declared.path.Step.{Step}
+use Rattle.cfg_entries.specs.EntryMap.{Pair}
 use Rattle.cfg_schema.proofs.TestLemmas.{both, both_true}
 use Rattle.cfg_tree.specs.Statements.{is_below, last_of, parent_of}
 use Rattle.cfg_tree.specs.Children.{is_child}
-use Rattle.cfg_tree.specs.Full.{Expansion}
 use Rattle.cfg_tree.proofs.BelowLemmas.{front_of, none_later, below_le, below_more, below_self}
 use Rattle.cfg_tree.proofs.MapLemmas.{same_path}
 use Rattle.cfg_tree.proofs.OnceLemmas.{below_rest}
 use Rattle.cfg_tree.proofs.PathLemmas.{split, same_ends, child_longer}
-use Rattle.curly_print.specs.Inheriting.{FullEntry, given_entries}
+use Rattle.curly_print.specs.Printing.{is_inside}
+use Rattle.curly_print.proofs.LengthLemmas.{lt_is}
 
--- of entries, up to the first that isn't below a path, those right below it
-abbrev pub ahead : List Step → List FullEntry → List FullEntry
-ahead path es = filter (λ e. is_child path e.0) (front_of (λ e. is_below path e.0) es)
+-- what passes a test stands below a path
+abbrev pub IsPart : List Step → (List Step → Bool) → Type 0
+IsPart path test = (k : List Step) → is_below path k ≡ false → test k ≡ false
 
--- an entry below a path is one of them or not
-pub ahead_more : (path : List Step) (e : FullEntry) (es : List FullEntry) (b : Bool) → is_below path e.0 ≡ true → is_child path e.0 ≡ b
-    → ahead path (e ∷ es) ≡ cond b (e ∷ ahead path es) (ahead path es)
-ahead_more path e es b below child =
-    ap (λ (c : Bool). filter (λ (x : FullEntry). is_child path x.0) (cond c (e ∷ front_of (λ (x : FullEntry). is_below path x.0) es) [])) below
-    ∙ ap (λ (c : Bool). cond c (e ∷ ahead path es) (ahead path es)) child
+-- what is right below a path is below it
+pub child_part : (path : List Step) → IsPart path (is_child path)
+child_part path k other = ap (λ (b : Bool). b && (length k == length path + 1)) other
 
-pub ahead_none : (path : List Step) (e : FullEntry) (es : List FullEntry) → is_below path e.0 ≡ false → ahead path (e ∷ es) ≡ []
-ahead_none path e es other =
-    ap (λ (c : Bool). filter (λ (x : FullEntry). is_child path x.0) (cond c (e ∷ front_of (λ (x : FullEntry). is_below path x.0) es) [])) other
+-- what is below a path and longer is below it
+pub inside_part : (path : List Step) → IsPart path (is_inside path)
+inside_part path k other = ap (λ (b : Bool). b && nat_lt (length path) (length k)) other
 
--- what isn't below a path isn't right below it
-apart : (path k : List Step) → is_below path k ≡ false → is_child path k ≡ false
-apart path k other = ap (λ (b : Bool). b && (length k == length path + 1)) other
-
--- where none is below a path, none is right below it
-none_child : (path : List Step) (es : List FullEntry) → filter (is_below path) (keys_of es) ≡ [] → filter (λ e. is_child path e.0) es ≡ []
-none_child path [] none = refl
-none_child path (e ∷ es) none = by_test (is_below path e.0) refl none (λ rest. none_child path es rest)
-  where
-    by_test : (b : Bool) → is_below path e.0 ≡ b → cond b (e.0 ∷ filter (is_below path) (keys_of es)) (filter (is_below path) (keys_of es)) ≡ []
-        → (filter (is_below path) (keys_of es) ≡ [] → filter (λ x. is_child path x.0) es ≡ [])
-        → filter (λ x. is_child path x.0) (e ∷ es) ≡ []
-    by_test true below none go = cc
-    by_test false other none go =
-        ap (λ (c : Bool). cond c (e ∷ filter (λ (x : FullEntry). is_child path x.0) es) (filter (λ (x : FullEntry). is_child path x.0) es)) (apart path e.0 other)
-        ∙ go none
-
-head_of : (a b : Bool) → T (a && b) → T a
+pub head_of : (a b : Bool) → T (a && b) → T a
 head_of true b h = tt
 head_of false b h = h
 
-tail_of : (a b : Bool) → T (a && b) → T b
+pub tail_of : (a b : Bool) → T (a && b) → T b
 tail_of true b h = h
 tail_of false b h = absurd h
 
@@ -64,74 +45,114 @@ less Less h = refl
 less Equal h = absurd h
 less Greater h = absurd h
 
-later : (k : List Step) (es : List FullEntry) → T (below_all path_cmp k es) → AllByRecursion (λ j. path_cmp k j ≡ Less) (keys_of es)
-later k [] h = tt
-later k (e ∷ es) h = (less (path_cmp k e.0) (head_of _ _ h), later k es (tail_of _ _ h))
+module _ {V : Type 0} where
+  pub later : (k : List Step) (es : List (Pair V)) → T (below_all path_cmp k es) → AllByRecursion (λ j. path_cmp k j ≡ Less) (keys_of es)
+  later k [] h = tt
+  later k (e ∷ es) h = (less (path_cmp k e.0) (head_of _ _ h), later k es (tail_of _ _ h))
 
--- from a path on they are all that are right below it
-ahead_from : (path : List Step) (es : List FullEntry) → T (is_sorted path_cmp es)
-    → ahead path (filter (λ e. is_le (path_cmp path e.0)) es) ≡ filter (λ e. is_child path e.0) es
-ahead_from path [] sorted = refl
-ahead_from path (e ∷ es) sorted =
-    by_tests _ _ _ _ _ refl refl refl (ahead_from path es (tail_of _ _ sorted))
-    (λ from other. none_child path es (none_later path e.0 (keys_of es) from other (later e.0 es (head_of _ _ sorted))))
-  where
-    by_tests : (rest kept : List FullEntry) (t b c : Bool) → is_le (path_cmp path e.0) ≡ t → is_below path e.0 ≡ b → is_child path e.0 ≡ c
-        → ahead path rest ≡ kept → (t ≡ true → b ≡ false → kept ≡ [])
-        → ahead path (cond t (e ∷ rest) rest) ≡ cond c (e ∷ kept) kept
-    by_tests rest kept true true c from below child go none =
-        ahead_more path e rest c below child ∙ ap (λ (xs : List FullEntry). cond c (e ∷ xs) xs) go
-    by_tests rest kept true false c from other child go none =
-        ahead_none path e rest other
-        ∙ sym (none refl refl)
-        ∙ ap (λ (d : Bool). cond d (e ∷ kept) kept) (sym (apart path e.0 other) ∙ child)
-    by_tests rest kept false true c before below child go none = let from = below_le path e.0 below in cc
-    by_tests rest kept false false c before other child go none = go ∙ ap (λ (d : Bool). cond d (e ∷ kept) kept) (sym (apart path e.0 other) ∙ child)
+  module _ (path : List Step) (test : List Step → Bool) where
+    -- of entries, up to the first that isn't below a path, those that pass
+    abbrev pub ahead : List (Pair V) → List (Pair V)
+    ahead es = filter (λ e. test e.0) (front_of (λ e. is_below path e.0) es)
 
--- from a path on, before any is taken
-pub ahead_start : (full : Expansion) (path : List Step) (left taken : List FullEntry) → taken ≡ []
-    → left ≡ filter (λ e. is_le (path_cmp path e.0)) (finite.entries full) → taken ++ ahead path left ≡ given_entries full path
-ahead_start full path left taken none e =
-    ap (λ (xs : List FullEntry). xs ++ ahead path left) none
-    ∙ ap (ahead path) e
-    ∙ ahead_from path (finite.entries full) (finite.entries_sorted full)
+    -- an entry below a path is one of them or not
+    ahead_more : (e : Pair V) (es : List (Pair V)) (b : Bool) → is_below path e.0 ≡ true → test e.0 ≡ b
+        → ahead (e ∷ es) ≡ cond b (e ∷ ahead es) (ahead es)
+    ahead_more e es b below passes =
+        ap (λ (c : Bool). filter (λ (x : Pair V). test x.0) (cond c (e ∷ front_of (λ (x : Pair V). is_below path x.0) es) [])) below
+        ∙ ap (λ (c : Bool). cond c (e ∷ ahead es) (ahead es)) passes
 
--- one that is below the path is taken where it is right below it
-pub ahead_taken : (path : List Step) (count : ℕ) (e : FullEntry) (left rest taken more all : List FullEntry) → count ≡ length path + 1
-    → left ≡ e ∷ rest → is_below path e.0 ≡ true → more ≡ taken ++ cond (length e.0 == count) (e ∷ []) []
-    → taken ++ ahead path left ≡ all → more ++ ahead path rest ≡ all
-ahead_taken path count e left rest taken more all long next below m told = by_test (length e.0 == count) refl m
-  where
-    child : is_child path e.0 ≡ (length e.0 == count)
-    child = ap (λ (b : Bool). b && (length e.0 == length path + 1)) below ∙ ap (λ (n : ℕ). length e.0 == n) (sym long)
+    ahead_none : (e : Pair V) (es : List (Pair V)) → is_below path e.0 ≡ false → ahead (e ∷ es) ≡ []
+    ahead_none e es other =
+        ap (λ (c : Bool). filter (λ (x : Pair V). test x.0) (cond c (e ∷ front_of (λ (x : Pair V). is_below path x.0) es) [])) other
 
-    before : (b : Bool) → (length e.0 == count) ≡ b → taken ++ cond b (e ∷ ahead path rest) (ahead path rest) ≡ all
-    before b f =
-        ap (λ (xs : List FullEntry). taken ++ xs) (sym (ahead_more path e rest b below (child ∙ f)))
-        ∙ ap (λ (xs : List FullEntry). taken ++ ahead path xs) (sym next)
+    -- one that is below the path is taken where it passes
+    pub ahead_taken : (e : Pair V) (left rest taken more all : List (Pair V)) (b : Bool) → test e.0 ≡ b
+        → left ≡ e ∷ rest → is_below path e.0 ≡ true → more ≡ taken ++ cond b (e ∷ []) []
+        → taken ++ ahead left ≡ all → more ++ ahead rest ≡ all
+    ahead_taken e left rest taken more all b passes next below m told = by_test b passes m
+      where
+        before : (b : Bool) → test e.0 ≡ b → taken ++ cond b (e ∷ ahead rest) (ahead rest) ≡ all
+        before b f =
+            ap (λ (xs : List (Pair V)). taken ++ xs) (sym (ahead_more e rest b below f))
+            ∙ ap (λ (xs : List (Pair V)). taken ++ ahead xs) (sym next)
+            ∙ told
+
+        by_test : (b : Bool) → test e.0 ≡ b → more ≡ taken ++ cond b (e ∷ []) [] → more ++ ahead rest ≡ all
+        by_test true f m =
+            ap (λ (xs : List (Pair V)). xs ++ ahead rest) m ∙ append_assoc taken (e ∷ []) (ahead rest) ∙ before true f
+        by_test false f m =
+            ap (λ (xs : List (Pair V)). xs ++ ahead rest) (m ∙ append-nil taken) ∙ before false f
+
+    -- where none is left, or the next one isn't below the path, all are taken
+    pub ahead_end : (left taken all : List (Pair V)) → left ≡ [] → taken ++ ahead left ≡ all → taken ≡ all
+    ahead_end left taken all none told =
+        sym (append-nil taken) ∙ ap (λ (xs : List (Pair V)). taken ++ ahead xs) (sym none) ∙ told
+
+    pub ahead_other : (e : Pair V) (left rest taken all : List (Pair V)) → left ≡ e ∷ rest → is_below path e.0 ≡ false
+        → taken ++ ahead left ≡ all → taken ≡ all
+    ahead_other e left rest taken all next other told =
+        sym (append-nil taken)
+        ∙ ap (λ (xs : List (Pair V)). taken ++ xs) (sym (ahead_none e rest other))
+        ∙ ap (λ (xs : List (Pair V)). taken ++ ahead xs) (sym next)
         ∙ told
 
-    by_test : (b : Bool) → (length e.0 == count) ≡ b → more ≡ taken ++ cond b (e ∷ []) [] → more ++ ahead path rest ≡ all
-    by_test true f m =
-        ap (λ (xs : List FullEntry). xs ++ ahead path rest) m ∙ append_assoc taken (e ∷ []) (ahead path rest) ∙ before true f
-    by_test false f m =
-        ap (λ (xs : List FullEntry). xs ++ ahead path rest) (m ∙ append-nil taken) ∙ before false f
+    module _ (part : IsPart path test) where
+      -- where none is below a path, none passes
+      pub none_passes : (es : List (Pair V)) → filter (is_below path) (keys_of es) ≡ [] → filter (λ e. test e.0) es ≡ []
+      none_passes [] none = refl
+      none_passes (e ∷ es) none = by_test (is_below path e.0) refl none (λ rest. none_passes es rest)
+        where
+          by_test : (b : Bool) → is_below path e.0 ≡ b → cond b (e.0 ∷ filter (is_below path) (keys_of es)) (filter (is_below path) (keys_of es)) ≡ []
+              → (filter (is_below path) (keys_of es) ≡ [] → filter (λ x. test x.0) es ≡ [])
+              → filter (λ x. test x.0) (e ∷ es) ≡ []
+          by_test true below none go = cc
+          by_test false other none go =
+              ap (λ (c : Bool). cond c (e ∷ filter (λ (x : Pair V). test x.0) es) (filter (λ (x : Pair V). test x.0) es)) (part e.0 other)
+              ∙ go none
 
--- where none is left, or the next one isn't below the path, all are taken
-pub ahead_end : (path : List Step) (left taken all : List FullEntry) → left ≡ [] → taken ++ ahead path left ≡ all → taken ≡ all
-ahead_end path left taken all none told =
-    sym (append-nil taken) ∙ ap (λ (xs : List FullEntry). taken ++ ahead path xs) (sym none) ∙ told
+      -- from a path on they are all that pass
+      ahead_from : (es : List (Pair V)) → T (is_sorted path_cmp es)
+          → ahead (filter (λ e. is_le (path_cmp path e.0)) es) ≡ filter (λ e. test e.0) es
+      ahead_from [] sorted = refl
+      ahead_from (e ∷ es) sorted =
+          by_tests _ _ _ _ _ refl refl refl (ahead_from es (tail_of _ _ sorted))
+          (λ from other. none_passes es (none_later path e.0 (keys_of es) from other (later e.0 es (head_of _ _ sorted))))
+        where
+          by_tests : (rest kept : List (Pair V)) (t b c : Bool) → is_le (path_cmp path e.0) ≡ t → is_below path e.0 ≡ b → test e.0 ≡ c
+              → ahead rest ≡ kept → (t ≡ true → b ≡ false → kept ≡ [])
+              → ahead (cond t (e ∷ rest) rest) ≡ cond c (e ∷ kept) kept
+          by_tests rest kept true true c from below passes go none =
+              ahead_more e rest c below passes ∙ ap (λ (xs : List (Pair V)). cond c (e ∷ xs) xs) go
+          by_tests rest kept true false c from other passes go none =
+              ahead_none e rest other
+              ∙ sym (none refl refl)
+              ∙ ap (λ (d : Bool). cond d (e ∷ kept) kept) (sym (part e.0 other) ∙ passes)
+          by_tests rest kept false true c before below passes go none = let from = below_le path e.0 below in cc
+          by_tests rest kept false false c before other passes go none =
+              go ∙ ap (λ (d : Bool). cond d (e ∷ kept) kept) (sym (part e.0 other) ∙ passes)
 
-pub ahead_other : (path : List Step) (e : FullEntry) (left rest taken all : List FullEntry) → left ≡ e ∷ rest → is_below path e.0 ≡ false
-    → taken ++ ahead path left ≡ all → taken ≡ all
-ahead_other path e left rest taken all next other told =
-    sym (append-nil taken)
-    ∙ ap (λ (xs : List FullEntry). taken ++ xs) (sym (ahead_none path e rest other))
-    ∙ ap (λ (xs : List FullEntry). taken ++ ahead path xs) (sym next)
-    ∙ told
+      -- from a path on, before any is taken
+      pub ahead_start : (full : finite.FinMap path_cmp V) (left taken : List (Pair V)) → taken ≡ []
+          → left ≡ filter (λ e. is_le (path_cmp path e.0)) (finite.entries full)
+          → taken ++ ahead left ≡ filter (λ e. test e.0) (finite.entries full)
+      ahead_start full left taken none e =
+          ap (λ (xs : List (Pair V)). xs ++ ahead left) none
+          ∙ ap ahead e
+          ∙ ahead_from (finite.entries full) (finite.entries_sorted full)
 
-pub ahead_less : (e : FullEntry) (left rest : List FullEntry) → left ≡ e ∷ rest → length rest < length left
-ahead_less e left rest next = omega (arith, ap (λ (xs : List FullEntry). length xs) next)
+  pub ahead_less : (e : Pair V) (left rest : List (Pair V)) → left ≡ e ∷ rest → length rest < length left
+  ahead_less e left rest next = omega (arith, ap (λ (xs : List (Pair V)). length xs) next)
+
+-- what is below a path and as long as a child is a child
+pub long_child : (path k : List Step) (count : ℕ) → count ≡ length path + 1 → is_below path k ≡ true → is_child path k ≡ (length k == count)
+long_child path k count long below =
+    ap (λ (b : Bool). b && (length k == length path + 1)) below ∙ ap (λ (n : ℕ). length k == n) (sym long)
+
+-- what is below a path and longer is inside
+pub long_inside : (path k : List Step) (count : ℕ) → count ≡ length path → is_below path k ≡ true → is_inside path k ≡ nat_lt count (length k)
+long_inside path k count long below =
+    ap (λ (b : Bool). b && nat_lt (length path) (length k)) below ∙ ap (λ (n : ℕ). nat_lt n (length k)) (sym long)
 
 -- a path right below another one is it with a last step
 pub child_is : (path k : List Step) → is_child path k ≡ true → k ≡ path ++ last_of k ∷ []
@@ -149,10 +170,6 @@ child_is path k child =
     one_step (s ∷ []) e = (s, refl)
     one_step (s ∷ t ∷ rest) e = absurd (omega (arith, e))
 
--- each of these entries is found among those
-abbrev AreFound : List FullEntry → List FullEntry → Type 0
-AreFound es xs = AllByRecursion (λ x. find path_cmp x.0 es ≡ Some x.1) xs
-
 -- a path isn't at one that is before it
 not_at : (k j : List Step) → path_cmp k j ≡ Less → is_eq (path_cmp j k) ≡ false
 not_at k j before = by_test (is_eq (path_cmp j k)) refl
@@ -166,44 +183,58 @@ not_at k j before = by_test (is_eq (path_cmp j k)) refl
         in cc
     by_test false other = refl
 
-found_more : (e : FullEntry) (es xs : List FullEntry) → AllByRecursion (λ j. path_cmp e.0 j ≡ Less) (keys_of xs) → AreFound es xs → AreFound (e ∷ es) xs
-found_more e es [] behind found = tt
-found_more e es (x ∷ xs) behind found =
-    (ap (λ (b : Bool). cond b (Some e.1) (find path_cmp x.0 es)) (not_at e.0 x.0 behind.0) ∙ found.0, found_more e es xs behind.1 found.1)
+module _ {V : Type 0} where
+  -- each of these entries is found among those
+  abbrev AreFound : List (Pair V) → List (Pair V) → Type 0
+  AreFound es xs = AllByRecursion (λ x. find path_cmp x.0 es ≡ Some x.1) xs
 
-found_in : (es : List FullEntry) → T (is_sorted path_cmp es) → AreFound es es
-found_in [] sorted = tt
-found_in (e ∷ es) sorted = (
-  ap (λ (b : Bool). cond b (Some e.1) (find path_cmp e.0 es)) ((same_path e.0 e.0).1 refl),
-  found_more e es es (later e.0 es (head_of _ _ sorted)) (found_in es (tail_of _ _ sorted)),
-)
+  found_more : (e : Pair V) (es xs : List (Pair V)) → AllByRecursion (λ j. path_cmp e.0 j ≡ Less) (keys_of xs) → AreFound es xs → AreFound (e ∷ es) xs
+  found_more e es [] behind found = tt
+  found_more e es (x ∷ xs) behind found =
+      (ap (λ (b : Bool). cond b (Some e.1) (find path_cmp x.0 es)) (not_at e.0 x.0 behind.0) ∙ found.0, found_more e es xs behind.1 found.1)
 
--- a look-up gives of each entry what is given there
-pub found_all : (full : Expansion) → AllByRecursion (λ x. finite.get full x.0 ≡ Some x.1) (finite.entries full)
-found_all full = told (finite.entries full) (found_in (finite.entries full) (finite.entries_sorted full))
-  where
-    told : (xs : List FullEntry) → AreFound (finite.entries full) xs → AllByRecursion (λ x. finite.get full x.0 ≡ Some x.1) xs
-    told [] found = tt
-    told (x ∷ xs) found = (finite.get-entries full x.0 ∙ found.0, told xs found.1)
+  found_in : (es : List (Pair V)) → T (is_sorted path_cmp es) → AreFound es es
+  found_in [] sorted = tt
+  found_in (e ∷ es) sorted = (
+    ap (λ (b : Bool). cond b (Some e.1) (find path_cmp e.0 es)) ((same_path e.0 e.0).1 refl),
+    found_more e es es (later e.0 es (head_of _ _ sorted)) (found_in es (tail_of _ _ sorted)),
+  )
 
-right_below : (path : List Step) (s : Step) → is_child path (path ++ s ∷ []) ≡ true
+  -- a look-up gives of each entry what is given there
+  pub found_all : (full : finite.FinMap path_cmp V) → AllByRecursion (λ x. finite.get full x.0 ≡ Some x.1) (finite.entries full)
+  found_all full = told (finite.entries full) (found_in (finite.entries full) (finite.entries_sorted full))
+    where
+      told : (xs : List (Pair V)) → AreFound (finite.entries full) xs → AllByRecursion (λ x. finite.get full x.0 ≡ Some x.1) xs
+      told [] found = tt
+      told (x ∷ xs) found = (finite.get-entries full x.0 ∙ found.0, told xs found.1)
+
+  -- where no entry passes that is right below a path, nothing is found there
+  none_found : (path : List Step) (test : List Step → Bool) (s : Step) (es : List (Pair V)) → test (path ++ s ∷ []) ≡ true
+      → filter (λ e. test e.0) es ≡ [] → find path_cmp (path ++ s ∷ []) es ≡ None
+  none_found path test s [] there none = refl
+  none_found path test s (e ∷ es) there none = by_tests _ _ refl refl none (λ rest. none_found path test s es there rest)
+    where
+      by_tests : (c b : Bool) → test e.0 ≡ c → is_eq (path_cmp (path ++ s ∷ []) e.0) ≡ b
+          → cond c (e ∷ filter (λ x. test x.0) es) (filter (λ x. test x.0) es) ≡ []
+          → (filter (λ x. test x.0) es ≡ [] → find path_cmp (path ++ s ∷ []) es ≡ None)
+          → cond b (Some e.1) (find path_cmp (path ++ s ∷ []) es) ≡ None
+      by_tests true b passes at none go = cc
+      by_tests false true passes at none go = let is = ap test ((same_path (path ++ s ∷ []) e.0).0 at) in cc
+      by_tests false false passes at none go = go none
+
+  pub none_given : (full : finite.FinMap path_cmp V) (path : List Step) (test : List Step → Bool) (s : Step) → test (path ++ s ∷ []) ≡ true
+      → filter (λ e. test e.0) (finite.entries full) ≡ [] → finite.get full (path ++ s ∷ []) ≡ None
+  none_given full path test s there none =
+      finite.get-entries full (path ++ s ∷ []) ∙ none_found path test s (finite.entries full) there none
+
+pub right_below : (path : List Step) (s : Step) → is_child path (path ++ s ∷ []) ≡ true
 right_below path s = both_true _ _ (below_more path path s (below_self path)) (eq-eqb _ _ (child_longer path s))
 
--- where no entry is right below a path, nothing is found there
-none_found : (path : List Step) (s : Step) (es : List FullEntry) → filter (λ e. is_child path e.0) es ≡ [] → find path_cmp (path ++ s ∷ []) es ≡ None
-none_found path s [] none = refl
-none_found path s (e ∷ es) none = by_tests _ _ refl refl none (λ rest. none_found path s es rest)
-  where
-    by_tests : (c b : Bool) → is_child path e.0 ≡ c → is_eq (path_cmp (path ++ s ∷ []) e.0) ≡ b
-        → cond c (e ∷ filter (λ x. is_child path x.0) es) (filter (λ x. is_child path x.0) es) ≡ []
-        → (filter (λ x. is_child path x.0) es ≡ [] → find path_cmp (path ++ s ∷ []) es ≡ None)
-        → cond b (Some e.1) (find path_cmp (path ++ s ∷ []) es) ≡ None
-    by_tests true b child at none go = cc
-    by_tests false true child at none go =
-        let is = ap (is_child path) ((same_path (path ++ s ∷ []) e.0).0 at)
-        in let there = right_below path s
-        in cc
-    by_tests false false child at none go = go none
+pub right_inside : (path : List Step) (s : Step) → is_inside path (path ++ s ∷ []) ≡ true
+right_inside path s = both_true _ _ (below_more path path s (below_self path)) (lt_is _ _ (omega (arith, child_longer path s)))
 
-pub none_given : (full : Expansion) (path : List Step) (s : Step) → given_entries full path ≡ [] → finite.get full (path ++ s ∷ []) ≡ None
-none_given full path s none = finite.get-entries full (path ++ s ∷ []) ∙ none_found path s (finite.entries full) none
+pub child_inside : (path k : List Step) → is_child path k ≡ true → is_inside path k ≡ true
+child_inside path k child =
+    let parts = both (is_below path k) _ child
+    in let long = eqb-true (length k) (length path + 1) parts.1
+    in both_true _ _ parts.0 (lt_is _ _ (omega (arith, long)))

@@ -15,7 +15,7 @@ use Rattle.cfg_tree.specs.Statements.{Statements}
 use Rattle.cfg_tree.specs.After.{IsNext, IsLast}
 use Rattle.cfg_tree.proofs.MapLemmas.{same_path}
 
-itself : (p : List Step) → path_cmp p p ≡ Less → ⊥
+pub itself : (p : List Step) → path_cmp p p ≡ Less → ⊥
 itself p e = let tie : is_eq (path_cmp p p) ≡ true = (same_path p p).1 refl in let c = sym tie ∙ ap is_eq e in cc
 
 not_both : (p q : List Step) → path_cmp p q ≡ Less → path_cmp q p ≡ Less → ⊥
@@ -48,7 +48,8 @@ later (e ∷ es) a q all there =
     by_first e es q (path_cmp a q ≡ Less) there (λ same. subst (λ (x : List Step). path_cmp a x ≡ Less) (sym same) (less _ (front_of _ _ all)))
     (λ more. later es a q (back_of _ _ all) more)
 
-all_in : (a : List Step) (front back : List (Pair Value)) (e : Pair Value) → T (below_all path_cmp a (front ++ e ∷ back)) → path_cmp a e.0 ≡ Less
+-- a path before a list stands before each of it
+pub all_in : (a : List Step) (front back : List (Pair Value)) (e : Pair Value) → T (below_all path_cmp a (front ++ e ∷ back)) → path_cmp a e.0 ≡ Less
 all_in a [] back e all = less _ (front_of _ _ all)
 all_in a (g ∷ front) back e all = all_in a front back e (back_of _ _ all)
 

@@ -15,7 +15,7 @@ use Rattle.cfg_tree.specs.Full.{Expansion}
 use Rattle.cfg_tree.specs.Tree.{step_of}
 use Rattle.curly_print.specs.Inherited.{given_below, given_children, given_children_at, given_order, given_steps, given_text, note_lines, note_of, noted_word}
 use Rattle.curly_print.specs.Inheriting.{FullEntry, entry_text, given_child_text, given_entries, headed_text, row_text}
-use Rattle.curly_print.proofs.EntriesLemmas.{child_is, found_all, none_given}
+use Rattle.curly_print.proofs.EntriesLemmas.{child_is, found_all, none_given, right_below}
 
 -- the note where there is a group
 pub noted : (indent : ℕ) (step : Step) (group : List ℕ) → (length group == 0) ≡ false
@@ -36,7 +36,7 @@ no_place zero full path indent e = refl
 no_place (suc levels) full path indent e =
     ap (λ (here : Option Place). flat_map (given_child_text levels full path indent) (given_children_at full path here)) e
 
-pub no_length : (es : List FullEntry) → length es ≡ 0 → es ≡ []
+pub no_length : {X : Type 0} (es : List X) → length es ≡ 0 → es ≡ []
 no_length [] e = refl
 no_length (x ∷ es) e = absurd (omega (arith, e))
 
@@ -51,10 +51,11 @@ no_entries (suc levels) full path indent none = all_none (given_children full pa
     all_none (s ∷ steps) =
         ap
         (λ (o : Option Given). given_text indent s o (given_below levels full (path ++ s ∷ []) (indent + 4)) ++ flat_map (given_child_text levels full path indent) steps)
-        (none_given full path s none)
+        (none_given full path (is_child path) s (right_below path s) none)
         ∙ all_none steps
 
-rows_flat : {A B C : Type 0} (f : B → List C) (g : A → List B) (xs : List A) → flat_map f (flat_map g xs) ≡ flat_map (λ x. flat_map f (g x)) xs
+-- lists of lists of lists
+pub rows_flat : {A B C : Type 0} (f : B → List C) (g : A → List B) (xs : List A) → flat_map f (flat_map g xs) ≡ flat_map (λ x. flat_map f (g x)) xs
 rows_flat f g [] = refl
 rows_flat {A} {B} {C} f g (x ∷ xs) =
     flat_map-append f (g x) (flat_map g xs) ∙ ap (λ (cs : List C). flat_map f (g x) ++ cs) (rows_flat f g xs)

@@ -25,7 +25,7 @@ use Rattle.cfg_tree.proofs.BelowLemmas.{below_self, parent_apart}
 use Rattle.cfg_tree.proofs.FollowLemmas.{typed_place}
 use Rattle.cfg_tree.proofs.OnceLemmas.{same_test, below_rest, below_apart, children_once}
 use Rattle.curly_print.specs.Printed.{line_of, spaces, ended, statement_text, text_below, printed}
-use Rattle.curly_print.specs.Printing.{child_text}
+use Rattle.curly_print.specs.Printing.{child_text, is_inside}
 use Rattle.curly_print.specs.Length.{holds, indent_of, own_len, entry_len}
 use Rattle.curly_print.proofs.PrintingLemmas.{some_printed}
 use Rattle.curly_print.proofs.TopLemmas.{top_text}
@@ -80,7 +80,7 @@ listed_steps P (s ∷ steps) h = (h s (inl refl), listed_steps P steps (λ t l. 
 pub lt_is : (a b : ℕ) → a < b → nat_lt a b ≡ true
 lt_is a b h = grind (arith, nat_tests)
 
-lt_not : (a b : ℕ) → b ≤ a → nat_lt a b ≡ false
+pub lt_not : (a b : ℕ) → b ≤ a → nat_lt a b ≡ false
 lt_not a b h = grind (arith, nat_tests)
 
 pub lt_told : (a b : ℕ) → nat_lt a b ≡ true → a < b
@@ -89,12 +89,8 @@ lt_told a b h = grind (arith, nat_tests)
 not_lt_told : (a b : ℕ) → nat_lt a b ≡ false → b ≤ a
 not_lt_told a b h = grind (arith, nat_tests)
 
--- a path is below another one, and isn't it
-abbrev inside : List Step → List Step → Bool
-inside p q = is_below p q && nat_lt (length p) (length q)
-
 -- a path below another one is it, or inside
-below_parts : (c q : List Step) (w : ℕ) → cond (is_below c q) w 0 ≡ cond (eq_by_cmp path_cmp c q) w 0 + cond (inside c q) w 0
+below_parts : (c q : List Step) (w : ℕ) → cond (is_below c q) w 0 ≡ cond (eq_by_cmp path_cmp c q) w 0 + cond (is_inside c q) w 0
 below_parts c q w = by_tests (is_below c q) (nat_lt (length c) (length q)) (eq_by_cmp path_cmp c q) refl refl refl
   where
     is_same : eq_by_cmp path_cmp c q ≡ true → c ≡ q
@@ -214,7 +210,7 @@ module _ (m : Statements) (tree : IsTree m) where
 
   -- the bytes of all inside a path, and of all at it and inside
   abbrev inside_len : List Step → ℕ
-  inside_len p = sum_by (λ (e : Pair Value). cond (inside p e.0) (entry_len m e) 0) (map.entries m)
+  inside_len p = sum_by (λ (e : Pair Value). cond (is_inside p e.0) (entry_len m e) 0) (map.entries m)
 
   abbrev below_len : List Step → ℕ
   below_len c = sum_by (λ (e : Pair Value). cond (is_below c e.0) (entry_len m e) 0) (map.entries m)
@@ -222,10 +218,10 @@ module _ (m : Statements) (tree : IsTree m) where
   below_is : (c : List Step) (v : Value) → map.get m c ≡ Some v → below_len c ≡ entry_len m (c, v) + inside_len c
   below_is c v found =
       sum_same (λ (e : Pair Value). cond (is_below c e.0) (entry_len m e) 0)
-      (λ (e : Pair Value). cond (eq_by_cmp path_cmp c e.0) (entry_len m e) 0 + cond (inside c e.0) (entry_len m e) 0) (map.entries m)
-      (each_of (λ (e : Pair Value). cond (is_below c e.0) (entry_len m e) 0 ≡ cond (eq_by_cmp path_cmp c e.0) (entry_len m e) 0 + cond (inside c e.0) (entry_len m e) 0) (map.entries m)
+      (λ (e : Pair Value). cond (eq_by_cmp path_cmp c e.0) (entry_len m e) 0 + cond (is_inside c e.0) (entry_len m e) 0) (map.entries m)
+      (each_of (λ (e : Pair Value). cond (is_below c e.0) (entry_len m e) 0 ≡ cond (eq_by_cmp path_cmp c e.0) (entry_len m e) 0 + cond (is_inside c e.0) (entry_len m e) 0) (map.entries m)
       (λ e. below_parts c e.0 (entry_len m e)))
-      ∙ sum_both (λ (e : Pair Value). cond (eq_by_cmp path_cmp c e.0) (entry_len m e) 0) (λ (e : Pair Value). cond (inside c e.0) (entry_len m e) 0) (map.entries m)
+      ∙ sum_both (λ (e : Pair Value). cond (eq_by_cmp path_cmp c e.0) (entry_len m e) 0) (λ (e : Pair Value). cond (is_inside c e.0) (entry_len m e) 0) (map.entries m)
       ∙ ap (λ (n : ℕ). n + inside_len c) (one_entry c v (entry_len m) (map.entries m) (map.entries_sorted m) (sym (map.get-entries m c) ∙ found))
 
   -- the child that a statement is below
@@ -241,7 +237,7 @@ module _ (m : Statements) (tree : IsTree m) where
 
   -- a statement inside a path is below one child of it
   one_child_above : (p q : List Step) (w : ℕ) → is_some (map.get m q) ≡ true
-      → sum_by (λ (s : Step). cond (is_below (p ++ s ∷ []) q) w 0) (children_of m p) ≡ cond (inside p q) w 0
+      → sum_by (λ (s : Step). cond (is_below (p ++ s ∷ []) q) w 0) (children_of m p) ≡ cond (is_inside p q) w 0
   one_child_above p q w there = by_below (is_below p q) refl
     where
       none : ((s : Step) → is_below (p ++ s ∷ []) q ≡ false) → sum_by (λ (s : Step). cond (is_below (p ++ s ∷ []) q) w 0) (children_of m p) ≡ 0
@@ -282,9 +278,9 @@ module _ (m : Statements) (tree : IsTree m) where
   inside_is : (p : List Step) → sum_by (λ (s : Step). below_len (p ++ s ∷ [])) (children_of m p) ≡ inside_len p
   inside_is p =
       sum_swapped (λ (s : Step) (e : Pair Value). cond (is_below (p ++ s ∷ []) e.0) (entry_len m e) 0) (children_of m p) (map.entries m)
-      ∙ sum_same (λ (e : Pair Value). sum_by (λ (s : Step). cond (is_below (p ++ s ∷ []) e.0) (entry_len m e) 0) (children_of m p)) (λ (e : Pair Value). cond (inside p e.0) (entry_len m e) 0) (map.entries m)
+      ∙ sum_same (λ (e : Pair Value). sum_by (λ (s : Step). cond (is_below (p ++ s ∷ []) e.0) (entry_len m e) 0) (children_of m p)) (λ (e : Pair Value). cond (is_inside p e.0) (entry_len m e) 0) (map.entries m)
       (weaker (λ (e : Pair Value). is_some (map.get m e.0) ≡ true)
-      (λ (e : Pair Value). sum_by (λ (s : Step). cond (is_below (p ++ s ∷ []) e.0) (entry_len m e) 0) (children_of m p) ≡ cond (inside p e.0) (entry_len m e) 0) (map.entries m)
+      (λ (e : Pair Value). sum_by (λ (s : Step). cond (is_below (p ++ s ∷ []) e.0) (entry_len m e) 0) (children_of m p) ≡ cond (is_inside p e.0) (entry_len m e) 0) (map.entries m)
       (λ e there. one_child_above p e.0 (entry_len m e) there) entries_there)
 
   -- the length of a statement's text
@@ -361,8 +357,8 @@ module _ (m : Statements) (tree : IsTree m) where
 
   nothing_inside : (p : List Step) → 10 ≤ length p → 0 ≡ inside_len p
   nothing_inside p deep =
-      sym (sum_same (λ (e : Pair Value). cond (inside p e.0) (entry_len m e) 0) (λ (e : Pair Value). 0) (map.entries m)
-      (weaker (λ (e : Pair Value). is_some (map.get m e.0) ≡ true) (λ (e : Pair Value). cond (inside p e.0) (entry_len m e) 0 ≡ 0) (map.entries m)
+      sym (sum_same (λ (e : Pair Value). cond (is_inside p e.0) (entry_len m e) 0) (λ (e : Pair Value). 0) (map.entries m)
+      (weaker (λ (e : Pair Value). is_some (map.get m e.0) ≡ true) (λ (e : Pair Value). cond (is_inside p e.0) (entry_len m e) 0 ≡ 0) (map.entries m)
       (λ e there.
       let few = shallow_there e.0 there
       in ap (λ (b : Bool). cond (is_below p e.0 && b) (entry_len m e) 0) (lt_not (length p) (length e.0) (omega (arith, few, deep))) ∙ shut (is_below p e.0) (entry_len m e))
@@ -385,8 +381,8 @@ module _ (m : Statements) (tree : IsTree m) where
 
   all_inside : inside_len [] ≡ sum_by (entry_len m) (map.entries m)
   all_inside =
-      sum_same (λ (e : Pair Value). cond (inside [] e.0) (entry_len m e) 0) (entry_len m) (map.entries m)
-      (weaker (λ (e : Pair Value). is_some (map.get m e.0) ≡ true) (λ (e : Pair Value). cond (inside [] e.0) (entry_len m e) 0 ≡ entry_len m e) (map.entries m)
+      sum_same (λ (e : Pair Value). cond (is_inside [] e.0) (entry_len m e) 0) (entry_len m) (map.entries m)
+      (weaker (λ (e : Pair Value). is_some (map.get m e.0) ≡ true) (λ (e : Pair Value). cond (is_inside [] e.0) (entry_len m e) 0 ≡ entry_len m e) (map.entries m)
       (λ e there. ap (λ (b : Bool). cond b (entry_len m e) 0) (lt_is 0 (length e.0) (tree.statements.parents e.0 there).steps)) entries_there)
 
   -- the printed text is as long as its statements

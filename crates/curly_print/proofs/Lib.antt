@@ -5,6 +5,8 @@ pub mod LengthLemmas
 pub mod HoldsLemmas
 pub mod InheritedLemmas
 pub mod EntriesLemmas
+pub mod StatementsLemmas
+pub mod TreeTextLemmas
 pub mod OwnLemmas
 pub mod FollowedLemmas
 pub mod WalkLemmas

@@ -1,11 +1,14 @@
 -- What the printer's private functions print.
-use Rattle.std.specs.Prelude.{◌≡◌, ℕ, ◌+◌, ◌-◌, ◌<◌, List, [], ◌∷◌, ◌++◌, length}
-use Rattle.std.specs.List.{flat_map}
+use Rattle.std.specs.Prelude.{ℕ, ◌+◌, ◌==◌, nat_lt, Bool, ◌&&◌, List, [], ◌∷◌, ◌++◌, length, filter, take, Some, if◌then◌else◌}
+use Rattle.std.specs.List.{flat_map, prefix_len}
 use Rattle.std.specs.FinMap as map
 use Rattle.cfg_base.specs.declared.path.Step.{Step}
-use Rattle.cfg_base.specs.declared.path.TheConstants.{MAX_STEPS}
+use Rattle.cfg_base.specs.declared.value.Value.{Value}
+use Rattle.cfg_entries.specs.EntryMap.{Pair}
 use Rattle.cfg_lex.specs.Printed.{printed_word}
-use Rattle.cfg_tree.specs.Statements.{Statements}
+use Rattle.cfg_schema.specs.Profile.{same_word}
+use Rattle.cfg_tree.specs.Statements.{Statements, is_below, last_of}
+use Rattle.cfg_tree.specs.Children.{order_in, row_steps, steps_below}
 use Rattle.curly_print.specs.Printed.{statement_text, text_below}
 
 -- words, each behind a blank
@@ -17,9 +20,28 @@ abbrev pub child_text : ℕ → Statements → List Step → ℕ → Step → Li
 child_text levels m path indent step =
     statement_text indent step (map.get m (path ++ step ∷ [])) (text_below levels m (path ++ step ∷ []) (indent + 4))
 
--- the children of a path that are printed below it, so many levels deep; where there are some, their text isn't empty
-pub record ArePrinted (m : Statements) (path : List Step) (levels : ℕ) (steps : List Step) : Type 0 where
-  pub text : (indent : ℕ) → text_below levels m path indent ≡ flat_map (child_text (levels - 1) m path indent) steps
-  pub deep : 0 < length steps → 0 < levels
-  pub short : 0 < length steps → length path < MAX_STEPS
-  pub some : 0 < length steps → (indent : ℕ) → 0 < length (text_below levels m path indent)
+-- a path stands below another one, and isn't it
+abbrev pub is_inside : List Step → List Step → Bool
+is_inside path other = is_below path other && nat_lt (length path) (length other)
+
+-- the statements below a path, in the order of paths
+abbrev pub statements_inside : Statements → List Step → List (Pair Value)
+statements_inside m path = filter (λ e. is_inside path e.0) (map.entries m)
+
+-- of the statements behind a path those up to the first that isn't below it
+abbrev pub front_inside : List Step → List (Pair Value) → List (Pair Value)
+front_inside path behind = take (prefix_len (λ e. is_below path e.0) behind) behind
+
+-- a statement behind so many spaces, with so many levels below it
+abbrev pub own_text : ℕ → Statements → ℕ → Pair Value → List ℕ
+own_text levels m indent e = statement_text indent (last_of e.0) (Some e.1) (text_below levels m e.0 (indent + 4))
+
+-- the same of one whose path has so many steps, and this head
+abbrev pub own_headed : List ℕ → ℕ → ℕ → Statements → ℕ → Pair Value → List ℕ
+own_headed head count levels m indent e =
+    if length e.0 == count && same_word head (last_of e.0).head then own_text levels m indent e else []
+
+-- the statements below a path by a row
+abbrev pub own_row : ℕ → Statements → List Step → ℕ → ℕ → List ℕ
+own_row levels m path indent id =
+    flat_map (child_text levels m path indent) (row_steps id (order_in (map.get m path)) (steps_below m path))

@@ -16,6 +16,8 @@ mod line;
 mod note;
 mod printer;
 mod printing;
+mod statements;
+mod tree_printer;
 
 pub use inherited::print_inherited;
 pub use laws::own_statements_are_printed_alike;

@@ -19,7 +19,12 @@ use cfg_schema::{Place, RowId, head, row, rows_below};
 use cfg_tree::Full;
 use std::alloc::Global;
 
-fn named_child(alloc: Global, path: &Path, head: &[u8], name: &Word) -> Result<Path, NoMemory>
+pub(crate) fn named_child(
+    alloc: Global,
+    path: &Path,
+    head: &[u8],
+    name: &Word,
+) -> Result<Path, NoMemory>
     requires { length path.now < MAX_STEPS }
     ensures { IfOk result (λ child. child ≡ path.now ++ step_of head.now name.now ∷ []) }
 {

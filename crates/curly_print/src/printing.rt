@@ -1,112 +1,22 @@
 //! Statements as curly text.
 
-ghost use Rattle.std.specs.Prelude.{◌≡◌, ◌<◌, ◌≤◌, ◌+◌, ◌*◌, [], ◌++◌, ◌∷◌, length, IfOk, OnOk};
-ghost use Rattle.std.specs.List.{flat_map};
+ghost use Rattle.std.specs.Prelude.{◌≡◌, [], ◌++◌, IfOk, OnOk};
 ghost use Rattle.std.specs.FinMap as map;
 ghost use Rattle.cfg_base.specs.declared.path.TheConstants.{MAX_STEPS};
 ghost use Rattle.cfg_schema.specs.Profile.{is_level};
 ghost use Rattle.cfg_tree.specs.Statements.{last_of};
-ghost use Rattle.curly_print.specs.Printed.{ended, printed, statement_text, text_below};
-ghost use Rattle.curly_print.specs.Printing.{child_text, ArePrinted};
+ghost use Rattle.curly_print.specs.Printed.{printed, statement_text, text_below};
 
-use crate::line::{push_bytes, push_line, push_spaces};
-use cfg_base::{Bytes, MAX_STEPS, NoMemory, Path, Shape, Step};
+use crate::line::{push_bytes, push_line};
+use crate::statements::statements_below;
+use crate::tree_printer::TreePrinter;
+use cfg_base::{Bytes, MAX_STEPS, NoMemory, Path, Shape};
 use cfg_schema::{Place, row};
-use cfg_tree::{Steps, Tree};
+use cfg_tree::Tree;
 use std::alloc::Global;
 
 /// How many spaces a level stands behind the one above it.
 pub(crate) const INDENT: usize = 4;
-
-fn child_of(path: &Path, step: &Step) -> Result<Path, NoMemory>
-    requires { length path.now < MAX_STEPS }
-    ensures { IfOk result (λ child. child ≡ path.now ++ step.now ∷ []) }
-{
-    match path.push(step.clone()?) {
-        Ok(child) => Ok(child),
-        Err(_) => Err(NoMemory),
-    }
-}
-
-/// The steps below a path that are printed, so many levels deep.
-fn steps_below(alloc: Global, tree: &Tree, path: &Path, levels: usize) -> Result<Steps, NoMemory>
-    ensures { IfOk result (λ steps. ArePrinted tree.now path.now levels steps) }
-{
-    if levels == 0 {
-        return Ok(Steps::from(Vec::new(alloc)));
-    }
-    tree.children(path)
-}
-
-/// Puts the end of a statement's line at the end of a text, and what stands in it before that.
-#[cycle(printing)]
-fn push_end(
-    alloc: Global,
-    text: &mut Vec<u8>,
-    tree: &Tree,
-    path: &Path,
-    levels: usize,
-    indent: usize,
-) -> Result<(), NoMemory>
-    requires { indent + 4 * levels ≤ 64 }
-    ensures { OnOk result (text.new.items ≡ text.old.items ++ ended indent (text_below levels tree.now path.now (indent + 4))) }
-{
-    let steps = steps_below(alloc, tree, path, levels)?;
-    if steps.as_slice().is_empty() {
-        return push_bytes(text, b";\n".as_slice());
-    }
-    push_bytes(text, b" {\n".as_slice())?;
-    push_children(alloc, text, tree, path, &steps, levels - 1, indent + INDENT)?;
-    push_spaces(text, indent)?;
-    push_bytes(text, b"}\n".as_slice())
-}
-
-/// Puts a child of a path at the end of a text, with what stands in it.
-#[cycle(printing)]
-fn push_child(
-    alloc: Global,
-    text: &mut Vec<u8>,
-    tree: &Tree,
-    path: &Path,
-    step: &Step,
-    levels: usize,
-    indent: usize,
-) -> Result<(), NoMemory>
-    requires short { length path.now < MAX_STEPS }
-    requires near { indent + 4 * levels ≤ 64 }
-    ensures { OnOk result (text.new.items ≡ text.old.items ++ child_text levels tree.now path.now indent step.now) }
-{
-    let child = child_of(path, step)?;
-    match tree.at(&child) {
-        None => Ok(()),
-        Some(value) => {
-            push_spaces(text, indent)?;
-            push_line(text, step, value)?;
-            push_end(alloc, text, tree, &child, levels, indent)
-        }
-    }
-}
-
-/// Puts these children of a path at the end of a text.
-#[cycle(printing)]
-fn push_children(
-    alloc: Global,
-    text: &mut Vec<u8>,
-    tree: &Tree,
-    path: &Path,
-    steps: &Steps,
-    levels: usize,
-    indent: usize,
-) -> Result<(), NoMemory>
-    requires short { length path.now < MAX_STEPS }
-    requires near { indent + 4 * levels ≤ 64 }
-    ensures { OnOk result (text.new.items ≡ text.old.items ++ flat_map (child_text levels tree.now path.now indent) steps.now) }
-{
-    for step in steps.as_slice() {
-        push_child(alloc, text, tree, path, step, levels, indent)?;
-    }
-    Ok(())
-}
 
 pub(crate) fn is_level(shape: Shape) -> bool
     ensures { result ≡ is_level shape }
@@ -119,11 +29,10 @@ pub(crate) fn is_level(shape: Shape) -> bool
 
 /// Puts what stands in the top or in a level at the end of a text.
 fn push_level(alloc: Global, text: &mut Vec<u8>, tree: &Tree, path: &Path) -> Result<(), NoMemory>
-    requires { length path.now < MAX_STEPS }
     ensures { OnOk result (text.new.items ≡ text.old.items ++ text_below MAX_STEPS tree.now path.now 0) }
 {
-    let steps = steps_below(alloc, tree, path, MAX_STEPS)?;
-    push_children(alloc, text, tree, path, &steps, MAX_STEPS - 1, 0)
+    let inside = statements_below(alloc, tree, path)?;
+    TreePrinter::of(alloc, tree).push_below(text, path, &inside, MAX_STEPS, 0)
 }
 
 /// Puts the statement of a path at the end of a text, where it is there.

@@ -1,10 +1,11 @@
 use Rattle.std.proofs.Common.{◌≡◌, ◌++◌, length}
+use Rattle.cfg_tree.specs.Children.{is_child}
 use Rattle.curly_print.specs.Inheriting.{given_entries}
 use Rattle.curly_print.proofs.EntriesLemmas.{ahead}
 use Rattle.curly_print.proofs.entries.entries_below.Given as goal
 
 abbrev pub invariant-loop-at : goal.invariant-loop-at
-invariant-loop-at l = l.entries.items ++ ahead l.path l.walk ≡ given_entries l.full l.path
+invariant-loop-at l = l.entries.items ++ ahead l.path (is_child l.path) l.walk ≡ given_entries l.full l.path
 
 abbrev pub decreases-loop-at : goal.decreases-loop-at
 decreases-loop-at l = length l.walk

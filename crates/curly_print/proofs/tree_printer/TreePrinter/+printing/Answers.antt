@@ -1,0 +1,55 @@
+use Rattle.std.proofs.Common.{rules, ◌≡◌, ◌+◌, ◌-◌, ◌*◌, ◌<◌, List, length, None, Some, arith, sym, ap, ◌∙◌, flat_map}
+use Rattle.cfg_base.specs.declared.path.Step.{Step}
+use Rattle.cfg_schema.specs.Place.{place_of}
+use Rattle.cfg_tree.proofs.TargetLemmas.{room_below}
+use Rattle.curly_print.specs.Printing.{own_headed, own_row}
+use Rattle.curly_print.proofs.InheritedLemmas.{no_length, some_levels, put_nothing, put_same}
+use Rattle.curly_print.proofs.StatementsLemmas.{inside_at}
+use Rattle.curly_print.proofs.TreeTextLemmas.{no_levels, none_inside, no_place, by_rows, row_headed}
+use Rattle.curly_print.proofs.tree_printer.TreePrinter.+printing.Goals as goal
+
+pub push_below-returns-then-levels-eq0 : goal.push_below-returns-then-levels-eq0
+push_below-returns-then-levels-eq0 t c =
+    put_nothing c.args.text.now.items _ (no_levels c.args.levels c.args.self.now.tree.now c.args.path.now c.args.indent c.if-levels-eq0.true)
+
+pub push_below-returns-then-is_empty : goal.push_below-returns-then-is_empty
+push_below-returns-then-is_empty t c =
+    let none : length c.args.inside.now ≡ 0 = search rules
+    in put_nothing c.args.text.now.items _
+    (none_inside c.args.levels c.args.self.now.tree.now c.args.path.now c.args.indent (sym c.requires.inside ∙ no_length c.args.inside.now none))
+
+pub push_below-returns-in-None : goal.push_below-returns-in-None
+push_below-returns-in-None t c =
+    let placed : place_of c.args.path.now ≡ None = ap (λ (p : List Step). place_of p) (sym c.steps.ensures.steps) ∙ sym c.of.ensures ∙ c.in-None.is
+    in put_nothing c.args.text.now.items _ (no_place c.args.levels c.args.self.now.tree.now c.args.path.now c.args.indent placed)
+
+pub push_below-push_rows-requires : goal.push_below-push_rows-requires
+push_below-push_rows-requires t c =
+    let placed : place_of c.args.path.now ≡ Some c.in-Some.here =
+    ap (λ (p : List Step). place_of p) (sym c.steps.ensures.steps) ∙ sym c.of.ensures ∙ c.in-Some.is
+    in let some = some_levels c.args.levels c.if-levels-eq0.false
+    in let fewer : 8 * (c.args.levels - 1) + 7 < t = omega (arith, some, c.decreases)
+    in (fewer, (room_below c.args.path.now _ placed, (c.requires.inside, omega (arith, some, c.requires.near))))
+
+pub push_below-returns : goal.push_below-returns
+push_below-returns t c =
+    let placed : place_of c.args.path.now ≡ Some c.in-Some.here =
+    ap (λ (p : List Step). place_of p) (sym c.steps.ensures.steps) ∙ sym c.of.ensures ∙ c.in-Some.is
+    in let rows = c.deref.ensures.value ∙ c.in_ok-rows.ensures
+    in put_same c.push_rows.result c.args.text.now.items c.push_rows.new.text.items _ _ c.push_rows.ensures
+    (ap (λ ids. flat_map (own_row (c.args.levels - 1) c.args.self.now.tree.now c.args.path.now c.args.indent) ids) rows
+    ∙ sym (by_rows c.args.levels c.args.self.now.tree.now c.args.path.now c.args.indent c.in-Some.here (some_levels c.args.levels c.if-levels-eq0.false) placed))
+
+pub push_row-returns-else-row : goal.push_row-returns-else-row
+push_row-returns-else-row t c =
+    put_same c.push_headed.result c.args.text.now.items c.push_headed.new.text.items _ _ c.push_headed.ensures
+    (ap (λ head. flat_map (own_headed head (length c.args.path.now + 1) c.args.levels c.args.self.now.tree.now c.args.indent) c.args.inside.now) c.head-else-row.ensures
+    ∙ row_headed c.args.levels c.args.self.now.tree.now c.args.path.now c.args.indent c.args.id c.args.inside.now c.requires.inside
+    (ap (λ r. r.ordered) (sym c.row.ensures) ∙ c.if-row.false))
+
+pub push_headed-push_if_headed-requires : goal.push_headed-push_if_headed-requires
+push_headed-push_if_headed-requires t c =
+    let fewer : 8 * c.args.levels + 4 < t = omega (arith, c.decreases)
+    in let each = inside_at c.args.self.now.tree.now c.args.path.now c.args.inside.now c.split_at.result.1.now c.loop-at.at c.index-inside-at.result
+    c.requires.inside c.loop-at-test.true c.index-inside-at.is c.split_at.ensures.back
+    in (fewer, (each, c.requires.near))

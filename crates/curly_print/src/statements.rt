@@ -1,0 +1,136 @@
+//! The statements of a tree below a path, in the order of paths.
+
+ghost use Rattle.std.specs.Prelude.{◌≡◌, ◌<◌, ◌≤◌, ◌==◌, ◌&&◌, nat_lt, [], ◌∷◌, ◌++◌, length, if◌then◌else◌, IfOk, OnOk};
+ghost use Rattle.std.specs.List.{prefix_len};
+ghost use Rattle.cfg_base.specs.Order.{is_below};
+ghost use Rattle.cfg_schema.specs.Profile.{same_word};
+ghost use Rattle.cfg_tree.specs.Statements.{last_of};
+ghost use Rattle.curly_print.specs.Printing.{front_inside, statements_inside};
+
+use cfg_base::{NoMemory, Path, Step, Value};
+use cfg_tree::Tree;
+use std::alloc::Global;
+use std::marker::Model;
+
+/// A statement of a tree, and the steps of its path.
+#[derive(Debug, Drop)]
+pub(crate) struct Statement<'a> {
+    path: &'a Path,
+    steps: &'a [Step],
+    value: &'a Value,
+}
+
+impl<'a> Model for Statement<'a> {
+    ghost use Rattle.std.specs.Prelude.{◌≡◌, ◌<◌, length};
+    ghost use Rattle.cfg_base.specs.declared.value.Value as stored;
+    ghost use Rattle.cfg_entries.specs.EntryMap.{Pair};
+
+    ghost Value = { Pair stored.Value };
+
+    ghost view = { λ s. (s.path.now, s.value.now) };
+
+    ghost invariant = { λ s. (s.steps.now ≡ s.path.now) × (0 < length s.path.now) };
+}
+
+impl<'a> Statement<'a> {
+    pub fn of(path: &'a Path, value: &'a Value) -> Statement<'a>
+        requires { 0 < length path.now }
+        ensures { result ≡ (path.now, value.now) }
+    {
+        Statement {
+            path,
+            steps: path.steps(),
+            value,
+        }
+    }
+
+    /// The last step of its path.
+    pub fn step(&self) -> &'a Step
+        ensures { result.now ≡ last_of self.now.0 }
+    {
+        &self.steps[self.steps.len() - 1]
+    }
+
+    pub fn path(&self) -> &'a Path
+        ensures { result.now ≡ self.now.0 }
+    {
+        self.path
+    }
+
+    pub fn value(&self) -> &'a Value
+        ensures { result.now ≡ self.now.1 }
+    {
+        self.value
+    }
+
+    /// Whether its path has so many steps, and this head.
+    pub fn is_headed(&self, count: usize, head: &[u8]) -> bool
+        ensures { result ≡ ((length self.now.0 == count) && same_word head.now (last_of self.now.0).head) }
+    {
+        self.steps.len() == count && head == self.step().head.as_bytes()
+    }
+
+    /// Whether it is another one or below that.
+    fn is_below(&self, above: &Statement<'_>) -> bool
+        ensures { result ≡ is_below above.now.0 self.now.0 }
+    {
+        self.steps.starts_with(above.steps)
+    }
+}
+
+/// How many of the statements behind one are below it.
+fn count_below(above: &Statement<'_>, behind: &[Statement<'_>]) -> usize
+    ensures count { result ≡ prefix_len (λ e. is_below above.now.0 e.0) behind.now }
+    ensures within { result ≤ length behind.now }
+{
+    behind
+        .iter()
+        .take_while(|statement| statement.is_below(above))
+        .count()
+}
+
+/// Of the statements behind one those below it.
+pub(crate) fn front_inside<'a, 'b>(
+    above: &Statement<'_>,
+    behind: &'b [Statement<'a>],
+) -> &'b [Statement<'a>]
+    ensures { result.now ≡ front_inside above.now.0 behind.now }
+{
+    let (front, _) = behind.split_at(count_below(above, behind));
+    front
+}
+
+fn push_if_long<'a>(
+    statements: &mut Vec<Statement<'a>>,
+    count: usize,
+    path: &'a Path,
+    value: &'a Value,
+) -> Result<(), NoMemory>
+    ensures { OnOk result (statements.new.items
+        ≡ statements.old.items ++ (if nat_lt count (length path.now) then (path.now, value.now) ∷ [] else [])) }
+{
+    if count < path.steps().len() {
+        statements.push(Statement::of(path, value))?;
+    }
+    Ok(())
+}
+
+/// The statements below a path, in their order.
+pub(crate) fn statements_below<'a>(
+    alloc: Global,
+    tree: &'a Tree,
+    path: &Path,
+) -> Result<Vec<Statement<'a>>, NoMemory>
+    ensures { IfOk result (λ statements. statements.items ≡ statements_inside tree.now path.now) }
+{
+    let count = path.steps().len();
+    let mut statements = Vec::new(alloc);
+    let mut walk = tree.walk_from(path);
+    while let Some((at, value)) = walk.next() {
+        if !at.is_below(path) {
+            break;
+        }
+        push_if_long(&mut statements, count, at, value)?;
+    }
+    Ok(statements)
+}

@@ -1,0 +1,254 @@
+//! The statements below a path of a tree, as curly text.
+
+ghost use Rattle.std.specs.Prelude.{◌≡◌, ◌<◌, ◌≤◌, ◌+◌, ◌*◌, ◌++◌, length, map, OnOk};
+ghost use Rattle.std.specs.List.{flat_map};
+ghost use Rattle.std.specs.FinMap as finite;
+ghost use Rattle.cfg_base.specs.declared.path.TheConstants.{MAX_STEPS};
+ghost use Rattle.cfg_tree.specs.Children.{order_in};
+ghost use Rattle.cfg_tree.specs.Tree.{step_of};
+ghost use Rattle.curly_print.specs.Printed.{ended, text_below};
+ghost use Rattle.curly_print.specs.Printing.{child_text, front_inside, own_headed, own_row, own_text, statements_inside};
+
+use crate::line::{push_bytes, push_line, push_spaces};
+use crate::printer::named_child;
+use crate::printing::INDENT;
+use crate::statements::{Statement, front_inside, statements_below};
+use cfg_base::{NoMemory, Path, Word};
+use cfg_schema::{Place, RowId, head, row, rows_below};
+use cfg_tree::Tree;
+use std::alloc::Global;
+
+/// A tree that is printed.
+#[derive(Debug, Drop)]
+pub(crate) struct TreePrinter<'a> {
+    alloc: Global,
+    tree: &'a Tree,
+}
+
+impl<'a> TreePrinter<'a> {
+    pub fn of(alloc: Global, tree: &'a Tree) -> TreePrinter<'a>
+        ensures { result.tree.now ≡ tree.now }
+    {
+        TreePrinter { alloc, tree }
+    }
+
+    /// Puts the statements below a path at the end of a text, so many levels deep.
+    #[cycle(printing)]
+    pub fn push_below(
+        &self,
+        text: &mut Vec<u8>,
+        path: &Path,
+        inside: &[Statement<'a>],
+        levels: usize,
+        indent: usize,
+    ) -> Result<(), NoMemory>
+        requires inside { inside.now ≡ statements_inside self.now.tree.now path.now }
+        requires near { indent + 4 * levels ≤ 64 }
+        ensures { OnOk result (text.new.items ≡ text.old.items ++ text_below levels self.now.tree.now path.now indent) }
+    {
+        if levels == 0 {
+            return Ok(());
+        }
+        if inside.is_empty() {
+            return Ok(());
+        }
+        let here = match Place::of(path.steps()) {
+            None => return Ok(()),
+            Some(here) => here,
+        };
+        let rows = rows_below(self.alloc, here.row, here.in_group)?;
+        self.push_rows(text, path, inside, &rows, levels - 1, indent)
+    }
+
+    /// Puts the statements below a path by these rows at the end of a text.
+    #[cycle(printing)]
+    fn push_rows(
+        &self,
+        text: &mut Vec<u8>,
+        path: &Path,
+        inside: &[Statement<'a>],
+        rows: &[RowId],
+        levels: usize,
+        indent: usize,
+    ) -> Result<(), NoMemory>
+        requires short { length path.now < MAX_STEPS }
+        requires inside { inside.now ≡ statements_inside self.now.tree.now path.now }
+        requires near { indent + 4 * levels ≤ 60 }
+        ensures { OnOk result (text.new.items ≡ text.old.items ++ flat_map (own_row levels self.now.tree.now path.now indent) rows.now) }
+    {
+        for id in rows {
+            self.push_row(text, path, inside, *id, levels, indent)?;
+        }
+        Ok(())
+    }
+
+    #[cycle(printing)]
+    fn push_row(
+        &self,
+        text: &mut Vec<u8>,
+        path: &Path,
+        inside: &[Statement<'a>],
+        id: RowId,
+        levels: usize,
+        indent: usize,
+    ) -> Result<(), NoMemory>
+        requires short { length path.now < MAX_STEPS }
+        requires inside { inside.now ≡ statements_inside self.now.tree.now path.now }
+        requires near { indent + 4 * levels ≤ 60 }
+        ensures { OnOk result (text.new.items ≡ text.old.items ++ own_row levels self.now.tree.now path.now indent id) }
+    {
+        if row(id).ordered {
+            self.push_named(text, path, head(id), levels, indent)
+        } else {
+            self.push_headed(text, path, inside, head(id), levels, indent)
+        }
+    }
+
+    /// Puts the children with a head at the end of a text, in the user's order.
+    #[cycle(printing)]
+    fn push_named(
+        &self,
+        text: &mut Vec<u8>,
+        path: &Path,
+        head: &[u8],
+        levels: usize,
+        indent: usize,
+    ) -> Result<(), NoMemory>
+        requires short { length path.now < MAX_STEPS }
+        requires near { indent + 4 * levels ≤ 60 }
+        ensures { OnOk result (text.new.items ≡ text.old.items ++ flat_map (child_text levels self.now.tree.now path.now indent)
+            (map (step_of head.now) (order_in (finite.get self.now.tree.now path.now)))) }
+    {
+        let value = match self.tree.at(path) {
+            None => return Ok(()),
+            Some(value) => value,
+        };
+        let mut left = value.order.iter();
+        while let Some(name) = left.next() {
+            self.push_child(text, path, head, name, levels, indent)?;
+        }
+        Ok(())
+    }
+
+    #[cycle(printing)]
+    fn push_child(
+        &self,
+        text: &mut Vec<u8>,
+        path: &Path,
+        head: &[u8],
+        name: &Word,
+        levels: usize,
+        indent: usize,
+    ) -> Result<(), NoMemory>
+        requires short { length path.now < MAX_STEPS }
+        requires near { indent + 4 * levels ≤ 60 }
+        ensures { OnOk result (text.new.items
+            ≡ text.old.items ++ child_text levels self.now.tree.now path.now indent (step_of head.now name.now)) }
+    {
+        let child = named_child(self.alloc, path, head, name)?;
+        match self.tree.at(&child) {
+            None => Ok(()),
+            Some(value) => {
+                let inside = statements_below(self.alloc, self.tree, &child)?;
+                self.push_statement(text, &Statement::of(&child, value), &inside, levels, indent)
+            }
+        }
+    }
+
+    /// Puts the children with a head at the end of a text, in the order of paths.
+    #[cycle(printing)]
+    fn push_headed(
+        &self,
+        text: &mut Vec<u8>,
+        path: &Path,
+        inside: &[Statement<'a>],
+        head: &[u8],
+        levels: usize,
+        indent: usize,
+    ) -> Result<(), NoMemory>
+        requires inside { inside.now ≡ statements_inside self.now.tree.now path.now }
+        requires near { indent + 4 * levels ≤ 60 }
+        ensures { OnOk result (text.new.items
+            ≡ text.old.items ++ flat_map (own_headed head.now (length path.now + 1) levels self.now.tree.now indent) inside.now) }
+    {
+        let count = path.steps().len() + 1;
+        for at in 0..inside.len() {
+            let (_, behind) = inside.split_at(at + 1);
+            self.push_if_headed(text, &inside[at], behind, count, head, levels, indent)?;
+        }
+        Ok(())
+    }
+
+    /// Puts a statement at the end of a text, where its path has so many steps, and this head.
+    #[cycle(printing)]
+    fn push_if_headed(
+        &self,
+        text: &mut Vec<u8>,
+        statement: &Statement<'a>,
+        behind: &[Statement<'a>],
+        count: usize,
+        head: &[u8],
+        levels: usize,
+        indent: usize,
+    ) -> Result<(), NoMemory>
+        requires inside { front_inside statement.now.0 behind.now ≡ statements_inside self.now.tree.now statement.now.0 }
+        requires near { indent + 4 * levels ≤ 60 }
+        ensures { OnOk result (text.new.items ≡ text.old.items ++ own_headed head.now count levels self.now.tree.now indent statement.now) }
+    {
+        if !statement.is_headed(count, head) {
+            return Ok(());
+        }
+        self.push_statement(
+            text,
+            statement,
+            front_inside(statement, behind),
+            levels,
+            indent,
+        )
+    }
+
+    /// Puts a statement at the end of a text, with what stands in it.
+    #[cycle(printing)]
+    fn push_statement(
+        &self,
+        text: &mut Vec<u8>,
+        statement: &Statement<'_>,
+        inside: &[Statement<'a>],
+        levels: usize,
+        indent: usize,
+    ) -> Result<(), NoMemory>
+        requires inside { inside.now ≡ statements_inside self.now.tree.now statement.now.0 }
+        requires near { indent + 4 * levels ≤ 60 }
+        ensures { OnOk result (text.new.items ≡ text.old.items ++ own_text levels self.now.tree.now indent statement.now) }
+    {
+        push_spaces(text, indent)?;
+        push_line(text, statement.step(), statement.value())?;
+        self.push_end(text, statement.path(), inside, levels, indent)
+    }
+
+    /// Puts the end of a statement's line at the end of a text, and what stands in it before that.
+    #[cycle(printing)]
+    fn push_end(
+        &self,
+        text: &mut Vec<u8>,
+        path: &Path,
+        inside: &[Statement<'a>],
+        levels: usize,
+        indent: usize,
+    ) -> Result<(), NoMemory>
+        requires inside { inside.now ≡ statements_inside self.now.tree.now path.now }
+        requires near { indent + 4 * levels ≤ 60 }
+        ensures { OnOk result (text.new.items ≡ text.old.items ++ ended indent (text_below levels self.now.tree.now path.now (indent + 4))) }
+    {
+        let end = text.len();
+        push_bytes(text, b" {\n".as_slice())?;
+        let within = text.len();
+        self.push_below(text, path, inside, levels, indent + INDENT)?;
+        if text.len() == within {
+            text.truncate(end);
+            return push_bytes(text, b";\n".as_slice());
+        }
+        push_spaces(text, indent)?;
+        push_bytes(text, b"}\n".as_slice())
+    }
+}
