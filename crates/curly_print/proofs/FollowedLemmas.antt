@@ -18,7 +18,7 @@ use Rattle.cfg_tree.proofs.MapLemmas.{same_path}
 pub itself : (p : List Step) → path_cmp p p ≡ Less → ⊥
 itself p e = let tie : is_eq (path_cmp p p) ≡ true = (same_path p p).1 refl in let c = sym tie ∙ ap is_eq e in cc
 
-not_both : (p q : List Step) → path_cmp p q ≡ Less → path_cmp q p ≡ Less → ⊥
+pub not_both : (p q : List Step) → path_cmp p q ≡ Less → path_cmp q p ≡ Less → ⊥
 not_both p q e f = let turned = paths_total.antisymm q p ∙ ap ordering_reverse e in let c = sym turned ∙ f in cc
 
 less : (o : Ordering) → T (is_lt o) → o ≡ Less
@@ -35,18 +35,18 @@ back_of true b h = h
 back_of false b h = absurd h
 
 -- a path among entries is that of the first, or stands among the others
-by_first : (e : Pair Value) (es : List (Pair Value)) (q : List Step) (P : Type 0) → IsSome (find path_cmp q (e ∷ es)) → (q ≡ e.0 → P) → (IsSome (find path_cmp q es) → P) → P
+pub by_first : (e : Pair Value) (es : List (Pair Value)) (q : List Step) (P : Type 0) → IsSome (find path_cmp q (e ∷ es)) → (q ≡ e.0 → P) → (IsSome (find path_cmp q es) → P) → P
 by_first e es q P there one more = by_test (eq_by_cmp path_cmp q e.0) refl there
   where
     by_test : (b : Bool) → eq_by_cmp path_cmp q e.0 ≡ b → IsSome (cond b (Some e.1) (find path_cmp q es)) → P
     by_test true k h = one ((same_path q e.0).0 k)
     by_test false k h = more h
 
-later : (es : List (Pair Value)) (a q : List Step) → T (below_all path_cmp a es) → IsSome (find path_cmp q es) → path_cmp a q ≡ Less
-later [] a q all there = cc
-later (e ∷ es) a q all there =
+pub later_found : (es : List (Pair Value)) (a q : List Step) → T (below_all path_cmp a es) → IsSome (find path_cmp q es) → path_cmp a q ≡ Less
+later_found [] a q all there = cc
+later_found (e ∷ es) a q all there =
     by_first e es q (path_cmp a q ≡ Less) there (λ same. subst (λ (x : List Step). path_cmp a x ≡ Less) (sym same) (less _ (front_of _ _ all)))
-    (λ more. later es a q (back_of _ _ all) more)
+    (λ more. later_found es a q (back_of _ _ all) more)
 
 -- a path before a list stands before each of it
 pub all_in : (a : List Step) (front back : List (Pair Value)) (e : Pair Value) → T (below_all path_cmp a (front ++ e ∷ back)) → path_cmp a e.0 ≡ Less
@@ -54,16 +54,16 @@ all_in a [] back e all = less _ (front_of _ _ all)
 all_in a (g ∷ front) back e all = all_in a front back e (back_of _ _ all)
 
 -- among entries in order, what is after one of them stands behind it
-behind : (front back : List (Pair Value)) (e : Pair Value) (q : List Step) → T (is_sorted path_cmp (front ++ e ∷ back)) → IsSome (find path_cmp q (front ++ e ∷ back))
+pub found_behind : (front back : List (Pair Value)) (e : Pair Value) (q : List Step) → T (is_sorted path_cmp (front ++ e ∷ back)) → IsSome (find path_cmp q (front ++ e ∷ back))
     → path_cmp e.0 q ≡ Less → IsSome (find path_cmp q back)
-behind [] back e q sorted there after =
+found_behind [] back e q sorted there after =
     by_first e back q (IsSome (find path_cmp q back)) there (λ same. absurd (itself e.0 (subst (λ (x : List Step). path_cmp e.0 x ≡ Less) same after))) (λ more. more)
-behind (g ∷ front) back e q sorted there after =
+found_behind (g ∷ front) back e q sorted there after =
     by_first g (front ++ e ∷ back) q (IsSome (find path_cmp q back)) there
     (λ same. absurd (not_both g.0 e.0 (all_in g.0 front back e (front_of _ _ sorted)) (subst (λ (x : List Step). path_cmp e.0 x ≡ Less) same after)))
-    (λ more. behind front back e q (back_of _ _ sorted) more after)
+    (λ more. found_behind front back e q (back_of _ _ sorted) more after)
 
-back_sorted : (front back : List (Pair Value)) → T (is_sorted path_cmp (front ++ back)) → T (is_sorted path_cmp back)
+pub back_sorted : (front back : List (Pair Value)) → T (is_sorted path_cmp (front ++ back)) → T (is_sorted path_cmp back)
 back_sorted [] back sorted = sorted
 back_sorted (g ∷ front) back sorted = back_sorted front back (back_of _ _ sorted)
 
@@ -89,11 +89,11 @@ module _ (m : Statements) where
   followed front rest e f are = record {
     found = found_as _ f.0 are ∙ ap (λ (xs : List (Pair Value)). find path_cmp f.0 xs) (sym (append_assoc front (e ∷ []) (f ∷ rest)))
         ∙ found_at (front ++ e ∷ []) rest f (subst (λ (xs : List (Pair Value)). T (is_sorted path_cmp xs)) (sym (append_assoc front (e ∷ []) (f ∷ rest))) (sorted_as _ are));
-    after = later (f ∷ rest) e.0 f.0 (front_of _ _ here) (ap (λ (b : Bool). is_some (cond b (Some f.1) (find path_cmp f.0 rest))) ((same_path f.0 f.0).1 refl));
+    after = later_found (f ∷ rest) e.0 f.0 (front_of _ _ here) (ap (λ (b : Bool). is_some (cond b (Some f.1) (find path_cmp f.0 rest))) ((same_path f.0 f.0).1 refl));
     first = λ q there after before.
-        let back = behind front (f ∷ rest) e q (sorted_as _ are) (subst IsSome (found_as _ q are) there) after
+        let back = found_behind front (f ∷ rest) e q (sorted_as _ are) (subst IsSome (found_as _ q are) there) after
         in by_first f rest q ⊥ back (λ same. itself f.0 (subst (λ (x : List Step). path_cmp x f.0 ≡ Less) same before))
-        (λ more. not_both q f.0 before (later rest f.0 q (front_of _ _ (back_of _ _ here)) more));
+        (λ more. not_both q f.0 before (later_found rest f.0 q (front_of _ _ (back_of _ _ here)) more));
   }
     where
       here : T (is_sorted path_cmp (e ∷ f ∷ rest))
@@ -102,4 +102,4 @@ module _ (m : Statements) where
   -- behind the last entry there is no statement
   pub unfollowed : (front : List (Pair Value)) (e : Pair Value) → map.entries m ≡ front ++ e ∷ [] → IsLast m e.0
   unfollowed front e are q there after =
-      let back = behind front [] e q (sorted_as _ are) (subst IsSome (found_as _ q are) there) after in cc
+      let back = found_behind front [] e q (sorted_as _ are) (subst IsSome (found_as _ q are) there) after in cc

@@ -35,7 +35,7 @@ no_less : (p : List Step) → path_cmp p p ≡ Less → ⊥
 no_less p e = let tie = (same_path p p).1 refl in let d = ap is_eq e in cc
 
 -- a child stands after its path
-child_after : (p : List Step) (s : Step) → path_cmp p (p ++ s ∷ []) ≡ Less
+pub child_after : (p : List Step) (s : Step) → path_cmp p (p ++ s ∷ []) ≡ Less
 child_after p s = by_order _ refl (below_le p (p ++ s ∷ []) (below_more p p s (below_self p)))
   where
     by_order : (o : Ordering) → path_cmp p (p ++ s ∷ []) ≡ o → is_le o ≡ true → o ≡ Less

@@ -10,13 +10,13 @@ use Rattle.cfg_schema.specs.declared.place.Place.{Place}
 use Rattle.cfg_schema.specs.Profile.{row_of, head_of, rows_below, same_word}
 use Rattle.cfg_schema.specs.Place.{place_of}
 use Rattle.cfg_schema.proofs.TestLemmas.{both}
-use Rattle.cfg_tree.specs.Statements.{Statements, is_below, last_of}
+use Rattle.cfg_tree.specs.Statements.{Statements, is_below, last_of, size_of}
 use Rattle.cfg_tree.specs.Children.{is_child, order_in, row_steps, steps_below, children_at, children_of}
 use Rattle.cfg_tree.specs.Tree.{step_of}
 use Rattle.curly_print.specs.Printed.{statement_text, text_below}
 use Rattle.curly_print.specs.Printing.{child_text, is_inside, own_headed, own_row, own_text, statements_inside}
 use Rattle.curly_print.proofs.EntriesLemmas.{child_inside, child_is, found_all, long_child, none_given, right_inside}
-use Rattle.curly_print.proofs.InheritedLemmas.{rows_flat}
+use Rattle.curly_print.proofs.InheritedLemmas.{no_length, rows_flat}
 
 -- no level is left
 pub no_levels : (levels : ℕ) (m : Statements) (path : List Step) (indent : ℕ) → levels ≡ 0 → text_below levels m path indent ≡ []
@@ -44,6 +44,12 @@ none_inside (suc levels) m path indent none = all_none (children_of m path)
         (λ (o : Option Value). statement_text indent s o (text_below levels m (path ++ s ∷ []) (indent + 4)) ++ flat_map (child_text levels m path indent) steps)
         (none_given m path (is_inside path) s (right_inside path s) none)
         ∙ all_none steps
+
+-- nothing is printed of a tree without statements
+pub no_statements : (levels : ℕ) (m : Statements) (path : List Step) (indent : ℕ) → size_of m ≡ 0 → text_below levels m path indent ≡ []
+no_statements levels m path indent none =
+    none_inside levels m path indent
+    (ap (λ (es : List (Pair Value)). filter (λ (e : Pair Value). is_inside path e.0) es) (no_length (map.entries m) (sym (map.len-entries m) ∙ none)))
 
 -- the statements below a path are printed row by row
 pub by_rows : (levels : ℕ) (m : Statements) (path : List Step) (indent : ℕ) (here : Place) → 0 < levels → place_of path ≡ Some here

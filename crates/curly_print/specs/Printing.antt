@@ -28,9 +28,9 @@ is_inside path other = is_below path other && nat_lt (length path) (length other
 abbrev pub statements_inside : Statements → List Step → List (Pair Value)
 statements_inside m path = filter (λ e. is_inside path e.0) (map.entries m)
 
--- of the statements behind a path those up to the first that isn't below it
+-- of the statements behind a path those up to the first that isn't longer
 abbrev pub front_inside : List Step → List (Pair Value) → List (Pair Value)
-front_inside path behind = take (prefix_len (λ e. is_below path e.0) behind) behind
+front_inside path behind = take (prefix_len (λ e. nat_lt (length path) (length e.0)) behind) behind
 
 -- a statement behind so many spaces, with so many levels below it
 abbrev pub own_text : ℕ → Statements → ℕ → Pair Value → List ℕ

@@ -31,6 +31,9 @@ pub(crate) fn is_level(shape: Shape) -> bool
 fn push_level(alloc: Global, text: &mut Vec<u8>, tree: &Tree, path: &Path) -> Result<(), NoMemory>
     ensures { OnOk result (text.new.items ≡ text.old.items ++ text_below MAX_STEPS tree.now path.now 0) }
 {
+    if tree.count() == 0 {
+        return Ok(());
+    }
     let inside = statements_below(alloc, tree, path)?;
     TreePrinter::of(alloc, tree).push_below(text, path, &inside, MAX_STEPS, 0)
 }

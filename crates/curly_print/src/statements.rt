@@ -2,7 +2,6 @@
 
 ghost use Rattle.std.specs.Prelude.{◌≡◌, ◌<◌, ◌≤◌, ◌==◌, ◌&&◌, nat_lt, [], ◌∷◌, ◌++◌, length, if◌then◌else◌, IfOk, OnOk};
 ghost use Rattle.std.specs.List.{prefix_len};
-ghost use Rattle.cfg_base.specs.Order.{is_below};
 ghost use Rattle.cfg_schema.specs.Profile.{same_word};
 ghost use Rattle.cfg_tree.specs.Statements.{last_of};
 ghost use Rattle.curly_print.specs.Printing.{front_inside, statements_inside};
@@ -70,22 +69,22 @@ impl<'a> Statement<'a> {
         self.steps.len() == count && head == self.step().head.as_bytes()
     }
 
-    /// Whether it is another one or below that.
-    fn is_below(&self, above: &Statement<'_>) -> bool
-        ensures { result ≡ is_below above.now.0 self.now.0 }
+    /// Whether its path is longer than another one's.
+    fn is_longer(&self, above: &Statement<'_>) -> bool
+        ensures { result ≡ nat_lt (length above.now.0) (length self.now.0) }
     {
-        self.steps.starts_with(above.steps)
+        above.steps.len() < self.steps.len()
     }
 }
 
-/// How many of the statements behind one are below it.
-fn count_below(above: &Statement<'_>, behind: &[Statement<'_>]) -> usize
-    ensures count { result ≡ prefix_len (λ e. is_below above.now.0 e.0) behind.now }
+/// How many of the statements behind one come before the first that isn't longer.
+fn count_inside(above: &Statement<'_>, behind: &[Statement<'_>]) -> usize
+    ensures count { result ≡ prefix_len (λ e. nat_lt (length above.now.0) (length e.0)) behind.now }
     ensures within { result ≤ length behind.now }
 {
     behind
         .iter()
-        .take_while(|statement| statement.is_below(above))
+        .take_while(|statement| statement.is_longer(above))
         .count()
 }
 
@@ -96,7 +95,7 @@ pub(crate) fn front_inside<'a, 'b>(
 ) -> &'b [Statement<'a>]
     ensures { result.now ≡ front_inside above.now.0 behind.now }
 {
-    let (front, _) = behind.split_at(count_below(above, behind));
+    let (front, _) = behind.split_at(count_inside(above, behind));
     front
 }
 

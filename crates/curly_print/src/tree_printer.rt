@@ -5,7 +5,7 @@ ghost use Rattle.std.specs.List.{flat_map};
 ghost use Rattle.std.specs.FinMap as finite;
 ghost use Rattle.cfg_base.specs.declared.path.TheConstants.{MAX_STEPS};
 ghost use Rattle.cfg_tree.specs.Children.{order_in};
-ghost use Rattle.cfg_tree.specs.Tree.{step_of};
+ghost use Rattle.cfg_tree.specs.Tree.{step_of, IsTree};
 ghost use Rattle.curly_print.specs.Printed.{ended, text_below};
 ghost use Rattle.curly_print.specs.Printing.{child_text, front_inside, own_headed, own_row, own_text, statements_inside};
 
@@ -43,6 +43,7 @@ impl<'a> TreePrinter<'a> {
         indent: usize,
     ) -> Result<(), NoMemory>
         requires inside { inside.now ≡ statements_inside self.now.tree.now path.now }
+        requires tree { IsTree self.now.tree.now }
         requires near { indent + 4 * levels ≤ 64 }
         ensures { OnOk result (text.new.items ≡ text.old.items ++ text_below levels self.now.tree.now path.now indent) }
     {
@@ -73,6 +74,7 @@ impl<'a> TreePrinter<'a> {
     ) -> Result<(), NoMemory>
         requires short { length path.now < MAX_STEPS }
         requires inside { inside.now ≡ statements_inside self.now.tree.now path.now }
+        requires tree { IsTree self.now.tree.now }
         requires near { indent + 4 * levels ≤ 60 }
         ensures { OnOk result (text.new.items ≡ text.old.items ++ flat_map (own_row levels self.now.tree.now path.now indent) rows.now) }
     {
@@ -94,6 +96,7 @@ impl<'a> TreePrinter<'a> {
     ) -> Result<(), NoMemory>
         requires short { length path.now < MAX_STEPS }
         requires inside { inside.now ≡ statements_inside self.now.tree.now path.now }
+        requires tree { IsTree self.now.tree.now }
         requires near { indent + 4 * levels ≤ 60 }
         ensures { OnOk result (text.new.items ≡ text.old.items ++ own_row levels self.now.tree.now path.now indent id) }
     {
@@ -115,6 +118,7 @@ impl<'a> TreePrinter<'a> {
         indent: usize,
     ) -> Result<(), NoMemory>
         requires short { length path.now < MAX_STEPS }
+        requires tree { IsTree self.now.tree.now }
         requires near { indent + 4 * levels ≤ 60 }
         ensures { OnOk result (text.new.items ≡ text.old.items ++ flat_map (child_text levels self.now.tree.now path.now indent)
             (map (step_of head.now) (order_in (finite.get self.now.tree.now path.now)))) }
@@ -141,6 +145,7 @@ impl<'a> TreePrinter<'a> {
         indent: usize,
     ) -> Result<(), NoMemory>
         requires short { length path.now < MAX_STEPS }
+        requires tree { IsTree self.now.tree.now }
         requires near { indent + 4 * levels ≤ 60 }
         ensures { OnOk result (text.new.items
             ≡ text.old.items ++ child_text levels self.now.tree.now path.now indent (step_of head.now name.now)) }
@@ -167,6 +172,7 @@ impl<'a> TreePrinter<'a> {
         indent: usize,
     ) -> Result<(), NoMemory>
         requires inside { inside.now ≡ statements_inside self.now.tree.now path.now }
+        requires tree { IsTree self.now.tree.now }
         requires near { indent + 4 * levels ≤ 60 }
         ensures { OnOk result (text.new.items
             ≡ text.old.items ++ flat_map (own_headed head.now (length path.now + 1) levels self.now.tree.now indent) inside.now) }
@@ -192,6 +198,7 @@ impl<'a> TreePrinter<'a> {
         indent: usize,
     ) -> Result<(), NoMemory>
         requires inside { front_inside statement.now.0 behind.now ≡ statements_inside self.now.tree.now statement.now.0 }
+        requires tree { IsTree self.now.tree.now }
         requires near { indent + 4 * levels ≤ 60 }
         ensures { OnOk result (text.new.items ≡ text.old.items ++ own_headed head.now count levels self.now.tree.now indent statement.now) }
     {
@@ -218,6 +225,7 @@ impl<'a> TreePrinter<'a> {
         indent: usize,
     ) -> Result<(), NoMemory>
         requires inside { inside.now ≡ statements_inside self.now.tree.now statement.now.0 }
+        requires tree { IsTree self.now.tree.now }
         requires near { indent + 4 * levels ≤ 60 }
         ensures { OnOk result (text.new.items ≡ text.old.items ++ own_text levels self.now.tree.now indent statement.now) }
     {
@@ -237,6 +245,7 @@ impl<'a> TreePrinter<'a> {
         indent: usize,
     ) -> Result<(), NoMemory>
         requires inside { inside.now ≡ statements_inside self.now.tree.now path.now }
+        requires tree { IsTree self.now.tree.now }
         requires near { indent + 4 * levels ≤ 60 }
         ensures { OnOk result (text.new.items ≡ text.old.items ++ ended indent (text_below levels self.now.tree.now path.now (indent + 4))) }
     {

@@ -29,7 +29,7 @@ push_below-push_rows-requires t c =
     ap (λ (p : List Step). place_of p) (sym c.steps.ensures.steps) ∙ sym c.of.ensures ∙ c.in-Some.is
     in let some = some_levels c.args.levels c.if-levels-eq0.false
     in let fewer : 8 * (c.args.levels - 1) + 7 < t = omega (arith, some, c.decreases)
-    in (fewer, (room_below c.args.path.now _ placed, (c.requires.inside, omega (arith, some, c.requires.near))))
+    in (fewer, (room_below c.args.path.now _ placed, (c.requires.inside, (c.requires.tree, omega (arith, some, c.requires.near)))))
 
 pub push_below-returns : goal.push_below-returns
 push_below-returns t c =
@@ -50,6 +50,6 @@ push_row-returns-else-row t c =
 pub push_headed-push_if_headed-requires : goal.push_headed-push_if_headed-requires
 push_headed-push_if_headed-requires t c =
     let fewer : 8 * c.args.levels + 4 < t = omega (arith, c.decreases)
-    in let each = inside_at c.args.self.now.tree.now c.args.path.now c.args.inside.now c.split_at.result.1.now c.loop-at.at c.index-inside-at.result
+    in let each = inside_at c.args.self.now.tree.now c.requires.tree c.args.path.now c.args.inside.now c.split_at.result.1.now c.loop-at.at c.index-inside-at.result
     c.requires.inside c.loop-at-test.true c.index-inside-at.is c.split_at.ensures.back
-    in (fewer, (each, c.requires.near))
+    in (fewer, (each, (c.requires.tree, c.requires.near)))
