@@ -96,7 +96,7 @@ names_by t u same ss = ap (λ (v : Step → Bool). map (λ s. s.name) (filter v 
 
 -- no path of a listing is longer than its levels
 module _ {X : Type 0} (at : List Step → Option X) (steps : List Step → List Step) where
-  abbrev AreShort : ℕ → List (List Step × X) → Type 0
+  abbrev pub AreShort : ℕ → List (List Step × X) → Type 0
   AreShort n [] = Unit {0}
   AreShort n (e ∷ es) = (length e.0 ≤ n) × AreShort n es
 
@@ -104,7 +104,7 @@ module _ {X : Type 0} (at : List Step → Option X) (steps : List Step → List 
   short_append n [] fs h k = k
   short_append n (e ∷ es) fs h k = (h.0, short_append n es fs h.1 k)
 
-  listed_short : (n : ℕ) (p : List Step) (m : ℕ) → length p + n ≤ m → AreShort m (listed at steps n p)
+  pub listed_short : (n : ℕ) (p : List Step) (m : ℕ) → length p + n ≤ m → AreShort m (listed at steps n p)
   unfolding listed
   listed_short zero p m l = tt
   listed_short (suc n) p m l = all (λ s. listed_short n (p ++ s ∷ []) m (omega (arith, l, length-append p (s ∷ [])))) (steps p)
@@ -118,7 +118,7 @@ module _ {X : Type 0} (at : List Step → Option X) (steps : List Step → List 
       all each [] = tt
       all each (s ∷ ss) = short_append m _ _ (one_short s (each s) (at (p ++ s ∷ []))) (all each ss)
 
-  find_short : (n : ℕ) (q : List Step) (es : List (List Step × X)) → n < length q → AreShort n es → find path_cmp q es ≡ None
+  pub find_short : (n : ℕ) (q : List Step) (es : List (List Step × X)) → n < length q → AreShort n es → find path_cmp q es ≡ None
   find_short n q [] l h = refl
   find_short n q (e ∷ es) l h = ap (λ (b : Bool). cond b (Some e.1) (find path_cmp q es)) (apart _ refl) ∙ find_short n q es l h.1
     where
@@ -141,10 +141,10 @@ module _ (look : Look) (kids : List Step → List Step) (known : (p : List Step)
       by_gift None = refl
       by_gift (Some g) = refl
 
-  closed : (p : List Step) (s : Step) → p ≢ [] → IsSome (given_at look kids (p ++ s ∷ [])) → IsSome (given_at look kids p)
+  pub closed : (p : List Step) (s : Step) → p ≢ [] → IsSome (given_at look kids (p ++ s ∷ [])) → IsSome (given_at look kids p)
   closed p s h k = some_given p ∙ gift_above look kids apart p s h (sym (some_given (p ++ s ∷ [])) ∙ k)
 
-  complete : (p : List Step) (s : Step) → IsSome (given_at look kids (p ++ s ∷ [])) → Among s (steps_at look kids p)
+  pub complete : (p : List Step) (s : Step) → IsSome (given_at look kids (p ++ s ∷ [])) → Among s (steps_at look kids p)
   complete p s k = steps_complete look kids known p s (sym (some_given (p ++ s ∷ [])) ∙ k)
 
   made_sorted : IsStrictlySortedBy path_cmp (keys_of (made look kids))

@@ -32,3 +32,4 @@ pub mod EndLemmas
 pub mod LivePartLemmas
 pub mod AlikeLemmas
 pub mod KidsLemmas
+pub mod UnalteredLemmas

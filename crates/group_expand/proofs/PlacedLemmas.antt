@@ -100,7 +100,7 @@ all_pass t [] h = refl
 all_pass {X} t (x ∷ xs) h = ap (λ (b : Bool). cond b (x ∷ filter t xs) (filter t xs)) h.0 ∙ ap (λ (ys : List X). x ∷ ys) (all_pass t xs h.1)
 
 -- what the map of a row has at the path of a statement
-sorted_pairs : (row : List Stated) → Ordered row → IsStrictlySortedBy path_cmp (keys_of (pairs_of row))
+pub sorted_pairs : (row : List Stated) → Ordered row → IsStrictlySortedBy path_cmp (keys_of (pairs_of row))
 unfolding IsStrictlySortedBy
 sorted_pairs [] h = tt
 sorted_pairs (x ∷ xs) h = (behind xs h.0, sorted_pairs xs h.1)

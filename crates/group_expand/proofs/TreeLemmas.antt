@@ -3,6 +3,7 @@ use Rattle.std.proofs.Common.{◌≡◌, inl, inr, ℕ, ◌+◌, ◌<◌, ◌≤
 use Rattle.std.specs.Prelude.{IsSome, ◌||◌}
 use Rattle.std.specs.List.{flat_map, AllByRecursion, list_any}
 use Rattle.std.specs.FinMap as finite
+use Rattle.std.specs.FinMap.{find}
 use Rattle.std.specs.Ordering.{eq_by_cmp}
 use Rattle.cfg_base.specs.Order.{path_cmp}
 use Rattle.cfg_base.specs.declared.path.Step.{Step}
@@ -18,18 +19,20 @@ use Rattle.cfg_tree.proofs.PathLemmas.{split}
 use Rattle.cfg_tree.proofs.FollowLemmas.{typed_place}
 use Rattle.group_expand.specs.Live.{Look, is_live, live_from, is_active}
 use Rattle.group_expand.specs.Sources.{source, groups_step, has_word, live_ones, fits_wildcard, fitting_below, fitting_from, fitting, applied, excepted, sources_by}
-use Rattle.group_expand.specs.Expansion.{gift_at, IsExpansion}
+use Rattle.group_expand.specs.Expansion.{is_apply, gift_at, IsExpansion}
+use Rattle.group_expand.specs.Listed.{listed}
+use Rattle.cfg_tree.specs.declared.full.Given.{Given}
 use Rattle.group_expand.specs.Made.{given_at, made, expansion_made}
 use Rattle.group_expand.specs.Front.{steps_at}
 use Rattle.std.specs.List.Sorted.{IsStrictlySortedBy}
 use Rattle.std.specs.Map.{keys_of}
-use Rattle.group_expand.proofs.CandidateLemmas.{steps_sorted}
-use Rattle.group_expand.proofs.InOrderLemmas.{listed_sorted}
+use Rattle.group_expand.proofs.CandidateLemmas.{steps_sorted, once_sorted}
+use Rattle.group_expand.proofs.InOrderLemmas.{AreInside, listed_both, listed_sorted}
 use Rattle.group_expand.proofs.ClosedLemmas.{HasOne, some_of_append, gift_parts, both}
-use Rattle.group_expand.proofs.ListedLemmas.{Among}
+use Rattle.group_expand.proofs.ListedLemmas.{Among, listed_at}
 use Rattle.group_expand.proofs.StepLemmas.{child_is, last_is}
 use Rattle.group_expand.proofs.ApartLemmas.{nothing_below_apply}
-use Rattle.group_expand.proofs.FullLemmas.{full_is}
+use Rattle.group_expand.proofs.FullLemmas.{full_is, closed, complete}
 use Rattle.cfg_tree.specs.Tree.{step_of}
 use Rattle.group_expand.specs.Sources.{Source}
 use Rattle.group_expand.specs.Expansion.{Gift}
@@ -136,7 +139,7 @@ module _ (look : Look) (kids : List Step → List Step) where
 
 -- the statements of a tree
 module _ (m : Statements) (tree : IsTree m) where
-  few_steps : (q : List Step) → IsSome (finite.get m q) → length q ≤ 9
+  pub few_steps : (q : List Step) → IsSome (finite.get m q) → length q ≤ 9
   few_steps q there = let here = typed_place q top_place (tree.typed.paths q there) in (path_most q here.0 here.1).2
 
   kid_among : (ks : List (List Step)) (p : List Step) (s : Step) → list_any (eq_by_cmp path_cmp (p ++ s ∷ [])) ks ≡ true → Among s (map last_of (filter (is_child p) ks))
@@ -158,12 +161,33 @@ module _ (m : Statements) (tree : IsTree m) where
   kids_known : (p : List Step) (s : Step) → IsSome (finite.get m (p ++ s ∷ [])) → Among s (steps_below m p)
   kids_known p s there = kid_among (finite.keys m) p s (sym (finite.contains_key-keys m (p ++ s ∷ [])) ∙ there)
 
+  above_shallow : (p : List Step) → 15 < length p → gift_at (finite.get m) (steps_below m) p ≡ None
+  above_shallow p long = gift_short (finite.get m) (steps_below m) 15 (λ q there. let k = few_steps q there in omega (arith, k)) p long
+
+  below_apart : (p : List Step) (s : Step) → is_live (finite.get m) (p ++ s ∷ []) ≡ true → is_apply p ≡ false
+  below_apart p s live = nothing_below_apply m tree p s (ends_there (finite.get m) (steps_below m) [] p s live)
+
+  abbrev At : List Step → Option Given
+  At = given_at (finite.get m) (steps_below m)
+
+  abbrev Steps : List Step → List Step
+  Steps = steps_at (finite.get m) (steps_below m)
+
+  -- what is listed below a path has what is given at each path there, and is in order
+  pub tree_listed : (n : ℕ) (p : List Step) (t : Step) (r : List Step) → length r < n → find path_cmp (p ++ t ∷ r) (listed At Steps n p) ≡ At (p ++ t ∷ r)
+  tree_listed n p t r l =
+      listed_at At Steps
+      (closed (finite.get m) (steps_below m) kids_known below_apart above_shallow)
+      (complete (finite.get m) (steps_below m) kids_known below_apart above_shallow)
+      (λ q. once_sorted _ (steps_sorted (finite.get m) (steps_below m) kids_known q)) n p t r l
+
+  pub tree_both : (n : ℕ) (p : List Step) → AreInside p (listed At Steps n p) × IsStrictlySortedBy path_cmp (keys_of (listed At Steps n p))
+  tree_both n p = listed_both At Steps (steps_sorted (finite.get m) (steps_below m) kids_known) n p
+
   -- of each tree, what is made is the expansion
   pub tree_full : IsExpansion m (expansion_made (finite.get m) (steps_below m))
   tree_full =
-      full_is (finite.get m) (steps_below m) kids_known
-      (λ p s live. nothing_below_apply m tree p s (ends_there (finite.get m) (steps_below m) [] p s live))
-      (λ p long. gift_short (finite.get m) (steps_below m) 15 (λ q there. let k = few_steps q there in omega (arith, k)) p long)
+      full_is (finite.get m) (steps_below m) kids_known below_apart above_shallow
 
   pub tree_sorted : IsStrictlySortedBy path_cmp (keys_of (made (finite.get m) (steps_below m)))
   tree_sorted = listed_sorted (given_at (finite.get m) (steps_below m)) (steps_at (finite.get m) (steps_below m)) (steps_sorted (finite.get m) (steps_below m) kids_known) MAX_STEPS []

@@ -12,3 +12,4 @@ pub mod Offer
 pub mod Fronts
 pub mod Placed
 pub mod Runs
+pub mod Unaltered

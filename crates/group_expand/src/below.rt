@@ -1,17 +1,19 @@
 //! The expansion from the top down.
 
-ghost use Rattle.std.specs.Prelude.{◌≡◌, ◌<◌, ◌+◌, ◌++◌, ◌∷◌, [], length, true, IfOk, IsErrOf};
+ghost use Rattle.std.specs.Prelude.{◌≡◌, ◌<◌, ◌≤◌, ◌+◌, ◌++◌, ◌∷◌, [], length, true, IfOk, IsErrOf};
+ghost use Rattle.cfg_base.specs.declared.path.TheConstants.{MAX_STEPS};
 ghost use Rattle.cfg_schema.specs.Place.{place_of};
 ghost use Rattle.cfg_tree.specs.Statements.{last_of, parent_of};
 ghost use Rattle.cfg_tree.specs.declared.limit.TheConstants.{MAX_EXPANDED};
 ghost use Rattle.group_expand.specs.Sources.{is_plain};
-ghost use Rattle.group_expand.specs.Placed.{run_at, look_of, kids_of, given_below, given_for, IsLevelAt};
+ghost use Rattle.group_expand.specs.Placed.{run_at, look_of, kids_of, given_below, given_for, IsRow, IsLevelAt};
 
 use crate::fault::ExpandFault;
 use crate::given::{child, opened, pushed};
 use crate::offer::Offer;
 use crate::plan::Plan;
 use crate::run::{behind_run, first_run, first_step, own_of, run_gift};
+use crate::unaltered::{push_unaltered, unaltered_of};
 use cfg_base::{Path, Step};
 use cfg_schema::Place;
 use cfg_tree::FullMaker;
@@ -34,6 +36,8 @@ fn expand_path<'m>(
     requires above { above.now ≡ place_of (parent_of path.now) }
     requires run { run.now ≡ run_at (look_of plan.now) (kids_of plan.now) plan.now (parent_of path.now) (last_of path.now) }
     requires plain { is_plain path.now ≡ true }
+    requires deep { MAX_STEPS ≤ levels + length path.now }
+    requires row { IsRow plan.now }
     ensures ok { IfOk result (λ maker. maker ≡ made.entry ++ given_for plan.now levels (parent_of path.now) (last_of path.now)) }
     ensures wide { IsErrOf result ExpandFault.TooWide → MAX_EXPANDED < length made.entry + length (given_for plan.now levels (parent_of path.now) (last_of path.now)) }
 {
@@ -64,9 +68,15 @@ fn expand_run<'m>(
     requires place { place.now ≡ place_of above.now }
     requires run { run.now ≡ run_at (look_of plan.now) (kids_of plan.now) plan.now above.now step.now }
     requires plain { is_plain (above.now ++ step.now ∷ []) ≡ true }
+    requires deep { MAX_STEPS ≤ levels + length above.now + 1 }
+    requires row { IsRow plan.now }
     ensures ok { IfOk result (λ maker. maker ≡ made.entry ++ given_for plan.now levels above.now step.now) }
     ensures wide { IsErrOf result ExpandFault.TooWide → MAX_EXPANDED < length made.entry + length (given_for plan.now levels above.now step.now) }
 {
+    // Where nothing is inherited, what stands there and below is as it was.
+    if let Some(node) = unaltered_of(run) {
+        return push_unaltered(alloc, node, made);
+    }
     // A statement of the configuration's own has its path already.
     if let Some(node) = own_of(run) {
         return expand_path(alloc, plan, levels, node.path(), place, step, run, made);
@@ -88,6 +98,8 @@ pub fn expand_level<'m>(
 ) -> Result<FullMaker<'m>, ExpandFault>
     requires level { IsLevelAt (look_of plan.now) (kids_of plan.now) plan.now path.now level.now }
     requires place { 0 < length level.now → place.now ≡ place_of path.now }
+    requires deep { MAX_STEPS ≤ levels + length path.now }
+    requires row { IsRow plan.now }
     ensures ok { IfOk result (λ maker. maker ≡ made.entry ++ given_below plan.now levels path.now) }
     ensures wide { IsErrOf result ExpandFault.TooWide → MAX_EXPANDED < length made.entry + length (given_below plan.now levels path.now) }
 {

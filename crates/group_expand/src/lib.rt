@@ -21,6 +21,7 @@ mod plan;
 mod row;
 mod run;
 mod step;
+mod unaltered;
 
 pub use expanding::expand;
 pub use fault::ExpandFault;

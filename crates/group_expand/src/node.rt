@@ -54,6 +54,13 @@ impl<'a> Node<'a> {
         self.value
     }
 
+    /// What stands below it.
+    pub fn below(&self) -> &'a [Statement<'a>]
+        ensures { result.now ≡ self.now.below }
+    {
+        self.below
+    }
+
     /// The same node.
     pub fn same(&self) -> Node<'a>
         ensures { result ≡ self.now }

@@ -112,7 +112,7 @@ fn source_gift(run: &[Offer<'_>]) -> Result<Option<Gift>, NoMemory>
 }
 
 /// Whether a path stands outside the groups.
-fn is_outside(path: &Path) -> bool
+pub fn is_outside(path: &Path) -> bool
     ensures { result ≡ is_outside path.now }
 {
     match path.steps().first() {

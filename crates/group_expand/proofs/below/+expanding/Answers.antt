@@ -1,4 +1,4 @@
-use Rattle.std.proofs.Common.{◌≡◌, ◌<◌, ◌+◌, List, [], ◌∷◌, ◌++◌, length, sym, ap, subst, ◌∙◌, arith, rules, refl}
+use Rattle.std.proofs.Common.{◌≡◌, ◌<◌, ◌+◌, List, [], ◌∷◌, ◌++◌, length, length-append, sym, ap, subst, ◌∙◌, arith, rules, refl}
 use Rattle.std.specs.Prelude.{IfOk, IsErrOf}
 use Rattle.std.specs.Option.{option_copied}
 use Rattle.cfg_base.specs.declared.path.Step.{Step}
@@ -16,6 +16,7 @@ use Rattle.group_expand.proofs.NodeLemmas.{append_nothing}
 use Rattle.group_expand.proofs.StepsLemmas.{IsRunStep, run_step, way_some}
 use Rattle.group_expand.proofs.ExpandLemmas.{none_more, some_more, some_wide, nothing_below, run_more, run_wide, level_done, run_is_at, run_plain, own_path}
 use Rattle.group_expand.proofs.EndLemmas.{ok_map}
+use Rattle.group_expand.proofs.UnalteredLemmas.{unaltered_entries}
 use Rattle.group_expand.proofs.below.+expanding.Goals as goal
 
 pub expand_level-returns-then-levels-eq0-clause-ok : goal.expand_level-returns-then-levels-eq0-clause-ok
@@ -31,9 +32,12 @@ expand_level-expand_run-requires t c = (
       run_is_at c.args.plan.now c.args.path.now c.args.levels c.args.level.now c.requires.level c.loop-left.left.now c.first_run.result.now _
           (run_step c.args.level.now c.loop-left.left.now c.first_run.result.now _ c.loop-left.invariant.1 (search rules) c.first_run.ensures refl)
           c.first_step-step.result.now c.first_step-step.ensures,
-      run_plain c.args.plan.now c.args.path.now c.args.levels c.args.level.now c.requires.level c.loop-left.left.now c.first_run.result.now _
-          (run_step c.args.level.now c.loop-left.left.now c.first_run.result.now _ c.loop-left.invariant.1 (search rules) c.first_run.ensures refl)
-          c.first_step-step.result.now c.first_step-step.ensures,
+      (
+        run_plain c.args.plan.now c.args.path.now c.args.levels c.args.level.now c.requires.level c.loop-left.left.now c.first_run.result.now _
+            (run_step c.args.level.now c.loop-left.left.now c.first_run.result.now _ c.loop-left.invariant.1 (search rules) c.first_run.ensures refl)
+            c.first_step-step.result.now c.first_step-step.ensures,
+        (let k = c.if-levels-eq0.false in let d = c.requires.deep in omega (arith, k, d), c.requires.row),
+      ),
     ),
   ),
 )
@@ -83,7 +87,7 @@ expand_path-returns-in-Ok-clause-wide t c = λ h.
 pub expand_run-expand_path-requires : goal.expand_run-expand_path-requires
 expand_run-expand_path-requires t c =
     let is : c.path.result.now ≡ c.args.above.now ++ c.args.step.now ∷ []
-    = c.path.ensures ∙ own_path c.args.plan.now c.args.above.now c.args.step.now c.args.run.now c.in-Some.node.now c.requires.run (ap option_copied (sym c.in-Some.is) ∙ c.own_of.ensures)
+    = c.path.ensures ∙ own_path c.args.plan.now c.args.above.now c.args.step.now c.args.run.now c.in-Some-own_of.node.now c.requires.run (ap option_copied (sym c.in-Some-own_of.is) ∙ c.own_of.ensures)
     in let parts = ends c.path.result.now c.args.above.now c.args.step.now is
     in (
       search rules,
@@ -97,23 +101,38 @@ expand_run-expand_path-requires t c =
               c.requires.run
                   ∙ ap (λ (q : List Step). run_at (look_of c.args.plan.now) (kids_of c.args.plan.now) c.args.plan.now q c.args.step.now) parts.0
                   ∙ ap (run_at (look_of c.args.plan.now) (kids_of c.args.plan.now) c.args.plan.now (parent_of c.path.result.now)) parts.1,
-              ap is_plain is ∙ c.requires.plain,
+              (
+                ap is_plain is ∙ c.requires.plain,
+                (let d = c.requires.deep in let l = ap (λ (q : List Step). length q) is in omega (arith, d, l, length-append c.args.above.now (c.args.step.now ∷ [])), c.requires.row),
+              ),
             ),
           ),
         ),
       ),
     )
 
-pub expand_run-returns-in-Some-clause-ok : goal.expand_run-returns-in-Some-clause-ok
-expand_run-returns-in-Some-clause-ok t c =
+pub expand_run-returns-in-Some-own_of-clause-ok : goal.expand_run-returns-in-Some-own_of-clause-ok
+expand_run-returns-in-Some-own_of-clause-ok t c =
     let is : c.path.result.now ≡ c.args.above.now ++ c.args.step.now ∷ []
-    = c.path.ensures ∙ own_path c.args.plan.now c.args.above.now c.args.step.now c.args.run.now c.in-Some.node.now c.requires.run (ap option_copied (sym c.in-Some.is) ∙ c.own_of.ensures)
+    = c.path.ensures ∙ own_path c.args.plan.now c.args.above.now c.args.step.now c.args.run.now c.in-Some-own_of.node.now c.requires.run (ap option_copied (sym c.in-Some-own_of.is) ∙ c.own_of.ensures)
     in subst (λ (es : List (List Step × Given)). IfOk c.expand_path.result (λ maker. maker ≡ c.args.made ++ es))
     (given_by_ends c.args.plan.now c.args.levels c.path.result.now c.args.above.now c.args.step.now is) c.expand_path.ensures.ok
 
-pub expand_run-returns-in-Some-clause-wide : goal.expand_run-returns-in-Some-clause-wide
-expand_run-returns-in-Some-clause-wide t c =
+pub expand_run-returns-in-Some-own_of-clause-wide : goal.expand_run-returns-in-Some-own_of-clause-wide
+expand_run-returns-in-Some-own_of-clause-wide t c =
     let is : c.path.result.now ≡ c.args.above.now ++ c.args.step.now ∷ []
-    = c.path.ensures ∙ own_path c.args.plan.now c.args.above.now c.args.step.now c.args.run.now c.in-Some.node.now c.requires.run (ap option_copied (sym c.in-Some.is) ∙ c.own_of.ensures)
+    = c.path.ensures ∙ own_path c.args.plan.now c.args.above.now c.args.step.now c.args.run.now c.in-Some-own_of.node.now c.requires.run (ap option_copied (sym c.in-Some-own_of.is) ∙ c.own_of.ensures)
     in subst (λ (es : List (List Step × Given)). IsErrOf c.expand_path.result TooWide → MAX_EXPANDED < length c.args.made + length es)
     (given_by_ends c.args.plan.now c.args.levels c.path.result.now c.args.above.now c.args.step.now is) c.expand_path.ensures.wide
+
+pub expand_run-returns-in-Some-clause-ok : goal.expand_run-returns-in-Some-clause-ok
+expand_run-returns-in-Some-clause-ok t c =
+    subst (λ (es : List (List Step × Given)). IfOk c.push_unaltered.result (λ maker. maker ≡ c.args.made ++ es))
+    (unaltered_entries c.args.plan.now c.requires.row c.args.above.now c.args.step.now c.args.run.now c.in-Some.node.now c.args.levels c.requires.run (ap option_copied (sym c.in-Some.is) ∙ c.unaltered_of.ensures) c.requires.deep)
+    c.push_unaltered.ensures.ok
+
+pub expand_run-returns-in-Some-clause-wide : goal.expand_run-returns-in-Some-clause-wide
+expand_run-returns-in-Some-clause-wide t c =
+    subst (λ (es : List (List Step × Given)). IsErrOf c.push_unaltered.result TooWide → MAX_EXPANDED < length c.args.made + length es)
+    (unaltered_entries c.args.plan.now c.requires.row c.args.above.now c.args.step.now c.args.run.now c.in-Some.node.now c.args.levels c.requires.run (ap option_copied (sym c.in-Some.is) ∙ c.unaltered_of.ensures) c.requires.deep)
+    c.push_unaltered.ensures.wide
