@@ -32,4 +32,5 @@ pub mod EndLemmas
 pub mod LivePartLemmas
 pub mod AlikeLemmas
 pub mod KidsLemmas
+pub mod DepthLemmas
 pub mod UnalteredLemmas

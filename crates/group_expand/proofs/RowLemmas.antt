@@ -188,7 +188,7 @@ so_far_within p rest left i some = omega arith
 pub next_shorter : (left next : List Stated) → 0 < length left → Counted left → Ordered left → next ≡ beside_of left → length next < length left
 next_shorter left next some c o e = subst (λ (ys : List Stated). length ys < length left) (sym e) (beside_kept left some c o).2
 
-first_path : (x y : Stated) (xs ys : List (Pair Value)) → (x.path, x.value) ∷ xs ≡ (y.path, y.value) ∷ ys → x.path ≡ y.path
+pub first_path : (x y : Stated) (xs ys : List (Pair Value)) → (x.path, x.value) ∷ xs ≡ (y.path, y.value) ∷ ys → x.path ≡ y.path
 first_path x y xs ys e = ap head_path e
   where
     head_path : List (Pair Value) → List Step
@@ -202,7 +202,7 @@ behind_by p (x ∷ xs) (y ∷ ys) e h =
     let first : x.path ≡ y.path = first_path x y (pairs_of xs) (pairs_of ys) e in let more : pairs_of xs ≡ pairs_of ys = ap (λ (zs : List (Pair Value)). drop 1 zs) e
     in (subst (λ (q : List Step). path_cmp p q ≡ Less) first h.0, behind_by p xs ys more h.1)
 
-drop_suc : (x : Stated) (xs : List Stated) (k : ℕ) → drop (suc k + 1) (x ∷ xs) ≡ drop (k + 1) xs
+pub drop_suc : (x : Stated) (xs : List Stated) (k : ℕ) → drop (suc k + 1) (x ∷ xs) ≡ drop (k + 1) xs
 drop_suc x xs k = let e : suc k + 1 ≡ suc (k + 1) = omega arith in ap (λ (j : ℕ). drop j (x ∷ xs)) e
 
 -- the order of a row is that of its entries

@@ -35,7 +35,7 @@ use Rattle.group_expand.specs.Unaltered.{is_unaltered, is_unaltered_node, unalte
 use Rattle.group_expand.proofs.FrontLemmas.{raw_more}
 use Rattle.group_expand.proofs.ClosedLemmas.{both, negated}
 use Rattle.group_expand.proofs.StepLemmas.{last_is}
-use Rattle.group_expand.proofs.ApartLemmas.{parent_is}
+use Rattle.group_expand.proofs.DepthLemmas.{above_there}
 use Rattle.group_expand.proofs.NodeLemmas.{append_nothing, inside_longer, ordered_kept}
 use Rattle.group_expand.proofs.PlacedLemmas.{live_more, all_pass, sorted_pairs}
 use Rattle.group_expand.proofs.FullLemmas.{entries_kept, listed_short, find_short}
@@ -198,29 +198,6 @@ module _ (row : List Stated) (h : IsRow row) where
   abbrev K : List Step → List Step
   K = kids_of row
 
-  parent_there : (p : List Step) (s : Step) → p ≢ [] → L p ≡ None → L (p ++ s ∷ []) ≡ None
-  parent_there p s some e = by_value (L (p ++ s ∷ [])) refl
-    where
-      two : (q : List Step) → q ≢ [] → 1 < length (q ++ s ∷ [])
-      two [] k = absurd (k refl)
-      two (x ∷ q) k = omega (arith, length-append q (s ∷ []))
-
-      by_value : (o : Option Value) → L (p ++ s ∷ []) ≡ o → o ≡ None
-      by_value None f = refl
-      by_value (Some v) f =
-          absurd (none_some (L p) e (subst (λ (q : List Step). IsSome (L q)) (parent_is p s) ((h.tree.statements.parents (p ++ s ∷ []) (ap is_some f)).parent (two p some))))
-
-  none_below : (p r : List Step) → p ≢ [] → L p ≡ None → L (p ++ r) ≡ None
-  none_below p [] some e = ap L (append_nothing p) ∙ e
-  none_below p (s ∷ r) some e = ap L (sym (append_assoc p (s ∷ []) r)) ∙ none_below (p ++ s ∷ []) r (longer p s) (parent_there p s some e)
-
-  above_there : (p r : List Step) → p ≢ [] → IsSome (L (p ++ r)) → IsSome (L p)
-  above_there p r some k = by_value (L p) refl
-    where
-      by_value : (o : Option Value) → L p ≡ o → IsSome o
-      by_value None e = absurd (none_some (L (p ++ r)) (none_below p r some e) k)
-      by_value (Some v) e = refl
-
   found_in : (q : List Step) → L q ≡ find path_cmp q (pairs_of row)
   found_in q = finite.get-from_entries paths_total (pairs_of row) q
 
@@ -259,7 +236,7 @@ module _ (row : List Stated) (h : IsRow row) where
     live_on f [] e some = ap (is_live L) (append_nothing (P ++ f)) ∙ e
     live_on f (s ∷ r) e some =
         let there : IsSome (L ((P ++ (f ++ s ∷ [])) ++ r)) = subst (λ (q : List Step). IsSome (L q)) (shifted f s r) some
-        in let here : IsSome (L (P ++ (f ++ s ∷ []))) = above_there (P ++ (f ++ s ∷ [])) r (λ k. longer (P ++ f) s (append_assoc P f (s ∷ []) ∙ k)) there
+        in let here : IsSome (L (P ++ (f ++ s ∷ []))) = above_there (map_of row) h.tree (P ++ (f ++ s ∷ [])) r (λ k. longer (P ++ f) s (append_assoc P f (s ∷ []) ∙ k)) there
         in let one : is_live L (P ++ (f ++ s ∷ [])) ≡ true
         = ap (is_live L) (sym (append_assoc P f (s ∷ []))) ∙ live_more L (P ++ f) s
         ∙ ap (λ (b : Bool). b && is_active (L ((P ++ f) ++ s ∷ []))) e

@@ -1,5 +1,5 @@
 -- The statements of a configuration in a row, in order, each with how many of the row stand at it and below it. For the inner functions.
-use Rattle.std.specs.Prelude.{◌≡◌, ℕ, ◌+◌, Bool, not, List, [], ◌∷◌, length, filter, map}
+use Rattle.std.specs.Prelude.{◌≡◌, ℕ, ◌+◌, Bool, true, not, nat_lt, List, [], ◌∷◌, length, filter, map}
 use Rattle.std.specs.List.{AllByRecursion}
 use Rattle.std.specs.declared.cmp.Ordering.TheVariants.{Less}
 use Rattle.cfg_base.specs.Order.{path_cmp, is_below}
@@ -30,6 +30,17 @@ AreBehind path xs = AllByRecursion (λ x. path_cmp path x.path ≡ Less) xs
 abbrev pub Ordered : List Stated → Type 0
 Ordered [] = Unit {0}
 Ordered (x ∷ xs) = AreBehind x.path xs × Ordered xs
+
+-- what of a row behind a path is below it is told by its depth, up to the first statement that isn't below
+abbrev pub IsToldByDepth : List Step → List Stated → Type 0
+IsToldByDepth path [] = Unit {0}
+IsToldByDepth path (x ∷ xs) =
+    (is_below path x.path ≡ nat_lt (length path) (length x.path)) × (is_below path x.path ≡ true → IsToldByDepth path xs)
+
+-- the same of each statement and those behind it
+abbrev pub AreToldByDepth : List Stated → Type 0
+AreToldByDepth [] = Unit {0}
+AreToldByDepth (x ∷ xs) = IsToldByDepth x.path xs × AreToldByDepth xs
 
 -- what stands below the first statement, and what stands beside it
 abbrev pub below_of : List Stated → List Stated

@@ -108,8 +108,7 @@ fn begins_live(above: &Path, part: &[Statement<'_>]) -> bool
     requires inside { AreInside above.now part.now }
     ensures { result ≡ begins_live above.now part.now }
 {
-    let path = part[0].path();
-    path.steps().len() == above.steps().len() + 1 && !part[0].value().inactive
+    part[0].depth() == above.steps().len() + 1 && !part[0].value().inactive
 }
 
 /// The first statement, with what stands below it.

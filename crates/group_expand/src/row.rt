@@ -1,30 +1,35 @@
 //! The statements of a configuration in a row, each with how many stand at it and below it.
 
-ghost use Rattle.std.specs.Prelude.{◌≡◌, ◌<◌, ◌≤◌, ◌+◌, length, filter, drop, IfOk};
+ghost use Rattle.std.specs.Prelude.{◌≡◌, ◌<◌, ◌≤◌, ◌+◌, nat_lt, length, filter, drop, IfOk};
 ghost use Rattle.std.specs.FinMap as map;
 ghost use Rattle.cfg_tree.specs.Tree.{IsTree};
 ghost use Rattle.group_expand.specs.Placed.{map_of, IsRow};
-ghost use Rattle.group_expand.specs.Row.{Counted, Ordered, AreBehind, below_of, beside_of, is_under, size_in, path_in, pairs_of};
+ghost use Rattle.group_expand.specs.Row.{Counted, Ordered, AreBehind, IsToldByDepth, AreToldByDepth};
+ghost use Rattle.group_expand.specs.Row.{below_of, beside_of, is_under, size_in, path_in, pairs_of};
 
 use cfg_base::{NoMemory, Path, Value};
 use cfg_tree::Tree;
 use std::alloc::Global;
 use std::marker::Model;
 
-/// A statement, and how many stand at it and below it.
+/// A statement, how many steps its path has, and how many stand at it and below it.
 #[derive(Debug, Drop)]
 pub struct Statement<'a> {
     path: &'a Path,
     value: &'a Value,
+    depth: usize,
     size: usize,
 }
 
 impl<'a> Model for Statement<'a> {
+    ghost use Rattle.std.specs.Prelude.{◌≡◌, length};
     ghost use Rattle.group_expand.specs.Row as row;
 
     ghost Value = { row.Stated };
 
     ghost view = { λ s. record { path = s.path.now; value = s.value.now; size = s.size } };
+
+    ghost invariant = { λ s. s.depth ≡ length s.path.now };
 }
 
 impl<'a> Statement<'a> {
@@ -38,6 +43,13 @@ impl<'a> Statement<'a> {
         ensures { result.now ≡ self.now.value }
     {
         self.value
+    }
+
+    /// How many steps its path has.
+    pub fn depth(&self) -> usize
+        ensures { result ≡ length self.now.path }
+    {
+        self.depth
     }
 
     fn size(&self) -> usize
@@ -55,6 +67,7 @@ impl<'a> Statement<'a> {
         Statement {
             path: self.path,
             value: self.value,
+            depth: self.depth,
             size,
         }
     }
@@ -95,18 +108,27 @@ pub fn inside<'s, 'a>(part: &'s [Statement<'a>]) -> &'s [Statement<'a>]
     part.split_at(size(part)).0.split_at(1).1
 }
 
-/// How many statements of a row stand below a path that is before them.
-fn count_below(path: &Path, rest: &[Statement<'_>]) -> usize
+/// Whether the path of the first statement has more steps than that of another one.
+fn begins_deeper(above: &Statement<'_>, part: &[Statement<'_>]) -> bool
+    requires { 0 < length part.now }
+    ensures { result ≡ nat_lt (length above.now.path) (length (path_in part.now)) }
+{
+    above.depth() < part[0].depth()
+}
+
+/// How many statements of a row stand below one that is before them.
+fn count_below(above: &Statement<'_>, rest: &[Statement<'_>]) -> usize
     requires counted { Counted rest.now }
     requires ordered { Ordered rest.now }
-    requires behind { AreBehind path.now rest.now }
-    ensures count { result ≡ length (filter (is_under path.now) rest.now) }
+    requires behind { AreBehind above.now.path rest.now }
+    requires told { IsToldByDepth above.now.path rest.now }
+    ensures count { result ≡ length (filter (is_under above.now.path) rest.now) }
     ensures within { result ≤ length rest.now }
 {
     let all = rest.len();
     let mut left = rest;
     while !left.is_empty() {
-        if !path_of(left).is_below(path) {
+        if !begins_deeper(above, left) {
             return all - left.len();
         }
         left = beside(left);
@@ -118,19 +140,21 @@ fn count_below(path: &Path, rest: &[Statement<'_>]) -> usize
 fn size_at(row: &mut Vec<Statement<'_>>, at: usize)
     requires within { at < length row.old.items }
     requires ordered { Ordered row.old.items }
+    requires told { AreToldByDepth row.old.items }
     requires counted { Counted (drop (at + 1) row.old.items) }
     ensures counted { Counted (drop at row.new.items) }
     ensures same { pairs_of row.new.items ≡ pairs_of row.old.items }
 {
     let rest = row.split_at(at + 1).1;
-    let size = count_below(row[at].path(), rest) + 1;
+    let size = count_below(&row[at], rest) + 1;
     let sized = row[at].sized(size);
     row[at] = sized;
 }
 
 /// Gives each statement its size.
 fn size_all(row: &mut Vec<Statement<'_>>)
-    requires { Ordered row.old.items }
+    requires ordered { Ordered row.old.items }
+    requires told { AreToldByDepth row.old.items }
     ensures counted { Counted row.new.items }
     ensures same { pairs_of row.new.items ≡ pairs_of row.old.items }
 {
@@ -152,6 +176,7 @@ fn gathered<'a>(alloc: Global, tree: &'a Tree) -> Result<Vec<Statement<'a>>, NoM
         row.push(Statement {
             path,
             value,
+            depth: path.steps().len(),
             size: 1,
         })?;
     }
