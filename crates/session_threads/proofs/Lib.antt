@@ -1,0 +1,8 @@
+pub mod ListLemmas
+pub mod LogLemmas
+mod PassLemmas
+mod RowLemmas
+mod SeatLemmas
+mod SendLemmas
+mod TickLemmas
+mod WholeLemmas

@@ -1,0 +1,172 @@
+-- What a turn makes of a pass.
+use Rattle.std.proofs.Common.{◌≡◌, ◌≢◌, ◌<◌, ◌≤◌, ◌&&◌, ℕ, ◌+◌, Bool, true, false, List, [], ◌∷◌, ◌++◌, length, cond}
+use Rattle.std.proofs.Common.{eqb, eq-eqb, ne_eqb, refl, sym, ap, subst, ◌∙◌, append_assoc}
+use Rattle.std.specs.List.{AllByRecursion}
+use Rattle.std.proofs.lemmas.List.{append-nil, append_cancel_left}
+use Rattle.atomic_table.specs.Seated.{TableId}
+use Rattle.commands.specs.declared.command.Command.{Command}
+use Rattle.config_core.specs.State.{State}
+use Rattle.config_db.specs.View.{DatabaseView, opened}
+use Rattle.session_history.specs.declared.history.Happened.{Happened}
+use Rattle.session_history.specs.Events.{Leads, is_command, places_from, places_of}
+use Rattle.session_history.proofs.EventLemmas.{places_of-append}
+use Rattle.session_shell.specs.declared.door.Given0.{Given0}
+use Rattle.turn_lock.specs.Histories.{entries_by}
+use Rattle.turn_lock.specs.Passes.{TookTurn}
+use Rattle.turn_lock.proofs.AccountLemmas.{grows}
+use Rattle.turn_lock.proofs.EntryLemmas.{entries_by-append}
+use Rattle.session_threads.specs.History.{Follows, Grows, places_given}
+use Rattle.session_threads.specs.Looks.{LooksAlone, LooksOnce}
+use Rattle.session_threads.specs.Sessions.{CallerPass, FollowsAlone, FollowsIn, IsReady, KnowsOwn, WentOn, caller_in}
+use Rattle.session_threads.proofs.ListLemmas.{some_is}
+
+pub not_kept : {A : Type 0} (b : Bool) (x : A) (xs : List A) → cond b (x ∷ xs) xs ≡ [] → (b ≡ false) × (xs ≡ [])
+not_kept true x xs is = cc
+not_kept false x xs is = (refl, is)
+
+-- where a history has no events of a caller, all are others'
+pub none_by : (caller : ℕ) (events : List Happened) → entries_by caller_in caller events ≡ []
+    → AllByRecursion (λ event. event.caller ≢ caller) events
+none_by caller [] none = tt
+none_by caller (event ∷ events) none =
+    let here = not_kept (eqb event.caller caller) event (entries_by caller_in caller events) none in (
+      (λ is. let both : true ≡ false = sym (eq-eqb event.caller caller is) ∙ here.0 in cc),
+      none_by caller events here.1,
+    )
+
+-- two histories have the same events of a caller: those that the longer has more are others'
+pub others_behind : (caller : ℕ) (events more own : List Happened) → entries_by caller_in caller events ≡ own
+    → entries_by caller_in caller (events ++ more) ≡ own → AllByRecursion (λ event. event.caller ≢ caller) more
+others_behind caller events more own had have = none_by caller more
+    (append_cancel_left own (entries_by caller_in caller more) []
+    (ap (λ l. l ++ entries_by caller_in caller more) (sym had) ∙ sym (entries_by-append caller_in caller events more) ∙ have
+    ∙ sym (append-nil own)))
+
+not_both : (a b : Bool) → b ≡ false → a && b ≡ false
+not_both true b isn't = isn't
+not_both false b isn't = refl
+
+-- others' commands have no places of a caller
+no_places_of : (place caller : ℕ) (events : List Happened) → AllByRecursion (λ event. event.caller ≢ caller) events
+    → places_from place caller events ≡ []
+no_places_of place caller [] others = refl
+no_places_of place caller (event ∷ events) others =
+    ap (λ b. cond b (place ∷ places_from (place + 1) caller events) (places_from (place + 1) caller events))
+    (not_both (is_command event.event) (eqb event.caller caller) (ne_eqb event.caller caller others.0))
+    ∙ no_places_of (place + 1) caller events others.1
+
+module _ (opening : State) (caller answer : ℕ) (seen others before events' : List Happened) (is : before ≡ seen ++ others)
+    (not_own : AllByRecursion (λ event. event.caller ≢ caller) others) where
+  -- what grew behind others' events
+  pub Grows-behind : (grew : Grows opening caller answer before events') → grew.others ≡ []
+      → Grows opening caller answer seen events'
+  Grows-behind grew alone = record {
+    others = others;
+    own = grew.own;
+    grown = grew.grown ∙ ap (λ l. before ++ (l ++ grew.own)) alone ∙ ap (λ l. l ++ grew.own) is ∙ append_assoc seen others grew.own;
+    not_own = not_own;
+    before = grew.before;
+    leads = subst (λ l. Leads opening l grew.before) (ap (λ l. before ++ l) alone ∙ append-nil before ∙ is) grew.leads;
+    made = grew.made;
+  }
+
+  Follows-behind : (command : Command) (given : Given0) (follows : Follows opening caller before command answer given events')
+      → follows.grows.others ≡ [] → Follows opening caller seen command answer given events'
+  unfolding Grows-behind
+  Follows-behind command given follows alone = record {
+    grows = Grows-behind follows.grows alone;
+    named = follows.named;
+    turn = follows.turn;
+    places = follows.places ∙ ap (λ l. l ++ places_given given) (ap (places_of caller) is ∙ places_of-append caller seen others
+        ∙ ap (λ l. places_of caller seen ++ l) (no_places_of (length seen) caller others not_own) ∙ append-nil (places_of caller seen));
+  }
+
+-- a look behind others' events
+pub LooksOnce-behind : (opening : State) (answer : ℕ) (seen others before events' : List Happened) → before ≡ seen ++ others
+    → AllByRecursion (λ event. event.caller ≢ 0) others → LooksAlone opening answer before events'
+    → LooksOnce opening answer seen events'
+unfolding Grows-behind
+LooksOnce-behind opening answer seen others before events' is not_own looked = record {
+  grows = Grows-behind opening 0 answer seen others before events' is not_own looked.looks.grows looked.alone;
+  no_command = looked.looks.no_command;
+}
+
+module _ {D : Type 0} where
+  pub WentOn-same : (pass : CallerPass D) → KnowsOwn pass → WentOn pass pass
+  WentOn-same pass own = record {
+    lock = refl;
+    caller = refl;
+    fixed = refl;
+    callers = refl;
+    splits = refl;
+    ended = refl;
+    later = ([], append-nil pass.seen);
+    own = own;
+  }
+
+  pub WentOn-then : (a b c : CallerPass D) → WentOn a b → WentOn b c → WentOn a c
+  WentOn-then a b c first next = record {
+    lock = next.lock ∙ first.lock;
+    caller = next.caller ∙ first.caller;
+    fixed = next.fixed ∙ first.fixed;
+    callers = next.callers ∙ first.callers;
+    splits = next.splits ∙ first.splits;
+    ended = next.ended ∙ first.ended;
+    later = (
+      first.later.0 ++ next.later.0,
+      sym (append_assoc a.seen first.later.0 next.later.0) ∙ ap (λ l. l ++ next.later.0) first.later.1 ∙ next.later.1,
+    );
+    own = next.own;
+  }
+
+  module _ (says : DatabaseView D → List Happened → List Happened → Type 0) (old new : CallerPass D)
+      (took : TookTurn caller_in says old new) where
+    pub WentOn-took : WentOn old new
+    WentOn-took = record {
+      lock = ap (λ (p : CallerPass D). p.lock) took.is_new;
+      caller = ap (λ (p : CallerPass D). p.caller) took.is_new;
+      fixed = ap (λ (p : CallerPass D). p.fixed) took.is_new;
+      callers = ap (λ (p : CallerPass D). p.callers) took.is_new;
+      splits = ap (λ (p : CallerPass D). p.splits) took.is_new;
+      ended = ap (λ (p : CallerPass D). p.ended) took.is_new;
+      later = (grows caller_in says old new took).0;
+      own = (grows caller_in says old new took).1;
+    }
+
+    -- what came behind the events that the pass had seen, before its turn, is others'
+    pub not_own-took : KnowsOwn old → AllByRecursion (λ event. event.caller ≢ old.caller) took.begins.0
+    not_own-took own = others_behind old.caller old.seen took.begins.0 old.own own
+        (ap (entries_by caller_in old.caller) took.begins.1 ∙ took.had_own)
+
+    pub seen-took : new.seen ≡ took.before ++ took.added
+    seen-took = ap (λ (p : CallerPass D). p.seen) took.is_new
+
+    pub own-took : new.own ≡ old.own ++ took.added
+    own-took = ap (λ (p : CallerPass D). p.own) took.is_new
+
+  -- how a pass follows after a turn that asked a command
+  pub FollowsIn-took : (old new : CallerPass D) (command : Command) (answer : ℕ) (given : Given0) → KnowsOwn old
+      → TookTurn caller_in (λ first before after. FollowsAlone first old.caller before command answer given after) old new
+      → FollowsIn old command answer given new
+  FollowsIn-took old new command answer given own took =
+      let says : DatabaseView D → List Happened → List Happened → Type 0 =
+      λ first before after. FollowsAlone first old.caller before command answer given after in
+      let behind : Follows (opened took.fixed) old.caller old.seen command answer given (took.before ++ took.added) =
+      Follows-behind (opened took.fixed) old.caller answer old.seen took.begins.0 took.before (took.before ++ took.added)
+      (sym took.begins.1) (not_own-took says old new took own) command given took.said.follows took.said.alone in
+      record {
+        goes = WentOn-took says old new took;
+        follows = λ first fixed.
+            subst (λ events'. Follows (opened first) old.caller old.seen command answer given events') (sym (seen-took says old new took))
+            (subst (λ f. Follows (opened f) old.caller old.seen command answer given (took.before ++ took.added))
+            (some_is (sym took.is_fixed ∙ fixed)) behind);
+      }
+
+  pub IsReady-then : (lock : TableId) (first : DatabaseView D) (old new : CallerPass D) → IsReady lock first old → WentOn old new
+      → IsReady lock first new
+  IsReady-then lock first old new ready goes = record {
+    here = goes.lock ∙ ready.here;
+    fixed = goes.fixed ∙ ready.fixed;
+    within = subst (λ c. (0 < c) × (c ≤ length first.users)) (sym goes.caller) ready.within;
+    own = goes.own;
+  }

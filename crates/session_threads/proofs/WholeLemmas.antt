@@ -1,0 +1,458 @@
+-- What all sessions of a run come to, once the lock is closed.
+use Rattle.std.proofs.Common.{◌≡◌, ◌≢◌, ◌⊎◌, ◌+◌, ◌<◌, ◌≤◌, ℕ, Bool, zero, suc, List, [], ◌∷◌, ◌++◌, length}
+use Rattle.std.proofs.Common.{map, take, drop, All, Contains, Option, None, Some}
+use Rattle.std.proofs.Common.{true, false, inl, inr, ⊎_elim, eqb, eq-eqb, refl, sym, ap, subst, ◌∙◌, append_assoc, arith}
+use mathlib.Core.List.{IsPrefix}
+use Rattle.std.specs.List.{AllByRecursion}
+use Rattle.std.proofs.lemmas.List.{length-map}
+use Rattle.std.proofs.Math.Seq.{take-append_seam}
+use Rattle.std.proofs.lemmas.List.Elements.{All-cons, All-nil, All-same}
+use Rattle.atomic_table.specs.Seated.{TableId}
+use Rattle.config_db.specs.View.{DatabaseView, opened}
+use Rattle.session_history.specs.declared.history.Happened.{Happened}
+use Rattle.session_history.specs.Events.{Leads}
+use Rattle.session_shell.specs.declared.end.End.{End}
+use Rattle.session_shell.specs.declared.turn.How.TheVariants.{SourceFault, SinkFault, NoMemory}
+use Rattle.session_shell.specs.declared.turn.Turn.{Turn}
+use Rattle.session_shell.specs.Opened.{end_view}
+use Rattle.session_shell.specs.Transcript.{IsSession}
+use Rattle.turn_lock.specs.declared.view.Ended.{Ended}
+use Rattle.turn_lock.specs.Histories.{entries_by}
+use Rattle.turn_lock.specs.Passes.{IsClosed, ended_of, first_pass}
+use Rattle.session_threads.specs.declared.seat.Seat.{Seat}
+use Rattle.session_threads.specs.declared.ticking.Ticker.{Ticker}
+use Rattle.session_threads.specs.Adding.{AddsUp}
+use Rattle.session_threads.specs.History.{Follows, HasSession}
+use Rattle.session_threads.specs.Looks.{HasLooked, HasTicked}
+use Rattle.session_threads.specs.Results.{IsResult, IsUnbegun, SessionResult, status_of_all, users_of}
+use Rattle.session_threads.specs.Rows.{AreLeft, IsSeatOf, NoneServed, Pairs, PairsFrom, SitsIn, pass_for, taken, with_all_ended}
+use Rattle.session_threads.specs.Served.{AreServed, EachFrom, IsUnderway, ServedView}
+use Rattle.session_threads.specs.Sessions.{CallerPass, HasRun, IsReady, IsSeated, KnowsOwn, ServesOne, ServesSeat, StaysOut}
+use Rattle.session_threads.specs.Sessions.{WentOn, caller_in}
+use Rattle.session_threads.specs.Ticks.{IsFirst, TicksOn}
+use Rattle.session_threads.proofs.ListLemmas.{All-append, some_is}
+use Rattle.session_threads.proofs.LogLemmas.{IsUnderway-none}
+use Rattle.session_threads.proofs.PassLemmas.{none_by, not_kept, others_behind}
+use Rattle.session_threads.proofs.RowLemmas.{PairsFrom-length, caller-with_all_ended, ended-with_all_ended, fixed-with_all_ended}
+use Rattle.session_threads.proofs.RowLemmas.{lock-with_all_ended, own-with_all_ended, seen-with_all_ended, splits-with_all_ended}
+
+pub Pairs-length : {A B : Type 0} (Are : A → B → Type 0) (xs : List A) (ys : List B) → Pairs Are xs ys → length ys ≡ length xs
+Pairs-length Are [] [] pairs = refl
+Pairs-length Are [] (y ∷ ys) pairs = absurd pairs
+Pairs-length Are (x ∷ xs) [] pairs = absurd pairs
+Pairs-length Are (x ∷ xs) (y ∷ ys) pairs = ap suc (Pairs-length Are xs ys pairs.1)
+
+at_most_or_more : (a b : ℕ) → (a ≤ b) ⊎ (b < a)
+at_most_or_more zero b = inl (omega arith)
+at_most_or_more (suc a) zero = inr (omega arith)
+at_most_or_more (suc a) (suc b) = ⊎_elim (λ (few : a ≤ b). inl (omega (arith, few))) (λ (more : b < a). inr (omega (arith, more)))
+    (at_most_or_more a b)
+
+not_both : true ≡ false → ⊥
+not_both both = cc
+
+-- where callers above a number have no events, no event is of one of them
+few_callers : (most : ℕ) (events : List Happened) → ((caller : ℕ) → most < caller → entries_by caller_in caller events ≡ [])
+    → AllByRecursion (λ event. event.caller ≤ most) events
+few_callers most [] none = tt
+few_callers most (event ∷ events) none = (
+  ⊎_elim (λ (few : event.caller ≤ most). few) (λ (more : most < event.caller).
+      let isn't = (not_kept (eqb event.caller event.caller) event (entries_by caller_in event.caller events) (none event.caller more)).0 in
+      let both : true ≡ false = sym (eq-eqb event.caller event.caller refl) ∙ isn't in absurd (not_both both))
+      (at_most_or_more event.caller most),
+  few_callers most events
+      (λ caller more. (not_kept (eqb event.caller caller) event (entries_by caller_in caller events) (none caller more)).1),
+)
+
+-- what a longer history has more than a pass has seen is others', where the pass has all its caller's events
+others_after : {D : Type 0} (pass : CallerPass D) (caller : ℕ) (history : List Happened) (begins : IsPrefix pass.seen history)
+    → pass.caller ≡ caller → KnowsOwn pass → entries_by caller_in caller history ≡ pass.own
+    → AllByRecursion (λ event. event.caller ≢ caller) begins.0
+others_after pass caller history begins is own all = others_behind caller pass.seen begins.0 pass.own
+    (subst (λ k. entries_by caller_in k pass.seen ≡ pass.own) is own)
+    (ap (entries_by caller_in caller) begins.1 ∙ all)
+
+-- what holds of all that is kept of ended passes
+each_ended : {S K C D : Type 0} (Is : Ended Happened → Type 0) (seats : List (Seat S K C (DatabaseView D)))
+    → ((pass : Ended Happened) → Contains (map (λ seat. ended_of seat.pass) seats) pass → Is pass)
+    → AllByRecursion (λ seat. Is (ended_of seat.pass)) seats
+each_ended Is [] all = tt
+each_ended Is (seat ∷ seats) all = (
+  all (ended_of seat.pass) (0, omega arith, refl),
+  each_ended Is seats (λ pass inside. all pass (suc inside.0, (let less = inside.1 in omega arith), inside.2)),
+)
+
+-- the first pass, before the ticker's turns
+pub IsFirst-begun : {D : Type 0} (lock : TableId) (first : DatabaseView D) (callers count : ℕ) (start pass : CallerPass D)
+    → start ≡ first_pass lock first callers → pass ≡ record start { splits = count } → IsFirst lock first pass
+IsFirst-begun {D} lock first callers count start pass begun split = subst (IsFirst lock first)
+    (sym (split ∙ ap (λ (p : CallerPass D). record p { splits = count }) begun))
+    (record { here = refl; fixed = refl; nobodys = refl; own = refl })
+
+module _ {S K C D : Type 0} (left : S → Option (List ℕ)) (source_faults : S → ℕ) (held : K → Option (List ℕ))
+    (sink_faults : K → ℕ) (coming : C → Option (ℕ → ℕ)) (limit : ℕ) (first : DatabaseView D) (lock : TableId)
+    (start : CallerPass D) (here : start.lock ≡ lock) (fixed : start.fixed ≡ Some first) (fresh : start.seen ≡ []) where
+  abbrev Taken : Type 0
+  Taken = Seat S K C (DatabaseView D)
+
+  abbrev result_for : End S K C → Taken → SessionResult S K C
+  result_for end seat = record { how = seat.how; old = end; new = seat.end; turns = seat.turns }
+
+  abbrev Serves : CallerPass D → CallerPass D → SessionResult S K C → Type 0
+  Serves old new result = ServesOne left source_faults held sink_faults coming limit first old new result
+
+  -- the session of an end was served, from the pass on that was split off for its caller
+  abbrev IsServed : ℕ → End S K C → Taken → Type 0
+  IsServed caller end seat = Serves (pass_for start caller) seat.pass (result_for end seat)
+
+  ready : (caller : ℕ) → 0 < caller → caller ≤ length first.users → IsReady lock first (pass_for start caller)
+  ready caller some few = record {
+    here = here;
+    fixed = fixed;
+    within = (some, few);
+    own = ap (entries_by caller_in caller) fresh;
+  }
+
+  seated_from : (number : ℕ) (ends : List (End S K C)) (seats : List (Option Taken)) → 0 < number
+      → number + length ends ≤ length first.users + 1 → PairsFrom (SitsIn start) number ends seats → All (IsSeated lock first) seats
+  seated_from number [] [] some few pairs = All-nil (IsSeated lock first)
+  seated_from number [] (seat ∷ seats) some few pairs = absurd pairs
+  seated_from number (end ∷ ends) [] some few pairs = absurd pairs
+  seated_from number (end ∷ ends) (None ∷ seats) some few pairs = absurd pairs.0
+  seated_from number (end ∷ ends) (Some seat ∷ seats) some few pairs =
+      All-cons (IsSeated lock first) (Some seat) seats
+      (subst (IsReady lock first) (sym pairs.0.0) (ready number some (omega (arith, few))))
+      (seated_from (number + 1) ends seats (omega arith) (omega (arith, few)) pairs.1)
+
+  -- each end's session was served, and its seat is of the lock
+  served_from : (number : ℕ) (ends : List (End S K C)) (seats seats' : List (Option Taken)) → PairsFrom (SitsIn start) number ends seats
+      → Pairs (ServesSeat left source_faults held sink_faults coming limit first) seats seats'
+      → PairsFrom IsServed number ends (taken seats') × All (IsSeatOf lock) seats'
+  served_from number [] [] [] sits pairs = (tt, All-nil (IsSeatOf lock))
+  served_from number [] [] (seat' ∷ seats') sits pairs = absurd pairs
+  served_from number [] (seat ∷ seats) seats' sits pairs = absurd sits
+  served_from number (end ∷ ends) [] seats' sits pairs = absurd sits
+  served_from number (end ∷ ends) (None ∷ seats) seats' sits pairs = absurd sits.0
+  served_from number (end ∷ ends) (Some seat ∷ seats) [] sits pairs = absurd pairs
+  served_from number (end ∷ ends) (Some seat ∷ seats) (None ∷ seats') sits pairs = absurd pairs.0
+  served_from number (end ∷ ends) (Some seat ∷ seats) (Some seat' ∷ seats') sits pairs =
+      let more = served_from (number + 1) ends seats seats' sits.1 pairs.1 in
+      let of_end : Serves seat.pass seat'.pass (result_for end seat') =
+      subst (λ e. Serves seat.pass seat'.pass (result_for e seat')) sits.0.1 pairs.0 in (
+        (subst (λ pass. Serves pass seat'.pass (result_for end seat')) sits.0.0 of_end, more.0),
+        All-cons (IsSeatOf lock) (Some seat') seats' (pairs.0.goes.lock ∙ ap (λ (p : CallerPass D). p.lock) sits.0.0 ∙ here) more.1,
+      )
+
+  abbrev results_of : List (End S K C) → List Taken → List (SessionResult S K C)
+  results_of [] seats = []
+  results_of (end ∷ ends) [] = []
+  results_of (end ∷ ends) (seat ∷ seats) = result_for end seat ∷ results_of ends seats
+
+  ends_of_results : (number : ℕ) (ends : List (End S K C)) (seats : List Taken) → PairsFrom IsServed number ends seats
+      → map (λ result. result.old) (results_of ends seats) ≡ ends
+  ends_of_results number [] seats pairs = refl
+  ends_of_results number (end ∷ ends) [] pairs = absurd pairs
+  ends_of_results number (end ∷ ends) (seat ∷ seats) pairs = ap (λ l. end ∷ l) (ends_of_results (number + 1) ends seats pairs.1)
+
+  seats_of_results : {A : Type 0} (of_result : SessionResult S K C → A) (of_seat : Taken → A)
+      → ((end : End S K C) (seat : Taken) → of_result (result_for end seat) ≡ of_seat seat)
+      → (number : ℕ) (ends : List (End S K C)) (seats : List Taken) → PairsFrom IsServed number ends seats
+      → map of_result (results_of ends seats) ≡ map of_seat seats
+  seats_of_results of_result of_seat same number [] [] pairs = refl
+  seats_of_results of_result of_seat same number [] (seat ∷ seats) pairs = absurd pairs
+  seats_of_results of_result of_seat same number (end ∷ ends) [] pairs = absurd pairs
+  seats_of_results {A} of_result of_seat same number (end ∷ ends) (seat ∷ seats) pairs =
+      ap (λ (a : A). a ∷ map of_result (results_of ends seats)) (same end seat)
+      ∙ ap (λ l. of_seat seat ∷ l) (seats_of_results of_result of_seat same (number + 1) ends seats pairs.1)
+
+  module _ (history : List Happened) where
+    -- a history has of a pass's caller what the pass has as its own, and begins with what the pass has seen
+    abbrev IsKnown : Ended Happened → Type 0
+    IsKnown pass = (entries_by caller_in pass.caller history ≡ pass.own) × IsPrefix pass.seen history
+
+    session_in : (caller : ℕ) (end : End S K C) (seat : Taken) → WentOn (pass_for start caller) seat.pass
+        → IsKnown (ended_of seat.pass)
+        → HasRun left held sink_faults coming limit first (pass_for start caller) seat.pass (result_for end seat)
+        ⊎ StaysOut (pass_for start caller) seat.pass (result_for end seat)
+        → HasSession left held sink_faults coming (opened first) caller limit history seat.how seat.turns end seat.end
+        ⊎ IsUnbegun history caller (result_for end seat)
+    session_in caller end seat goes known (inl run) = inl (record {
+      before = [];
+      after = run.after;
+      later = run.later ++ known.1.0;
+      begins = sym known.1.1 ∙ ap (λ l. l ++ known.1.0) run.begins ∙ append_assoc run.after run.later known.1.0;
+      others_first = tt;
+      none_later = All-append (λ (event : Happened). event.caller ≢ caller) run.later known.1.0 run.none_later
+          (others_after seat.pass caller history known.1 goes.caller goes.own
+          (subst (λ k. entries_by caller_in k history ≡ seat.pass.own) goes.caller known.0));
+      session = subst (λ l. IsSession (Follows (opened first) caller) limit seat.how (left end.source) (left seat.end.source) l
+          run.after (end_view coming held sink_faults end []) (end_view coming held sink_faults seat.end seat.turns)) fresh run.session;
+    })
+    session_in caller end seat goes known (inr out) = inr (record {
+      how = out.how;
+      same = out.same;
+      no_turns = out.no_turns;
+      no_events = none_by caller history
+          (subst (λ k. entries_by caller_in k history ≡ seat.pass.own) goes.caller known.0 ∙ out.no_events);
+    })
+
+    results_from : (number : ℕ) (ends : List (End S K C)) (seats : List Taken) → PairsFrom IsServed number ends seats
+        → AllByRecursion (λ seat. IsKnown (ended_of seat.pass)) seats
+        → EachFrom (IsResult left source_faults held sink_faults coming (opened first) limit history) number (results_of ends seats)
+    results_from number [] seats pairs known = tt
+    results_from number (end ∷ ends) [] pairs known = tt
+    results_from number (end ∷ ends) (seat ∷ seats) pairs known = (
+      record {
+        session = session_in number end seat pairs.0.goes known.0 pairs.0.session;
+        user = pairs.0.user;
+        source_cause = pairs.0.source_cause;
+        sink_cause = pairs.0.sink_cause;
+      },
+      results_from (number + 1) ends seats pairs.1 known.1,
+    )
+
+not_source : NoMemory ≡ SourceFault → ⊥
+not_source is = cc
+
+not_sink : NoMemory ≡ SinkFault → ⊥
+not_sink is = cc
+
+module _ {S K C B D : Type 0} (left : S → Option (List ℕ)) (source_faults : S → ℕ) (held : K → Option (List ℕ))
+    (sink_faults : K → ℕ) (coming : C → Option (ℕ → ℕ)) (due : B → Option (ℕ → Bool)) (tells : D → Bool) (faults : D → ℕ)
+    (limit : ℕ) (first : DatabaseView D) where
+  module _ (lock : TableId) (callers : ℕ) (start split : CallerPass D) (made : ServedView D)
+      (is_made : made ≡ record { first = first; database = first }) (begins_so : start ≡ first_pass lock made.first callers)
+      (ends : List (End S K C)) (is_split : split ≡ record start { splits = length ends })
+      (row seats : List (Option (Seat S K C (DatabaseView D)))) (sits : PairsFrom (SitsIn start) 1 ends row) (lent : seats ≡ row)
+      (users : first.users ≡ users_of ends) where
+    begun : start ≡ first_pass lock first callers
+    begun = begins_so ∙ ap (λ (v : ServedView D). first_pass lock v.first callers) is_made
+
+    here : start.lock ≡ lock
+    here = ap (λ (p : CallerPass D). p.lock) begun
+
+    fixed : start.fixed ≡ Some first
+    fixed = ap (λ (p : CallerPass D). p.fixed) begun
+
+    fresh : start.seen ≡ []
+    fresh = ap (λ (p : CallerPass D). p.seen) begun
+
+    sit : PairsFrom (SitsIn start) 1 ends seats
+    sit = subst (λ l. PairsFrom (SitsIn start) 1 ends l) (sym lent) sits
+
+    is_first : IsFirst lock first split
+    is_first = IsFirst-begun lock first callers (length ends) start split begun is_split
+
+    all_seated : All (IsSeated lock first) seats
+    all_seated = let count : length first.users ≡ length ends = ap length users ∙ length-map ends (λ end. end.user) in
+        seated_from left source_faults held sink_faults coming limit first lock start here fixed fresh 1 ends seats
+        (omega arith) (omega (arith, count)) sit
+
+    -- the sessions can be served, and the ticker can run
+    pub can_serve : (x : DatabaseView D) × IsFirst lock x split × All (IsSeated lock x) seats
+    can_serve = (first, is_first, all_seated)
+
+    module _ (gone : CallerPass D) (seats' : List (Option (Seat S K C (DatabaseView D)))) (size : ℕ) (sized : length seats ≡ size)
+        (serves : (x : DatabaseView D) → IsFirst lock x split → All (IsSeated lock x) seats
+        → Pairs (ServesSeat left source_faults held sink_faults coming limit x) seats seats')
+        (ticker ticker' : Ticker B C)
+        (ticking : (x : DatabaseView D) → IsFirst lock x split → TicksOn due coming x split gone ticker ticker') where
+      pairs : Pairs (ServesSeat left source_faults held sink_faults coming limit first) seats seats'
+      pairs = serves first is_first all_seated
+
+      ticks : TicksOn due coming first split gone ticker ticker'
+      ticks = ticking first is_first
+
+      -- the row, once its seats are given back
+      abbrev back : List (Option (Seat S K C (DatabaseView D)))
+      back = take size (seats' ++ drop (length seats') row)
+
+      are_back : back ≡ seats'
+      are_back = let whole : size ≡ length seats' =
+          sym (Pairs-length (ServesSeat left source_faults held sink_faults coming limit first) seats seats' pairs ∙ sized) in
+          ap (λ n. take n (seats' ++ drop (length seats') row)) whole ∙ take-append_seam seats' (drop (length seats') row)
+
+      served : PairsFrom (IsServed left source_faults held sink_faults coming limit first lock start here fixed fresh) 1 ends (taken seats')
+      served = (served_from left source_faults held sink_faults coming limit first lock start here fixed fresh 1 ends seats seats' sit
+          pairs).0
+
+      pub all_here : All (IsSeatOf lock) back
+      all_here = All-same (IsSeatOf lock) back seats' are_back
+          (served_from left source_faults held sink_faults coming limit first lock start here fixed fresh 1 ends seats seats' sit pairs).1
+
+      pub as_many : length back ≡ length ends
+      as_many = ap length are_back ∙ Pairs-length (ServesSeat left source_faults held sink_faults coming limit first) seats seats' pairs
+          ∙ PairsFrom-length (SitsIn start) 1 ends seats sit
+
+      pub gone_here : (gone.lock ≡ lock) × (gone.caller ≡ 0)
+      gone_here = (
+        ticks.goes.lock ∙ ap (λ (p : CallerPass D). p.lock) is_split ∙ here,
+        ticks.goes.caller ∙ ap (λ (p : CallerPass D). p.caller) is_split ∙ ap (λ (p : CallerPass D). p.caller) begun,
+      )
+
+      module _ (last : CallerPass D) (ends' : List (End S K C)) (turns : List (List Turn)) (status : ℕ)
+          (left_all : AreLeft back gone last ends' turns status) where
+        are_left : AreLeft seats' gone last ends' turns status
+        are_left = subst (λ l. AreLeft l gone last ends' turns status) are_back left_all
+
+        passes : last ≡ with_all_ended gone (taken seats')
+        passes = are_left.passes
+
+        splits : last.splits ≡ length ends
+        splits = ap (λ (p : CallerPass D). p.splits) passes ∙ splits-with_all_ended gone (taken seats') ∙ ticks.goes.splits
+            ∙ ap (λ (p : CallerPass D). p.splits) is_split
+
+        ended : last.ended ≡ map (λ seat. ended_of seat.pass) (taken seats')
+        ended = ap (λ (p : CallerPass D). p.ended) passes ∙ ended-with_all_ended gone (taken seats')
+            ∙ ap (λ l. l ++ map (λ seat. ended_of seat.pass) (taken seats'))
+            (ticks.goes.ended ∙ ap (λ (p : CallerPass D). p.ended) is_split ∙ ap (λ (p : CallerPass D). p.ended) begun)
+
+        seen : last.seen ≡ gone.seen
+        seen = ap (λ (p : CallerPass D). p.seen) passes ∙ seen-with_all_ended gone (taken seats')
+
+        own : last.own ≡ gone.own
+        own = ap (λ (p : CallerPass D). p.own) passes ∙ own-with_all_ended gone (taken seats')
+
+        -- the first pass may close the lock
+        pub closes : (last.lock ≡ lock) × (last.caller ≡ 0) × (length last.ended ≡ last.splits)
+        closes = (
+          ap (λ (p : CallerPass D). p.lock) passes ∙ lock-with_all_ended gone (taken seats') ∙ gone_here.0,
+          ap (λ (p : CallerPass D). p.caller) passes ∙ caller-with_all_ended gone (taken seats') ∙ gone_here.1,
+          ap length ended ∙ length-map (taken seats') (λ seat. ended_of seat.pass)
+              ∙ PairsFrom-length (IsServed left source_faults held sink_faults coming limit first lock start here fixed fresh) 1 ends
+              (taken seats') served ∙ sym splits,
+        )
+
+        module _ (value : ServedView D)
+            (closed : IsClosed (λ (v : ServedView D). v.database.events) caller_in (λ (v : ServedView D). v.first) last value)
+            (underway : IsUnderway tells faults value) (v : DatabaseView D) (is : v ≡ value.database) where
+          abbrev history : List Happened
+          history = value.database.events
+
+          same_first : value.first ≡ first
+          same_first = some_is (sym closed.is_fixed ∙ ap (λ (p : CallerPass D). p.fixed) passes
+              ∙ fixed-with_all_ended gone (taken seats') ∙ ticks.goes.fixed ∙ ap (λ (p : CallerPass D). p.fixed) is_split ∙ fixed)
+
+          begins : IsPrefix gone.seen history
+          begins = subst (λ l. IsPrefix l history) seen closed.begins
+
+          looked : HasTicked due coming (opened first) ticker ticker' history
+          looked = record {
+            seen = gone.seen;
+            later = begins.0;
+            begins = sym begins.1;
+            none_later = others_after gone 0 history begins gone_here.1 ticks.goes.own (closed.first_own ∙ own);
+            looked = subst (λ l. HasLooked due coming (opened first) ticker ticker' l gone.seen)
+                (ap (λ (p : CallerPass D). p.seen) is_split ∙ fresh) ticks.looked;
+          }
+
+          known : AllByRecursion (λ seat. IsKnown left source_faults held sink_faults coming limit first lock start here fixed fresh
+              history (ended_of seat.pass)) (taken seats')
+          known = each_ended (IsKnown left source_faults held sink_faults coming limit first lock start here fixed fresh history)
+              (taken seats') (λ pass inside.
+              let among = subst (λ l. Contains l pass) (sym ended) inside in (closed.own pass among, closed.seen pass among))
+
+          abbrev results : List (SessionResult S K C)
+          results = results_of left source_faults held sink_faults coming limit first lock start here fixed fresh ends (taken seats')
+
+          told : {A : Type 0} (of_result : SessionResult S K C → A) (of_seat : Seat S K C (DatabaseView D) → A)
+              → ((end : End S K C) (seat : Seat S K C (DatabaseView D))
+              → of_result (result_for left source_faults held sink_faults coming limit first lock start here fixed fresh end seat)
+              ≡ of_seat seat) → map of_result results ≡ map of_seat (taken seats')
+          told of_result of_seat same = seats_of_results left source_faults held sink_faults coming limit first lock start here fixed
+              fresh of_result of_seat same 1 ends (taken seats') served
+
+          pub AreServed-of : AreServed left source_faults held sink_faults coming due tells faults limit first ends ends' ticker ticker'
+              turns v status
+          AreServed-of = subst (λ w. AreServed left source_faults held sink_faults coming due tells faults limit first ends ends' ticker
+              ticker' turns w status) (sym is) (record {
+                leads = subst (λ v. Leads (opened v) history value.database.state) same_first underway.leads;
+                adds = subst (λ v. AddsUp tells faults history v value.database) same_first underway.adds;
+                results = results;
+                old = ends_of_results left source_faults held sink_faults coming limit first lock start here fixed fresh 1 ends
+                    (taken seats') served;
+                new = told (λ result. result.new) (λ seat. seat.end) (λ end seat. refl) ∙ sym are_left.ends_are;
+                turned = told (λ result. result.turns) (λ seat. seat.turns) (λ end seat. refl) ∙ sym are_left.turns_are;
+                each = results_from left source_faults held sink_faults coming limit first lock start here fixed fresh history 1 ends
+                    (taken seats') served known;
+                ticked = looked;
+                callers = subst (λ n. AllByRecursion (λ event. event.caller ≤ n) history) splits
+                    (few_callers last.splits history closed.no_other);
+                is_status = are_left.status_is
+                    ∙ ap status_of_all (sym (told (λ result. result.how) (λ seat. seat.how) (λ end seat. refl)));
+              })
+
+  -- no session began
+  abbrev none_for : End S K C → SessionResult S K C
+  none_for end = record { how = NoMemory; old = end; new = end; turns = [] }
+
+  ends_of_none : (ends : List (End S K C)) → map (λ result. result.old) (map none_for ends) ≡ ends
+  ends_of_none [] = refl
+  ends_of_none (end ∷ ends) = ap (λ l. end ∷ l) (ends_of_none ends)
+
+  ends_left : (ends : List (End S K C)) → map (λ result. result.new) (map none_for ends) ≡ ends
+  ends_left [] = refl
+  ends_left (end ∷ ends) = ap (λ l. end ∷ l) (ends_left ends)
+
+  turns_of_none : (ends : List (End S K C)) → map (λ result. result.turns) (map none_for ends) ≡ map (λ end. []) ends
+  turns_of_none [] = refl
+  turns_of_none (end ∷ ends) = ap (λ l. [] ∷ l) (turns_of_none ends)
+
+  hows_of_none : (ends : List (End S K C)) → map (λ result. result.how) (map none_for ends) ≡ map (λ end. NoMemory) ends
+  hows_of_none [] = refl
+  hows_of_none (end ∷ ends) = ap (λ l. NoMemory ∷ l) (hows_of_none ends)
+
+  none_from : (events : List Happened) → events ≡ [] → (number : ℕ) (ends : List (End S K C))
+      → EachFrom (IsResult left source_faults held sink_faults coming (opened first) limit events) number (map none_for ends)
+  none_from events none number [] = tt
+  none_from events none number (end ∷ ends) = (
+    record {
+      session = inr (record {
+        how = refl;
+        same = refl;
+        no_turns = refl;
+        no_events = subst (λ l. AllByRecursion (λ event. event.caller ≢ number) l) (sym none) tt;
+      });
+      user = refl;
+      source_cause = λ is. absurd (not_source is);
+      sink_cause = λ is. absurd (not_sink is);
+    },
+    none_from events none (number + 1) ends,
+  )
+
+  pub AreServed-none : (ends ends' : List (End S K C)) (ticker ticker' : Ticker B C) (turns : List (List Turn)) (v : DatabaseView D)
+      (status : ℕ) → first.events ≡ [] → first.state ≡ opened first → NoneServed ends turns status → ends' ≡ ends → ticker' ≡ ticker
+      → v ≡ first
+      → AreServed left source_faults held sink_faults coming due tells faults limit first ends ends' ticker ticker' turns v status
+  AreServed-none ends ends' ticker ticker' turns v status none starts unserved same_ends same_ticker same =
+      let underway : IsUnderway tells faults (record { first = first; database = v }) =
+      subst (λ (w : DatabaseView D). IsUnderway tells faults (record { first = first; database = w })) (sym same)
+      (IsUnderway-none tells faults first first refl none starts) in
+      let empty : v.events ≡ [] = ap (λ (w : DatabaseView D). w.events) same ∙ none in
+      record {
+        leads = underway.leads;
+        adds = underway.adds;
+        results = map none_for ends;
+        old = ends_of_none ends;
+        new = ends_left ends ∙ sym same_ends;
+        turned = turns_of_none ends ∙ sym unserved.no_turns;
+        each = none_from v.events empty 1 ends;
+        ticked = record {
+          seen = [];
+          later = [];
+          begins = empty;
+          none_later = tt;
+          looked = record {
+            beats = [];
+            answers = [];
+            called = inl refl;
+            are_looks = record {
+              beat_told = ap (λ (t : Ticker B C). due t.beat) same_ticker;
+              clock_told = ap (λ (t : Ticker B C). coming t.clock) same_ticker;
+              looks = refl;
+            };
+          };
+        };
+        callers = subst (λ l. AllByRecursion (λ event. event.caller ≤ length ends) l) (sym empty) tt;
+        is_status = unserved.status_is ∙ ap status_of_all (sym (hows_of_none ends));
+      }

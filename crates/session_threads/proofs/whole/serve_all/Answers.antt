@@ -1,0 +1,131 @@
+use Rattle.std.proofs.Common.{rules, ◌≤◌, ap, sym, subst, ◌∙◌, length, vec_capacity, vec_items}
+use Rattle.session_threads.specs.Served.{ServedView}
+use Rattle.session_threads.proofs.WholeLemmas.{AreServed-none, AreServed-of, all_here, as_many, can_serve, closes, gone_here}
+use Rattle.session_threads.proofs.whole.serve_all.Goals as goal
+
+pub returns-in-Err : goal.returns-in-Err
+returns-in-Err g c =
+    AreServed-none g.S.Source.left g.S.Source.faults g.K.Sink.held g.K.Sink.faults g.C.Clock.coming g.B.Beat.coming
+    g.D.Disk.tells g.D.Disk.faults
+    c.args.limits.input c.args.database
+    c.args.ends.items c.none_served.result.ends.items c.args.ticker c.none_served.result.ticker c.none_served.result.turns.items
+    c.none_served.result.database c.none_served.result.status c.requires.fresh.0 c.requires.fresh.1 c.none_served.ensures.none
+    (ap vec_items c.none_served.ensures.same.1) c.none_served.ensures.same.2
+    (c.none_served.ensures.same.0 ∙ c.into_database.ensures.is
+    ∙ ap (λ (s : ServedView g.row.D.Denot). s.database) (c.in-Err.ensures.err ∙ c.of.ensures))
+
+pub serve_seats-requires-after_bounds : goal.serve_seats-requires-after_bounds
+serve_seats-requires-after_bounds g c κs within =
+    can_serve g.S.Source.left g.S.Source.faults g.K.Sink.held g.K.Sink.faults g.C.Clock.coming g.B.Beat.coming g.D.Disk.tells
+    g.D.Disk.faults
+    c.args.limits.input c.args.database c.in-Ok.made.0 _ c.in-Ok.made.1 c.seat_all.new.pass c.of.result c.of.ensures
+    c.in-Ok.ensures.ok c.args.ends.items
+    c.seat_all.ensures.pass c.seat_all.new.seats.items c.as_mut_slice.result.now c.seat_all.ensures.seats
+    c.as_mut_slice.ensures.value
+    c.requires.users
+
+pub leave_all-status-requires-clause-pass : goal.leave_all-status-requires-clause-pass
+leave_all-status-requires-clause-pass g c =
+    gone_here g.S.Source.left g.S.Source.faults g.K.Sink.held g.K.Sink.faults g.C.Clock.coming g.B.Beat.coming g.D.Disk.tells
+    g.D.Disk.faults
+    c.args.limits.input c.args.database c.in-Ok.made.0 _ c.in-Ok.made.1 c.seat_all.new.pass c.of.result c.of.ensures
+    c.in-Ok.ensures.ok c.args.ends.items
+    c.seat_all.ensures.pass c.seat_all.new.seats.items c.as_mut_slice.result.now c.seat_all.ensures.seats
+    c.as_mut_slice.ensures.value
+    c.requires.users c.serve_seats.new.pass c.serve_seats.new.seats c.seat_all.new.seats.len c.as_mut_slice.ensures.len
+    c.serve_seats.ensures.seats c.args.ticker c.serve_seats.new.ticker c.serve_seats.ensures.ticker
+
+pub leave_all-status-requires-clause-seats : goal.leave_all-status-requires-clause-seats
+leave_all-status-requires-clause-seats g c =
+    all_here g.S.Source.left g.S.Source.faults g.K.Sink.held g.K.Sink.faults g.C.Clock.coming g.B.Beat.coming g.D.Disk.tells
+    g.D.Disk.faults
+    c.args.limits.input c.args.database c.in-Ok.made.0 _ c.in-Ok.made.1 c.seat_all.new.pass c.of.result c.of.ensures
+    c.in-Ok.ensures.ok c.args.ends.items
+    c.seat_all.ensures.pass c.seat_all.new.seats.items c.as_mut_slice.result.now c.seat_all.ensures.seats
+    c.as_mut_slice.ensures.value
+    c.requires.users c.serve_seats.new.pass c.serve_seats.new.seats c.seat_all.new.seats.len c.as_mut_slice.ensures.len
+    c.serve_seats.ensures.seats c.args.ticker c.serve_seats.new.ticker c.serve_seats.ensures.ticker
+
+pub leave_all-status-requires-clause-ends : goal.leave_all-status-requires-clause-ends
+leave_all-status-requires-clause-ends g c =
+    let fits : length c.args.ends.items ≤ vec_capacity c.args.ends = search rules in (
+      c.seat_all.ensures.ends.0,
+      subst (λ n. n ≤ vec_capacity c.seat_all.new.ends)
+          (sym (as_many g.S.Source.left g.S.Source.faults g.K.Sink.held g.K.Sink.faults g.C.Clock.coming g.B.Beat.coming
+          g.D.Disk.tells g.D.Disk.faults
+          c.args.limits.input c.args.database c.in-Ok.made.0 _ c.in-Ok.made.1 c.seat_all.new.pass c.of.result c.of.ensures
+          c.in-Ok.ensures.ok c.args.ends.items
+          c.seat_all.ensures.pass c.seat_all.new.seats.items c.as_mut_slice.result.now c.seat_all.ensures.seats
+          c.as_mut_slice.ensures.value
+          c.requires.users c.serve_seats.new.pass c.serve_seats.new.seats c.seat_all.new.seats.len c.as_mut_slice.ensures.len
+          c.serve_seats.ensures.seats c.args.ticker c.serve_seats.new.ticker c.serve_seats.ensures.ticker))
+          (subst (λ n. length c.args.ends.items ≤ n) (sym c.seat_all.ensures.ends.1) fits),
+    )
+
+pub leave_all-status-requires-clause-turns : goal.leave_all-status-requires-clause-turns
+leave_all-status-requires-clause-turns g c = (
+  c.requires.room.no_lists,
+  subst (λ n. n ≤ vec_capacity c.args.room.lists)
+      (sym (as_many g.S.Source.left g.S.Source.faults g.K.Sink.held g.K.Sink.faults g.C.Clock.coming g.B.Beat.coming
+      g.D.Disk.tells g.D.Disk.faults
+      c.args.limits.input c.args.database c.in-Ok.made.0 _ c.in-Ok.made.1 c.seat_all.new.pass c.of.result c.of.ensures
+      c.in-Ok.ensures.ok c.args.ends.items
+      c.seat_all.ensures.pass c.seat_all.new.seats.items c.as_mut_slice.result.now c.seat_all.ensures.seats
+      c.as_mut_slice.ensures.value
+      c.requires.users c.serve_seats.new.pass c.serve_seats.new.seats c.seat_all.new.seats.len c.as_mut_slice.ensures.len
+      c.serve_seats.ensures.seats c.args.ticker c.serve_seats.new.ticker c.serve_seats.ensures.ticker))
+      c.requires.room.lists,
+)
+
+pub close-requires-clause-here : goal.close-requires-clause-here
+close-requires-clause-here g c =
+    (closes g.S.Source.left g.S.Source.faults g.K.Sink.held g.K.Sink.faults g.C.Clock.coming g.B.Beat.coming g.D.Disk.tells
+    g.D.Disk.faults
+    c.args.limits.input c.args.database c.in-Ok.made.0 _ c.in-Ok.made.1 c.seat_all.new.pass c.of.result c.of.ensures
+    c.in-Ok.ensures.ok c.args.ends.items
+    c.seat_all.ensures.pass c.seat_all.new.seats.items c.as_mut_slice.result.now c.seat_all.ensures.seats
+    c.as_mut_slice.ensures.value
+    c.requires.users c.serve_seats.new.pass c.serve_seats.new.seats c.seat_all.new.seats.len c.as_mut_slice.ensures.len
+    c.serve_seats.ensures.seats c.args.ticker c.serve_seats.new.ticker c.serve_seats.ensures.ticker c.leave_all-status.new.pass
+    c.leave_all-status.new.ends.items c.leave_all-status.new.turns.items c.leave_all-status.result
+    c.leave_all-status.ensures.left).0
+
+pub close-requires-clause-first : goal.close-requires-clause-first
+close-requires-clause-first g c =
+    (closes g.S.Source.left g.S.Source.faults g.K.Sink.held g.K.Sink.faults g.C.Clock.coming g.B.Beat.coming g.D.Disk.tells
+    g.D.Disk.faults
+    c.args.limits.input c.args.database c.in-Ok.made.0 _ c.in-Ok.made.1 c.seat_all.new.pass c.of.result c.of.ensures
+    c.in-Ok.ensures.ok c.args.ends.items
+    c.seat_all.ensures.pass c.seat_all.new.seats.items c.as_mut_slice.result.now c.seat_all.ensures.seats
+    c.as_mut_slice.ensures.value
+    c.requires.users c.serve_seats.new.pass c.serve_seats.new.seats c.seat_all.new.seats.len c.as_mut_slice.ensures.len
+    c.serve_seats.ensures.seats c.args.ticker c.serve_seats.new.ticker c.serve_seats.ensures.ticker c.leave_all-status.new.pass
+    c.leave_all-status.new.ends.items c.leave_all-status.new.turns.items c.leave_all-status.result
+    c.leave_all-status.ensures.left).1
+
+pub close-requires-clause-all : goal.close-requires-clause-all
+close-requires-clause-all g c =
+    (closes g.S.Source.left g.S.Source.faults g.K.Sink.held g.K.Sink.faults g.C.Clock.coming g.B.Beat.coming g.D.Disk.tells
+    g.D.Disk.faults
+    c.args.limits.input c.args.database c.in-Ok.made.0 _ c.in-Ok.made.1 c.seat_all.new.pass c.of.result c.of.ensures
+    c.in-Ok.ensures.ok c.args.ends.items
+    c.seat_all.ensures.pass c.seat_all.new.seats.items c.as_mut_slice.result.now c.seat_all.ensures.seats
+    c.as_mut_slice.ensures.value
+    c.requires.users c.serve_seats.new.pass c.serve_seats.new.seats c.seat_all.new.seats.len c.as_mut_slice.ensures.len
+    c.serve_seats.ensures.seats c.args.ticker c.serve_seats.new.ticker c.serve_seats.ensures.ticker c.leave_all-status.new.pass
+    c.leave_all-status.new.ends.items c.leave_all-status.new.turns.items c.leave_all-status.result
+    c.leave_all-status.ensures.left).2
+
+pub returns : goal.returns
+returns g c =
+    AreServed-of g.S.Source.left g.S.Source.faults g.K.Sink.held g.K.Sink.faults g.C.Clock.coming g.B.Beat.coming
+    g.D.Disk.tells g.D.Disk.faults
+    c.args.limits.input c.args.database c.in-Ok.made.0 _ c.in-Ok.made.1 c.seat_all.new.pass c.of.result c.of.ensures
+    c.in-Ok.ensures.ok c.args.ends.items
+    c.seat_all.ensures.pass c.seat_all.new.seats.items c.as_mut_slice.result.now c.seat_all.ensures.seats
+    c.as_mut_slice.ensures.value
+    c.requires.users c.serve_seats.new.pass c.serve_seats.new.seats c.seat_all.new.seats.len c.as_mut_slice.ensures.len
+    c.serve_seats.ensures.seats c.args.ticker c.serve_seats.new.ticker c.serve_seats.ensures.ticker c.leave_all-status.new.pass
+    c.leave_all-status.new.ends.items c.leave_all-status.new.turns.items c.leave_all-status.result
+    c.leave_all-status.ensures.left c.close.result c.close.ensures c.into_database-database.ensures.underway
+    c.into_database-database.result c.into_database-database.ensures.is

@@ -1,0 +1,9 @@
+pub mod Adding
+pub mod History
+pub mod Looks
+pub mod Naming
+pub mod Results
+pub mod Rows
+pub mod Served
+pub mod Sessions
+pub mod Ticks

@@ -1,0 +1,80 @@
+//! The database under the lock.
+
+ghost use Rattle.std.specs.Prelude.{◌≡◌, []};
+ghost use Rattle.config_db.specs.View.{opened};
+ghost use Rattle.session_threads.specs.Served.{IsUnderway};
+
+use config_db::Database;
+use disk_model::Disk;
+use session_history::Happened;
+use std::marker::Model;
+use std::snapshot::Snapshot;
+use turn_lock::Book;
+
+/// The database under the lock.
+pub(crate) struct Served<D: Disk> {
+    pub(crate) database: Database<D>,
+    /// What it was before its first turn.
+    first: Snapshot<Database<D>>,
+    /// How many sessions have not ended.
+    pub(crate) waiting: u32,
+}
+
+impl<D: Disk> Model for Served<D> {
+    ghost use Rattle.std.specs.Coded.{codes};
+    ghost use Rattle.cfg_tree.specs.Statements.{statements_code};
+    ghost use Rattle.session_threads.specs.Served.{IsUnderway, ServedView};
+
+    ghost Value = { ServedView D };
+
+    ghost coded = { Prim.hlevel (codes, statements_code) };
+
+    ghost view = { λ s. record { first = s.first.value; database = s.database } };
+
+    ghost invariant = { λ s. IsUnderway D.tells D.faults (record { first = s.first.value; database = s.database }) };
+}
+
+impl<D: Disk> Book for Served<D> {
+    type Entry = Happened;
+
+    type Fixed = Database<D>;
+
+    ghost history = { λ served. served.database.events };
+
+    ghost caller_of = { λ event. event.caller };
+
+    ghost fixed = { λ served. served.first };
+
+    fn count(&self) -> u64 {
+        self.database.count()
+    }
+}
+
+impl<D: Disk> Served<D> {
+    /// A database in which nothing happened yet, for so many sessions.
+    pub(crate) fn of(database: Database<D>, sessions: u32) -> Served<D>
+        requires fresh { database.events ≡ [] }
+        requires starts { database.state ≡ opened database }
+        ensures { result ≡ record { first = database; database = database } }
+    {
+        let first = Snapshot::of(&database);
+        Served {
+            database,
+            first,
+            waiting: sessions,
+        }
+    }
+
+    /// The database.
+    pub(crate) fn into_database(self) -> Database<D>
+        ensures is { result ≡ self.database }
+        ensures underway { IsUnderway D.tells D.faults self }
+    {
+        let Served {
+            database,
+            first: _,
+            waiting: _,
+        } = self;
+        database
+    }
+}

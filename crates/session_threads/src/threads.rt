@@ -1,0 +1,127 @@
+//! Each session on a thread of its own, and the ticker beside them.
+
+ghost use Rattle.std.specs.Prelude.{◌≡◌, ℕ, All};
+ghost use Rattle.std.specs.Thread.{IsSend, IsSync};
+ghost use Rattle.atomic_table.specs.Seated.{TableId};
+ghost use Rattle.config_db.specs.View.{DatabaseView};
+ghost use Rattle.session_threads.specs.Rows.{Pairs};
+ghost use Rattle.session_threads.specs.Sessions.{IsSeated, ServesSeat};
+ghost use Rattle.session_threads.specs.Ticks.{IsFirst, TicksOn};
+
+use crate::seat::{Seat, serve_at};
+use crate::served::Served;
+use crate::ticking::{Ticker, tick_along};
+use cfg_base::Limits;
+use config_db::Database;
+use disk_model::Disk;
+use io_edge::{Beat, Clock, Sink, Source};
+use session_history::Happened;
+use std::alloc::Global;
+use std::sync::Wait;
+use std::thread::{Threads, join_mut};
+use turn_lock::{Pass, Turns};
+
+/// What can be served over a lock. Below, the seats are of a type parameter, since the borrow checker covers no closure
+/// over a row of generic structs.
+pub(crate) trait Serve<D: Disk> {
+    /// It can be served over that lock, over a database that began so.
+    ghost can_serve: { Self → TableId → DatabaseView D → Type 0 };
+
+    /// It was served, with that many bytes of input at most, over a database that began so.
+    ghost serves: { ℕ → DatabaseView D → Self → Self → Type 0 };
+
+    fn serve<R: Wait>(&mut self, rt: &R, alloc: Global, lock: &Turns<Served<D>>, limits: Limits)
+        requires { (first : DatabaseView D) × can_serve self.old lock.now first }
+        ensures { (first : DatabaseView D) → can_serve self.old lock.now first
+            → serves limits.input first self.old self.new };
+}
+
+impl<S: Source, K: Sink, C: Clock, D: Disk> Serve<D> for Option<Seat<S, K, C, Database<D>>> {
+    ghost can_serve = { λ seat lock first. IsSeated lock first seat };
+
+    ghost serves = { λ limit first old new. ServesSeat S.left S.faults K.held K.faults C.coming limit first old new };
+
+    fn serve<R: Wait>(&mut self, rt: &R, alloc: Global, lock: &Turns<Served<D>>, limits: Limits) {
+        serve_at(rt, alloc, lock, self, limits);
+    }
+}
+
+/// Serves the sessions of a row of seats, the first one on this thread and the rest on another one, with the ticker
+/// behind the last. Where no thread can be made the sessions are served one after another, and the ticker comes last.
+#[cycle(threads)]
+pub(crate) fn serve_seats<R, T, B, C, D>(
+    rt: &R,
+    alloc: Global,
+    lock: &Turns<Served<D>>,
+    limits: Limits,
+    seats: &mut [T],
+    pass: &mut Pass<Happened, Database<D>>,
+    ticker: &mut Ticker<B, C>,
+)
+where
+    R: Threads + Wait + Sync,
+    T: Serve<D> + Send,
+    B: Beat + Send,
+    C: Clock + Send,
+    D: Disk + Send,
+    requires { (first : DatabaseView D) × IsFirst lock.now first pass.old
+        × All (λ seat. T.can_serve seat lock.now first) seats.old }
+    ensures seats { (first : DatabaseView D) → IsFirst lock.now first pass.old
+        → All (λ seat. T.can_serve seat lock.now first) seats.old
+        → Pairs (T.serves limits.input first) seats.old seats.new }
+    ensures ticker { (first : DatabaseView D) → IsFirst lock.now first pass.old
+        → TicksOn B.coming C.coming first pass.old pass.new ticker.old ticker.new }
+{
+    match seats.split_first_mut() {
+        None => tick_along(rt, lock, pass, ticker),
+        Some((seat, others)) => {
+            serve_both(rt, alloc, lock, limits, seat, others, pass, ticker);
+        }
+    }
+}
+
+/// Serves the session of a seat on this thread, and the others on another one.
+#[cycle(threads)]
+fn serve_both<R, T, B, C, D>(
+    rt: &R,
+    alloc: Global,
+    lock: &Turns<Served<D>>,
+    limits: Limits,
+    seat: &mut T,
+    others: &mut [T],
+    pass: &mut Pass<Happened, Database<D>>,
+    ticker: &mut Ticker<B, C>,
+)
+where
+    R: Threads + Wait + Sync,
+    T: Serve<D> + Send,
+    B: Beat + Send,
+    C: Clock + Send,
+    D: Disk + Send,
+    requires { (first : DatabaseView D) × IsFirst lock.now first pass.old × T.can_serve seat.old lock.now first
+        × All (λ seat. T.can_serve seat lock.now first) others.old }
+    ensures seat { (first : DatabaseView D) → T.can_serve seat.old lock.now first
+        → T.serves limits.input first seat.old seat.new }
+    ensures others { (first : DatabaseView D) → IsFirst lock.now first pass.old
+        → All (λ seat. T.can_serve seat lock.now first) others.old
+        → Pairs (T.serves limits.input first) others.old others.new }
+    ensures ticker { (first : DatabaseView D) → IsFirst lock.now first pass.old
+        → TicksOn B.coming C.coming first pass.old pass.new ticker.old ticker.new }
+{
+    let mut apart = move ||
+        requires { IsSync R.row × IsSend T.row × IsSend B.row × IsSend C.row × IsSend D.row
+            × ((first : DatabaseView D) × IsFirst lock.now first pass.now
+            × All (λ seat. T.can_serve seat lock.now first) others.now) }
+        ensures { ((first : DatabaseView D) → IsFirst lock.entry.now first pass.entry.now
+            → All (λ seat. T.can_serve seat lock.entry.now first) others.entry.now
+            → Pairs (T.serves limits.input first) others.entry.now others.exit.now)
+            × ((first : DatabaseView D) → IsFirst lock.entry.now first pass.entry.now
+            → TicksOn B.coming C.coming first pass.entry.now pass.exit.now ticker.entry.now ticker.exit.now) }
+    { serve_seats(rt, alloc, lock, limits, others, pass, ticker) };
+    let mut here = move ||
+        requires { (first : DatabaseView D) × T.can_serve seat.now lock.now first }
+        ensures { (first : DatabaseView D) → T.can_serve seat.entry.now lock.entry.now first
+            → T.serves limits.input first seat.entry.now seat.exit.now }
+    { seat.serve(rt, alloc, lock, limits) };
+    join_mut(rt, &mut apart, &mut here);
+}

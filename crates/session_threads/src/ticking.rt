@@ -1,0 +1,58 @@
+//! The ticker: it looks at the time at each beat.
+
+ghost use Rattle.std.specs.Prelude.{◌≡◌, Some};
+ghost use Rattle.config_db.specs.View.{DatabaseView};
+ghost use Rattle.session_threads.specs.Ticks.{IsFirst, Ticks, TicksOn};
+
+use crate::deeds::Look;
+use crate::served::Served;
+use config_db::Database;
+use disk_model::Disk;
+use io_edge::{Beat, Clock};
+use session_history::Happened;
+use std::sync::Wait;
+use turn_lock::{Pass, Turns};
+
+/// What tells when another look at the time is due, and the time of it.
+#[derive(Drop)]
+pub struct Ticker<B, C> {
+    pub beat: B,
+    pub clock: C,
+}
+
+/// Waits for the beat, and looks at the time. It tells whether another look may be due.
+fn look<R: Wait, B: Beat, C: Clock, D: Disk>(
+    rt: &R,
+    lock: &Turns<Served<D>>,
+    pass: &mut Pass<Happened, Database<D>>,
+    ticker: &mut Ticker<B, C>,
+) -> bool
+    requires { (first : DatabaseView D) × IsFirst lock.now first pass.old }
+    ensures { (first : DatabaseView D) → IsFirst lock.now first pass.old
+        → Ticks B.coming C.coming result first pass.old pass.new ticker.old ticker.new }
+{
+    if !ticker.beat.beat() {
+        return false;
+    }
+    let moment = ticker.clock.now();
+    lock.turn(rt, pass, Look { moment })
+}
+
+/// Looks at the time at each beat, until the beat says that none is due or all sessions have ended.
+pub(crate) fn tick_along<R: Wait, B: Beat, C: Clock, D: Disk>(
+    rt: &R,
+    lock: &Turns<Served<D>>,
+    pass: &mut Pass<Happened, Database<D>>,
+    ticker: &mut Ticker<B, C>,
+)
+    requires { (first : DatabaseView D) × IsFirst lock.now first pass.old }
+    ensures { (first : DatabaseView D) → IsFirst lock.now first pass.old
+        → TicksOn B.coming C.coming first pass.old pass.new ticker.old ticker.new }
+{
+    for _ in rt.forever() {
+        if !look(rt, lock, pass, ticker) {
+            return;
+        }
+    }
+    unreachable!()
+}
