@@ -1,7 +1,7 @@
 //! The ends of the sessions that the words of the command line name: standard input and output, or files.
 
 ghost use Rattle.std.specs.Prelude.{◌≡◌, IfOk};
-ghost use Rattle.service.specs.Run.{users_of};
+ghost use Rattle.session_threads.specs.Results.{users_of};
 
 use cfg_base::{NoMemory, Word};
 use command_line::Asked;

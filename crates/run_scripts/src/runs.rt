@@ -1,7 +1,8 @@
-//! Runs of the service, over the ends that the stage makes and the script's disks. Its beat is not used yet.
+//! Runs of the service, over the ends and the ticker that the stage makes and the script's disks.
 
 ghost use Rattle.std.specs.Prelude.{◌≡◌, IfOk};
-ghost use Rattle.service.specs.Run.{AreEnds, users_of};
+ghost use Rattle.session_threads.specs.Results.{users_of};
+ghost use Rattle.service.specs.Run.{AreEnds};
 
 use crate::disks::Disks;
 use crate::histories::say_happened;
@@ -15,6 +16,7 @@ use session_shell::End;
 use std::alloc::Global;
 use std::sync::Wait;
 use std::thread::Threads;
+use std::vec::IntoIter;
 use stored_ledger::StartWhy;
 
 type StagedEnd = End<ListSource, VecSink, ListClock>;
@@ -34,10 +36,13 @@ fn end_of(alloc: Global, user: UserName, part: Part) -> Result<StagedEnd, Fault>
 }
 
 /// An end for each user, in order.
-fn ends_of(alloc: Global, users: &[UserName], parts: Vec<Part>) -> Result<Vec<StagedEnd>, Fault>
+fn ends_of(
+    alloc: Global,
+    users: &[UserName],
+    parts: &mut IntoIter<Part>,
+) -> Result<Vec<StagedEnd>, Fault>
     ensures { IfOk result (λ ends. users_of ends.items ≡ users.now) }
 {
-    let mut parts = parts.into_iter();
     let mut ends = Vec::new(alloc);
     for user in users {
         let Some(part) = parts.next() else {
@@ -49,11 +54,14 @@ fn ends_of(alloc: Global, users: &[UserName], parts: Vec<Part>) -> Result<Vec<St
 }
 
 /// The ends that the words ask for. Words that are refused ask for none, and are given one.
-fn asked_ends(alloc: Global, words: &Words, stage: Stage) -> Result<Vec<StagedEnd>, Fault>
+fn asked_ends(
+    alloc: Global,
+    words: &Words,
+    parts: &mut IntoIter<Part>,
+) -> Result<Vec<StagedEnd>, Fault>
     ensures { IfOk result (λ ends. AreEnds words.now ends.items) }
 {
     words_ask_one_thing();
-    let parts = stage.into_parts()?;
     match read_words(alloc, words) {
         Ok(asked) => ends_of(alloc, asked.users.as_slice(), parts),
         Err(Usage::Refused) => ends_of(alloc, &[UserName::root(alloc)?], parts),
@@ -61,12 +69,23 @@ fn asked_ends(alloc: Global, words: &Words, stage: Stage) -> Result<Vec<StagedEn
     }
 }
 
-/// A ticker that asks nothing.
-fn idle_ticker(alloc: Global) -> Ticker<ListBeat, ListClock> {
-    Ticker {
-        beat: ListBeat::new(Vec::new(alloc)),
-        clock: ListClock::new(Vec::new(alloc)),
+/// The ticker of the end behind those of the sessions: a look is due for each answer of its clock. Without such an end
+/// none is.
+fn ticker_of(alloc: Global, part: Option<Part>) -> Result<Ticker<ListBeat, ListClock>, Fault> {
+    let mut beats = Vec::new(alloc);
+    let Some(part) = part else {
+        return Ok(Ticker {
+            beat: ListBeat::new(beats),
+            clock: ListClock::new(Vec::new(alloc)),
+        });
+    };
+    for _ in 0..part.clock.len() {
+        beats.push(true)?;
     }
+    Ok(Ticker {
+        beat: ListBeat::new(beats),
+        clock: ListClock::new(part.clock),
+    })
 }
 
 /// What the words ask, over what is on the stage and on disks without room, which the script's disks replace.
@@ -78,9 +97,11 @@ fn ran<R: Threads + Wait + Sync>(
     text: &str,
 ) -> Result<Ran, Fault> {
     let words = words_of(alloc, &args_of(alloc, text)?)?;
-    let ends = asked_ends(alloc, &words, stage)?;
+    let mut parts = stage.into_parts()?.into_iter();
+    let ends = asked_ends(alloc, &words, &mut parts)?;
+    let ticker = ticker_of(alloc, parts.next())?;
     let (a, b) = disks.take(alloc)?;
-    Ok(run(rt, alloc, &words, ends, idle_ticker(alloc), a, b))
+    Ok(run(rt, alloc, &words, ends, ticker, a, b))
 }
 
 /// The number of a session, where there are several.

@@ -17,16 +17,18 @@ use Rattle.session_history.proofs.EventLemmas.{Leads-append, at_seam}
 use Rattle.session_shell.specs.declared.door.Given0.{Given0}
 use Rattle.session_shell.specs.declared.door.Given0.TheVariants.{Kept as KeptAt, NoMemory}
 use Rattle.session_shell.specs.Law.{IsDetermined}
-use Rattle.service.specs.History.{Follows, IsMade, NoCommand, is_settling}
+use Rattle.session_threads.specs.History.{Follows, IsMade, NoCommand}
+use Rattle.session_threads.proofs.ListLemmas.{all_back, some_is}
+use Rattle.service.specs.Alone.{is_settling}
 use Rattle.service.specs.Taking.{done_event}
-use Rattle.service.proofs.ListLemmas.{all_back, all_front, some_is}
+use Rattle.service.proofs.ListLemmas.{all_front}
 
 -- an event is done, has no numbers of calls, and settles nothing
 abbrev pub IsPlain : Happened → Type 0
 IsPlain event = (event.outcome ≡ Done) × (event.calls ≡ record { a = 0; b = 0 }) × (is_settling event.event ≡ false)
 
 -- how such a history follows after one ask of the caller that makes it alone
-pub record FollowsAlone (opening : State) (caller : ℕ) (events : List Happened) (command : Command) (answer : ℕ) (given : Given0) (events' : List Happened) : Type 0 where
+pub record FollowsPlain (opening : State) (caller : ℕ) (events : List Happened) (command : Command) (answer : ℕ) (given : Given0) (events' : List Happened) : Type 0 where
   pub follows : Follows opening caller events command answer given events'
   pub alone : follows.grows.others ≡ []
   pub legal : IsLegal opening events'
@@ -97,7 +99,7 @@ record Turn (opening : State) (caller : ℕ) (events : List Happened) (command :
   pub at_end : length events' ≡ place + 1
 
 module _ (opening : State) (caller : ℕ) (leads_once : (events : List Happened) (one other : State) → Leads opening events one → Leads opening events other → one ≡ other) where
-  turn_of : (events events' : List Happened) (command : Command) (answer place : ℕ) (reply : Reply) → FollowsAlone opening caller events command answer (KeptAt place reply) events' → Turn opening caller events command answer place events'
+  turn_of : (events events' : List Happened) (command : Command) (answer place : ℕ) (reply : Reply) → FollowsPlain opening caller events command answer (KeptAt place reply) events' → Turn opening caller events command answer place events'
   turn_of events events' command answer place reply follows = record {
     before = f.grows.before;
     leads = leads;
@@ -142,9 +144,9 @@ module _ (opening : State) (caller : ℕ) (leads_once : (events : List Happened)
           (ap (λ e. e.event) last_is ∙ f.named.asks))
 
   -- such a history leaves no choice
-  pub FollowsAlone-determined : ((events : List Happened) (place : ℕ) (before again : State) (event same : Happened) (one other : Reply) → IsAt opening events place before event one → IsAt opening events place again same other → (event ≡ same) × (before ≡ again) × (one ≡ other))
-      → IsDetermined (FollowsAlone opening caller)
-  FollowsAlone-determined at_once events a b command answer (KeptAt place reply) (KeptAt place' reply') one other want want' = (ap (λ p. KeptAt p reply) same_place ∙ ap (KeptAt place') same_reply, same_events)
+  pub FollowsPlain-determined : ((events : List Happened) (place : ℕ) (before again : State) (event same : Happened) (one other : Reply) → IsAt opening events place before event one → IsAt opening events place again same other → (event ≡ same) × (before ≡ again) × (one ≡ other))
+      → IsDetermined (FollowsPlain opening caller)
+  FollowsPlain-determined at_once events a b command answer (KeptAt place reply) (KeptAt place' reply') one other want want' = (ap (λ p. KeptAt p reply) same_place ∙ ap (KeptAt place') same_reply, same_events)
     where
       t : Turn opening caller events command answer place a
       t = turn_of events a command answer place reply one
@@ -173,5 +175,5 @@ module _ (opening : State) (caller : ℕ) (leads_once : (events : List Happened)
       same_reply : reply ≡ reply'
       same_reply = (at_once b place' one.follows.named.before other.follows.named.before one.follows.named.event other.follows.named.event reply reply'
           (subst (λ p. IsAt opening b p one.follows.named.before one.follows.named.event reply) same_place (subst (λ l. IsAt opening l place one.follows.named.before one.follows.named.event reply) same_events one.follows.named.is_at)) other.follows.named.is_at).2
-  FollowsAlone-determined at_once events a b command answer NoMemory given' one other want want' = absurd (want refl)
-  FollowsAlone-determined at_once events a b command answer (KeptAt place reply) NoMemory one other want want' = absurd (want' refl)
+  FollowsPlain-determined at_once events a b command answer NoMemory given' one other want want' = absurd (want refl)
+  FollowsPlain-determined at_once events a b command answer (KeptAt place reply) NoMemory one other want want' = absurd (want' refl)

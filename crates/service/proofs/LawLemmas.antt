@@ -12,9 +12,11 @@ use Rattle.session_shell.specs.declared.door.Given0.TheVariants.{Kept as KeptAt,
 use Rattle.session_shell.specs.Exchange.{Exchange, Asked, Refused}
 use Rattle.session_shell.specs.Law.{Agree, Undisturbed}
 use Rattle.session_shell.specs.Transcript.{GoesBy, SessionView}
-use Rattle.service.specs.History.{Follows, IsAlone, IsCalm, IsMade, IsTurn, Names, places_given, uncounted}
-use Rattle.service.proofs.AloneLemmas.{FollowsAlone, IsPlain, Leads-split}
-use Rattle.service.proofs.ListLemmas.{All-map, all_back, all_front, slice_get-map, some_is}
+use Rattle.session_threads.specs.History.{Follows, IsMade, IsTurn, Names, places_given}
+use Rattle.session_threads.proofs.ListLemmas.{all_back, some_is}
+use Rattle.service.specs.Alone.{IsAlone, IsCalm, uncounted}
+use Rattle.service.proofs.AloneLemmas.{FollowsPlain, IsPlain, Leads-split}
+use Rattle.service.proofs.ListLemmas.{All-map, all_front, slice_get-map}
 
 -- the events but for the numbers of calls
 abbrev pub plain : List Happened → List Happened
@@ -108,7 +110,7 @@ nobody caller (event ∷ others) own other = absurd (other.0 own.0)
 
 module _ (opening : State) (caller : ℕ) where
   follows_alone : (events : List Happened) (command : Command) (answer : ℕ) (given : Given0) (events' : List Happened) → IsAlone opening caller events' → Follows opening caller events command answer given events' →
-      FollowsAlone opening caller (plain events) command answer given (plain events')
+      FollowsPlain opening caller (plain events) command answer given (plain events')
   unfolding plain_follows
   follows_alone events command answer given events' alone follows =
       let own : AllByRecursion (λ (event : Happened). event.caller ≡ caller) (events ++ (follows.grows.others ++ follows.grows.own)) = subst (AllByRecursion (λ event. event.caller ≡ caller)) follows.grows.grown alone.own in
@@ -120,7 +122,7 @@ module _ (opening : State) (caller : ℕ) where
         plain = All-map uncounted IsCalm IsPlain follows.grows.own (λ event is. (is.0, refl, is.1)) (all_back IsCalm follows.grows.others follows.grows.own (all_back IsCalm events (follows.grows.others ++ follows.grows.own) calm));
       }
 
-  goes_alone : (exchanges : List Exchange) (events events' : List Happened) → IsAlone opening caller events' → GoesBy (Follows opening caller) exchanges events events' → GoesBy (FollowsAlone opening caller) exchanges (plain events) (plain events')
+  goes_alone : (exchanges : List Exchange) (events events' : List Happened) → IsAlone opening caller events' → GoesBy (Follows opening caller) exchanges events events' → GoesBy (FollowsPlain opening caller) exchanges (plain events) (plain events')
   goes_alone [] events events' alone goes = ap plain goes
   goes_alone (Asked moment command given ∷ exchanges) events events' alone goes =
       let more = longer opening caller exchanges goes.0 events' goes.2 in
@@ -130,7 +132,7 @@ module _ (opening : State) (caller : ℕ) where
 
   -- a session that nothing disturbs
   pub undisturbed_alone : (limit : ℕ) (bytes : List ℕ) (coming : ℕ → ℕ) (events : List Happened) (view : SessionView) → Undisturbed (Follows opening caller) limit bytes coming [] events view → IsAlone opening caller events →
-      Undisturbed (FollowsAlone opening caller) limit bytes coming [] (plain events) view
+      Undisturbed (FollowsPlain opening caller) limit bytes coming [] (plain events) view
   undisturbed_alone limit bytes coming events view quiet alone = record {
     how = quiet.how;
     source = quiet.source;

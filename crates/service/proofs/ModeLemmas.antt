@@ -18,7 +18,8 @@ use Rattle.stored_ledger.specs.declared.why.StartWhy.{StartWhy}
 use Rattle.stored_ledger.specs.declared.why.StartWhy.TheVariants.{Exists, NotAJournal, Damaged, BadRecord, DiskFault, NoMemory}
 use Rattle.service.specs.declared.closed.Closed.{Closed}
 use Rattle.service.specs.Modes.{IsGen, RunsIn, RunsMode, did_of}
-use Rattle.service.specs.Run.{AreEnds, users_of}
+use Rattle.session_threads.specs.Results.{users_of}
+use Rattle.service.specs.Run.{AreEnds}
 use Rattle.std.proofs.lemmas.List.{length-map}
 use Rattle.service.proofs.RunLemmas.{as_many}
 

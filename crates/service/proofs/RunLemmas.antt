@@ -1,5 +1,5 @@
 -- What a run hands back of its sessions.
-use Rattle.std.proofs.Common.{◌≡◌, ◌⊎◌, ◌<◌, ◌≤◌, ◌==◌, if◌then◌else◌, ℕ, suc, List, [], ◌∷◌, ◌++◌, length, map, refl, sym, ap, subst, ◌∙◌, arith, Option, None, Some, slice_get, inl, inr}
+use Rattle.std.proofs.Common.{◌≡◌, ◌⊎◌, ◌≤◌, ℕ, suc, List, [], ◌∷◌, length, map, refl, sym, ap, subst, ◌∙◌, arith, Option, None, Some, slice_get, inl, inr}
 use Rattle.std.proofs.lemmas.List.{length-append, length-map}
 use Rattle.command_line.specs.Asked.{Asks, user_in, users_of as users_asked}
 use Rattle.command_line.specs.declared.asked.Asked.{Asked}
@@ -10,8 +10,9 @@ use Rattle.session_shell.specs.declared.end.End.{End}
 use Rattle.session_shell.specs.declared.turn.How.{How}
 use Rattle.session_shell.specs.declared.turn.How.TheVariants.{Clean, SourceFault, SinkFault, InputFull, NoMemory}
 use Rattle.session_shell.specs.Transcript.{IsInput}
-use Rattle.service.specs.History.{HasSession}
-use Rattle.service.specs.Run.{AreEnds, Fits, IsFaultless, IsResult, IsUnbegun, SessionResult, status_of, status_of_all}
+use Rattle.session_threads.specs.History.{HasSession}
+use Rattle.session_threads.specs.Results.{IsResult, IsUnbegun, SessionResult, status_of_all}
+use Rattle.service.specs.Run.{AreEnds, Fits, IsFaultless}
 
 -- no sessions come to the status of words that ask nothing
 pub status_is_not_1 : (hows : List How) → status_of_all hows ≡ 1 → ⊥
@@ -22,26 +23,13 @@ status_is_not_1 (SinkFault ∷ hows) is = omega arith
 status_is_not_1 (InputFull ∷ hows) is = omega arith
 status_is_not_1 (NoMemory ∷ hows) is = omega arith
 
--- the status of sessions, and of one more
-pub status_then : (hows : List How) (how : How) → status_of_all (hows ++ how ∷ []) ≡ (if status_of_all hows == 0 then status_of how else status_of_all hows)
-status_then [] Clean = refl
-status_then [] SourceFault = refl
-status_then [] SinkFault = refl
-status_then [] InputFull = refl
-status_then [] NoMemory = refl
-status_then (Clean ∷ hows) how = status_then hows how
-status_then (SourceFault ∷ hows) how = refl
-status_then (SinkFault ∷ hows) how = refl
-status_then (InputFull ∷ hows) how = refl
-status_then (NoMemory ∷ hows) how = refl
-
 -- as many users as a command line asks for
-pub few_users : (words : List (List ℕ)) (asked : Asked) → Asks words asked → (0 < length asked.users) × (length asked.users ≤ 64)
-few_users words asked asks = subst (λ n. (0 < n) × (n ≤ 64)) (ap length (sym asks.meant.users)) (few _ _ asks.meant.sessions.few)
+pub few_users : (words : List (List ℕ)) (asked : Asked) → Asks words asked → length asked.users ≤ 64
+few_users words asked asks = subst (λ n. n ≤ 64) (ap length (sym asks.meant.users)) (few _ _ asks.meant.sessions.few)
   where
-    few : (user : List ℕ) (words : List (List ℕ)) → length words ≤ 64 → (0 < length (users_asked user words)) × (length (users_asked user words) ≤ 64)
-    few user [] most = (omega arith, omega arith)
-    few user (word ∷ words) most = (omega arith, omega (arith, most, length-map words user_in))
+    few : (user : List ℕ) (words : List (List ℕ)) → length words ≤ 64 → length (users_asked user words) ≤ 64
+    few user [] most = omega arith
+    few user (word ∷ words) most = omega (arith, most, length-map words user_in)
 
 -- as many ends as users
 pub as_many : {S K C : Type 0} (words : List (List ℕ)) (ends : List (End S K C)) (asked : Asked) → AreEnds words ends → Asks words asked → length ends ≡ length asked.users

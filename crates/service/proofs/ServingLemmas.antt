@@ -1,5 +1,5 @@
 -- A run of mode serve, put together from the start, the sessions and the closing.
-use Rattle.std.proofs.Common.{◌≡◌, ◌⊎◌, ◌<◌, ◌≤◌, ◌+◌, ℕ, Bool, true, false, IsTrue, is_some, List, [], ◌++◌, length, map, refl, sym, ap, subst, ◌∙◌, arith, Option, Some, slice_get, inl, inr}
+use Rattle.std.proofs.Common.{◌≡◌, ◌⊎◌, ◌≤◌, ◌+◌, ℕ, Bool, true, false, IsTrue, is_some, List, [], ◌++◌, length, map, refl, sym, ap, subst, ◌∙◌, arith, Option, Some, slice_get, inl, inr}
 use Rattle.std.specs.List.{AllByRecursion}
 use Rattle.std.proofs.lemmas.List.{length-map}
 use Rattle.command_line.specs.declared.asked.Asked.{Asked}
@@ -25,17 +25,21 @@ use Rattle.stored_ledger.specs.declared.why.StartWhy.{StartWhy}
 use Rattle.stored_ledger.specs.declared.why.StartWhy.TheVariants.{Exists, NotAJournal, Damaged, BadRecord, DiskFault, NoMemory}
 use Rattle.stored_ledger.specs.Starting.{Explains, IsByBytes, IsFound, IsNotFound}
 use Rattle.stored_ledger.specs.Stored.{SpellsKept}
+use Rattle.session_threads.specs.declared.ticking.Ticker.{Ticker}
+use Rattle.session_threads.specs.Adding.{AddsUp}
+use Rattle.session_threads.specs.Looks.{HasTicked}
+use Rattle.session_threads.specs.Results.{IsResult, status_of_all, users_of}
+use Rattle.session_threads.specs.Served.{AreServed}
+use Rattle.session_threads.proofs.ListLemmas.{All-weaker}
+use Rattle.session_threads.proofs.LogLemmas.{AddsUp-then, rose_since}
 use Rattle.service.specs.declared.closed.Closed.{Closed}
-use Rattle.service.specs.Log.{AddsUp}
-use Rattle.service.specs.Naming.{same_opened}
-use Rattle.service.specs.Run.{EachEnd, IsFaultless, IsResult, status_of_all, users_of}
-use Rattle.service.specs.Served.{AreServed, IsServedOver, status_over}
+use Rattle.service.specs.Run.{EachEnd, IsFaultless}
+use Rattle.service.specs.ServedOver.{IsServedOver, status_over}
 use Rattle.service.specs.Serving.{AreSessions, AreSound, AreStored, AreTheirs, DiskRose, HasHappened, HaveCauses, IsEnded, IsServed, Serves, status_at_end}
-use Rattle.service.proofs.ListLemmas.{All-weaker, slice_get-map}
-use Rattle.service.proofs.LogLemmas.{AddsUp-of, AddsUp-then, rose_since}
+use Rattle.service.proofs.ListLemmas.{slice_get-map}
 use Rattle.service.proofs.ModeLemmas.{refused_is_not_1}
 use Rattle.service.proofs.RunLemmas.{quiet, quiet_status, status_is_not_1}
-use Rattle.service.proofs.ServedLemmas.{EachFrom-at, longer, not_theirs}
+use Rattle.service.proofs.ServedLemmas.{EachFrom-at, longer, not_theirs, same_opened}
 
 -- a count that rose in the last part of a run rose in all of it
 disk_rose_since : {D : Type 0} (faults : D → ℕ) (a b m n a' b' : D) → (faults a ≤ faults m) × (faults m ≤ faults a') → (faults b ≤ faults n) × (faults n ≤ faults b') → DiskRose faults m n a' b' → DiskRose faults a b a' b'
@@ -61,10 +65,11 @@ refused_for_memory tells history faults spelled_once a b a' b' (BadRecord offset
 refused_for_memory tells history faults spelled_once a b a' b' DiskFault not sound = absurd (sound.no_fault (not.cause.rose refl))
 refused_for_memory tells history faults spelled_once a b a' b' NoMemory not sound = inr refl
 
-module _ {S K C B D : Type 0} (left : S → Option (List ℕ)) (source_faults : S → ℕ) (held : K → Option (List ℕ)) (sink_faults : K → ℕ) (coming : C → Option (ℕ → ℕ))
-    (tells : D → Bool) (history : D → DiskHistory) (faults : D → ℕ) where
-  module _ (limit : ℕ) (ends : List (End S K C)) (a b : D) (users : List (List ℕ)) (journal : ℕ) (first : DatabaseView D) (closed : Closed S K C B D) (theirs : users_of ends ≡ users)
-      (begun : IsBegun tells faults a b users journal first) (over : IsServedOver left source_faults held sink_faults coming tells history faults limit ends first closed) where
+module _ {S K C B D : Type 0} (left : S → Option (List ℕ)) (source_faults : S → ℕ) (held : K → Option (List ℕ)) (sink_faults : K → ℕ)
+    (coming : C → Option (ℕ → ℕ)) (due : B → Option (ℕ → Bool)) (tells : D → Bool) (history : D → DiskHistory) (faults : D → ℕ) where
+  module _ (limit : ℕ) (ends : List (End S K C)) (ticker : Ticker B C) (a b : D) (users : List (List ℕ)) (journal : ℕ)
+      (first : DatabaseView D) (closed : Closed S K C B D) (theirs : users_of ends ≡ users) (begun : IsBegun tells faults a b users journal first)
+      (over : IsServedOver left source_faults held sink_faults coming due tells history faults limit ends ticker first closed) where
     abbrev v : DatabaseView D
     v = over.v
 
@@ -80,23 +85,21 @@ module _ {S K C B D : Type 0} (left : S → Option (List ℕ)) (source_faults : 
     handed : IsHandedBack tells history last closed.history closed.disk_a closed.disk_b
     handed = over.closes.handed
 
-    served : AreServed left source_faults held sink_faults coming tells faults limit first ends closed.ends.items closed.turns.items v over.status
+    served : AreServed left source_faults held sink_faults coming due tells faults limit first ends closed.ends.items ticker closed.ticker
+        closed.turns.items v over.status
     served = over.served
 
     opens_first : opened first ≡ opening
     opens_first = ap (opening_of first.opening) (begun.users_are ∙ sym theirs)
 
-    opens_v : opened v ≡ opening
-    opens_v = same_opened first v served.adds.same ∙ opens_first
-
     opens_last : opened last ≡ opening
-    opens_last = same_opened v last settles.extends.same ∙ opens_v
+    opens_last = same_opened v last settles.extends.same ∙ same_opened first v served.adds.same ∙ opens_first
 
     events_are : closed.history.events.items ≡ v.events ++ settles.own
     events_are = handed.events ∙ settles.extends.grown
 
     whole : AddsUp tells faults (v.events ++ settles.own) first last
-    whole = AddsUp-then tells faults v.events settles.own first v last served.adds (AddsUp-of tells faults 0 v.state.greatest settles.own v last settles.extends)
+    whole = AddsUp-then tells faults 0 v.state.greatest v.events settles.own first v last served.adds settles.extends
 
     nobodys : AllByRecursion (λ (event : Happened). event.caller ≡ 0) settles.own
     nobodys = All-weaker _ (λ (event : Happened). event.caller ≡ 0) settles.own (λ event made. made.0) settles.extends.made
@@ -109,24 +112,26 @@ module _ {S K C B D : Type 0} (left : S → Option (List ℕ)) (source_faults : 
       turned = served.turned;
       ended = refl;
       each = λ k result is. subst (λ l. IsResult left source_faults held sink_faults coming opening limit l (k + 1) result) (sym events_are)
-          (longer left source_faults held sink_faults coming tells faults limit first opening v.events settles.own (k + 1) result (not_theirs (k + 1) 0 settles.own (λ none. omega (arith, none)) nobodys)
+          (longer left source_faults held sink_faults coming limit opening v.events settles.own (k + 1) result (not_theirs (k + 1) 0 settles.own (λ none. omega (arith, none)) nobodys)
           (subst (λ o. IsResult left source_faults held sink_faults coming o limit v.events (k + 1) result) opens_first
           (EachFrom-at (IsResult left source_faults held sink_faults coming (opened first) limit v.events) 1 served.results k (k + 1) result served.each is (omega arith))));
     }
 
-    are_theirs : AreTheirs opening (length (users_of ends)) closed.history.events.items
+    are_theirs : AreTheirs due coming opening (length (users_of ends)) ticker closed.ticker closed.history.events.items
     are_theirs = record {
       asked = v.events;
       closing = settles.own;
       are = events_are;
-      callers = subst (λ n. AllByRecursion (λ (event : Happened). (0 < event.caller) × (event.caller ≤ n)) v.events) (sym (length-map ends (λ end. end.user))) served.callers;
+      callers = subst (λ n. AllByRecursion (λ (event : Happened). event.caller ≤ n) v.events) (sym (length-map ends (λ end. end.user)))
+          served.callers;
+      ticked = subst (λ o. HasTicked due coming o ticker closed.ticker v.events) opens_first served.ticked;
       before = v.state;
-      leads = subst (λ o. Leads o v.events v.state) opens_v over.leads;
+      leads = subst (λ o. Leads o v.events v.state) opens_first served.leads;
       settles = settles.closing;
       made = settles.extends.made;
     }
 
-    happened : HasHappened first.opening (users_of ends) closed.history
+    happened : HasHappened due coming first.opening (users_of ends) ticker closed.ticker closed.history
     happened = record {
       opening = handed.opening ∙ ap Some (settles.extends.same.opening ∙ served.adds.same.opening);
       users_are = handed.users ∙ settles.extends.same.users ∙ served.adds.same.users ∙ begun.users_are ∙ sym theirs;
@@ -193,7 +198,8 @@ module _ {S K C B D : Type 0} (left : S → Option (List ℕ)) (source_faults : 
     }
 
     -- the sessions were served over the list that the disks held
-    pub IsServed-of : IsFound tells history a b (disk_a first.journal) (disk_b first.journal) first.opening → IsServed left source_faults held sink_faults coming tells history faults limit ends a b closed
+    pub IsServed-of : IsFound tells history a b (disk_a first.journal) (disk_b first.journal) first.opening
+        → IsServed left source_faults held sink_faults coming due tells history faults limit ends ticker a b closed
     unfolding happened
     IsServed-of found = record {
       kept = first.opening;
@@ -207,23 +213,29 @@ module _ {S K C B D : Type 0} (left : S → Option (List ℕ)) (source_faults : 
       why = over.why;
     }
 
-  abbrev pub Came : ℕ → List (End S K C) → D → D → Closed S K C B D → Type 0
-  Came limit ends a b closed = Serves left source_faults held sink_faults coming tells history faults limit ends a b closed
+  abbrev pub Came : ℕ → List (End S K C) → Ticker B C → D → D → Closed S K C B D → Type 0
+  Came limit ends ticker a b closed = Serves left source_faults held sink_faults coming due tells history faults limit ends ticker a b closed
 
   -- mode serve doesn't come to the status of words that ask nothing
-  pub serves_is_not_1 : (limit : ℕ) (ends : List (End S K C)) (a b : D) (closed : Closed S K C B D) → Came limit ends a b closed → closed.status ≡ 1 → ⊥
-  serves_is_not_1 limit ends a b closed (inl undone) one = omega (arith, one, undone.status_is)
-  serves_is_not_1 limit ends a b closed (inr (inl refused)) one = refused_is_not_1 refused.cause (sym refused.status_is ∙ one)
-  serves_is_not_1 limit ends a b closed (inr (inr served)) one = end_is_not_1 (is_some served.happened.last.flight) served.hows (sym served.ended.status_is ∙ one)
+  pub serves_is_not_1 : (limit : ℕ) (ends : List (End S K C)) (ticker : Ticker B C) (a b : D) (closed : Closed S K C B D)
+      → Came limit ends ticker a b closed → closed.status ≡ 1 → ⊥
+  serves_is_not_1 limit ends ticker a b closed (inl undone) one = omega (arith, one, undone.status_is)
+  serves_is_not_1 limit ends ticker a b closed (inr (inl refused)) one = refused_is_not_1 refused.cause (sym refused.status_is ∙ one)
+  serves_is_not_1 limit ends ticker a b closed (inr (inr served)) one =
+      end_is_not_1 (is_some served.happened.last.flight) served.hows (sym served.ended.status_is ∙ one)
 
   -- of the words that are asked
-  pub serves_so : (asked other : Asked) (ends : List (End S K C)) (a b : D) (closed : Closed S K C B D) → asked ≡ other → Came asked.limits.input ends a b closed → Came other.limits.input ends a b closed
-  serves_so asked other ends a b closed same came = subst (λ (x : Asked). Came x.limits.input ends a b closed) same came
+  pub serves_so : (asked other : Asked) (ends : List (End S K C)) (ticker : Ticker B C) (a b : D) (closed : Closed S K C B D)
+      → asked ≡ other → Came asked.limits.input ends ticker a b closed → Came other.limits.input ends ticker a b closed
+  serves_so asked other ends ticker a b closed same came =
+      subst (λ (x : Asked). Came x.limits.input ends ticker a b closed) same came
 
   -- sessions that no fault disturbs, over disks that don't fail
-  served_quietly : (limit : ℕ) (ends : List (End S K C)) (a b : D) (closed : Closed S K C B D) → IsServed left source_faults held sink_faults coming tells history faults limit ends a b closed
-      → AreSound tells history faults a b closed.disk_a closed.disk_b → EachEnd (IsFaultless left source_faults sink_faults limit) ends closed.ends.items → (closed.status ≡ 0) ⊎ (closed.status ≡ 9)
-  served_quietly limit ends a b closed served sound each = subst (λ n. (n ≡ 0) ⊎ (n ≡ 9)) (sym served.ended.status_is) (by_flight (is_some served.happened.last.flight) refl)
+  served_quietly : (limit : ℕ) (ends : List (End S K C)) (ticker : Ticker B C) (a b : D) (closed : Closed S K C B D)
+      → IsServed left source_faults held sink_faults coming due tells history faults limit ends ticker a b closed
+      → AreSound tells history faults a b closed.disk_a closed.disk_b
+      → EachEnd (IsFaultless left source_faults sink_faults limit) ends closed.ends.items → (closed.status ≡ 0) ⊎ (closed.status ≡ 9)
+  served_quietly limit ends ticker a b closed served sound each = subst (λ n. (n ≡ 0) ⊎ (n ≡ 9)) (sym served.ended.status_is) (by_flight (is_some served.happened.last.flight) refl)
     where
       s : AreSessions left source_faults held sink_faults coming (opening_of served.kept (users_of ends)) limit ends closed.ends.items closed.turns.items closed.history.events.items served.hows
       s = served.sessions
@@ -240,8 +252,10 @@ module _ {S K C B D : Type 0} (left : S → Option (List ℕ)) (source_faults : 
 
   module _ (spelled_once : (a b : List ℕ) (kept : Kept) (why : StartWhy) → SpellsKept a b kept → IsByBytes why → Explains a b why → ⊥) where
     -- without a fault and within the limit the status is 0 or 9
-    pub serves_complete : (limit : ℕ) (ends : List (End S K C)) (a b : D) (closed : Closed S K C B D) → Came limit ends a b closed → AreSound tells history faults a b closed.disk_a closed.disk_b
+    pub serves_complete : (limit : ℕ) (ends : List (End S K C)) (ticker : Ticker B C) (a b : D) (closed : Closed S K C B D)
+        → Came limit ends ticker a b closed → AreSound tells history faults a b closed.disk_a closed.disk_b
         → EachEnd (IsFaultless left source_faults sink_faults limit) ends closed.ends.items → (closed.status ≡ 0) ⊎ (closed.status ≡ 9)
-    serves_complete limit ends a b closed (inl undone) sound each = inr undone.status_is
-    serves_complete limit ends a b closed (inr (inl refused)) sound each = subst (λ n. (n ≡ 0) ⊎ (n ≡ 9)) (sym refused.status_is) (refused_for_memory tells history faults spelled_once a b closed.disk_a closed.disk_b refused.cause refused.disks sound)
-    serves_complete limit ends a b closed (inr (inr served)) sound each = served_quietly limit ends a b closed served sound each
+    serves_complete limit ends ticker a b closed (inl undone) sound each = inr undone.status_is
+    serves_complete limit ends ticker a b closed (inr (inl refused)) sound each = subst (λ n. (n ≡ 0) ⊎ (n ≡ 9)) (sym refused.status_is)
+        (refused_for_memory tells history faults spelled_once a b closed.disk_a closed.disk_b refused.cause refused.disks sound)
+    serves_complete limit ends ticker a b closed (inr (inr served)) sound each = served_quietly limit ends ticker a b closed served sound each

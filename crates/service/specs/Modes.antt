@@ -10,6 +10,7 @@ use Rattle.modes.specs.declared.did.StartWhy0.TheVariants.{None as NoWhy}
 use Rattle.modes.specs.Modes.{IsCheck, IsInit, IsTold}
 use Rattle.session_history.specs.declared.history.History.{History}
 use Rattle.session_shell.specs.declared.end.End.{End}
+use Rattle.session_threads.specs.declared.ticking.Ticker.{Ticker}
 use Rattle.service.specs.declared.closed.Closed.{Closed}
 use Rattle.service.specs.Generating.{IsGenerated}
 use Rattle.service.specs.Run.{IsEmpty, IsIdle}
@@ -48,10 +49,13 @@ pub record RunsMode {S K C B D : Type 0} (held : K → Option (List ℕ)) (sink_
   pub no_turns : closed.turns.items ≡ []
   pub ran : RunsIn held sink_faults tells history faults asked.mode asked old.sink new.sink a b closed
 
--- memory was wanting for the words themselves: nothing was done, no disk was called, and the start has no cause
-pub record IsUndone {S K C B D : Type 0} (ends : List (End S K C)) (a b : D) (closed : Closed S K C B D) : Type 0 where
+-- memory was wanting for the words themselves: nothing was done, no disk was called, the ticker is as it was given, and the start has
+-- no cause
+pub record IsUndone {S K C B D : Type 0} (ends : List (End S K C)) (ticker : Ticker B C) (a b : D) (closed : Closed S K C B D)
+    : Type 0 where
   pub status_is : closed.status ≡ 9
   pub idle : IsIdle ends closed.ends.items closed.turns.items closed.history
   pub why : closed.why ≡ NoWhy
+  pub ticker_same : closed.ticker ≡ ticker
   pub disk_a_same : closed.disk_a ≡ a
   pub disk_b_same : closed.disk_b ≡ b

@@ -1,18 +1,13 @@
--- The run of the service: what it hands back, and when each status comes.
-use Rattle.std.specs.Prelude.{◌≡◌, ◌≢◌, ◌≤◌, ◌⊎◌, ℕ, List, [], ◌∷◌, length, map, slice_get, Option, None, Some}
-use Rattle.std.specs.List.{AllByRecursion}
+-- What the words of a run ask, and what it hands back where nothing happened or nothing failed. This project's own.
+use Rattle.std.specs.Prelude.{◌≡◌, ◌≢◌, ◌≤◌, ℕ, List, [], length, slice_get, Option, None, Some}
 use Rattle.cfg_base.specs.Counts.{Rose}
 use Rattle.command_line.specs.Asked.{Asks}
 use Rattle.command_line.specs.declared.asked.Asked.{Asked}
-use Rattle.command_line.specs.declared.asked.RunMode.TheVariants.{Gen}
-use Rattle.config_core.specs.State.{State}
-use Rattle.session_history.specs.declared.history.Happened.{Happened}
+use Rattle.command_line.specs.declared.asked.RunMode.TheVariants.{Serve, Gen}
 use Rattle.session_history.specs.declared.history.History.{History}
 use Rattle.session_shell.specs.declared.end.End.{End}
-use Rattle.session_shell.specs.declared.turn.How.{How}
-use Rattle.session_shell.specs.declared.turn.How.TheVariants.{Clean, SourceFault, SinkFault, InputFull, NoMemory}
 use Rattle.session_shell.specs.declared.turn.Turn.{Turn}
-use Rattle.service.specs.History.{HasSession}
+use Rattle.session_threads.specs.Results.{users_of}
 
 -- the words ask something
 abbrev pub IsAsking : List (List ℕ) → Type 0
@@ -22,9 +17,9 @@ IsAsking words = (asked : Asked) × Asks words asked
 abbrev pub BeginsWithDisks : List (List ℕ) → Type 0
 BeginsWithDisks words = (asked : Asked) × Asks words asked × (asked.mode ≢ Gen)
 
--- the users of ends, in order
-abbrev pub users_of : {S K C : Type 0} → List (End S K C) → List (List ℕ)
-users_of ends = map (λ end. end.user) ends
+-- the words ask for mode serve
+abbrev pub AsksToServe : List (List ℕ) → Type 0
+AsksToServe words = (asked : Asked) × Asks words asked × (asked.mode ≡ Serve)
 
 -- the words ask for these ends: one for each user, in order
 abbrev pub AreEnds : {S K C : Type 0} → List (List ℕ) → List (End S K C) → Type 0
@@ -42,45 +37,6 @@ pub record IsIdle {E : Type 0} (ends ends' : List E) (turns : List (List Turn)) 
   pub same : ends' ≡ ends
   pub no_turns : turns ≡ []
   pub nothing : IsEmpty history
-
--- the status of a session that ended so
-abbrev pub status_of : How → ℕ
-status_of Clean = 0
-status_of SourceFault = 5
-status_of SinkFault = 6
-status_of InputFull = 7
-status_of NoMemory = 9
-
--- the status of sessions that ended so: that of the first one that didn't end clean
-abbrev pub status_of_all : List How → ℕ
-status_of_all [] = 0
-status_of_all (Clean ∷ hows) = status_of_all hows
-status_of_all (how ∷ hows) = status_of how
-
--- what came of a session: how it ended, its ends before and after, and its turns
-pub record SessionResult (S K C : Type 0) : Type 0 where
-  pub how : How
-  pub old : End S K C
-  pub new : End S K C
-  pub turns : List Turn
-
--- memory was wanting before the session began: it has no turns and no events, and its ends are as they were given
-pub record IsUnbegun {S K C : Type 0} (events : List Happened) (caller : ℕ) (result : SessionResult S K C) : Type 0 where
-  pub how : result.how ≡ NoMemory
-  pub same : result.new ≡ result.old
-  pub no_turns : result.turns ≡ []
-  pub no_events : AllByRecursion (λ event. event.caller ≢ caller) events
-
--- the session of a caller, over a part of the events of a run; a fault of its source or its sink is answered only where that
--- object's count rose
-pub record IsResult {S K C : Type 0} (left : S → Option (List ℕ)) (source_faults : S → ℕ) (held : K → Option (List ℕ))
-    (sink_faults : K → ℕ) (coming : C → Option (ℕ → ℕ)) (opening : State) (limit : ℕ) (events : List Happened) (caller : ℕ)
-    (result : SessionResult S K C) : Type 0 where
-  pub session : HasSession left held sink_faults coming opening caller limit events result.how result.turns result.old result.new
-      ⊎ IsUnbegun events caller result
-  pub user : result.new.user ≡ result.old.user
-  pub source_cause : result.how ≡ SourceFault → Rose (source_faults result.old.source) (source_faults result.new.source)
-  pub sink_cause : result.how ≡ SinkFault → Rose (sink_faults result.old.sink) (sink_faults result.new.sink)
 
 -- an input that is told and no longer than the limit
 abbrev pub Fits : ℕ → Option (List ℕ) → Type 0

@@ -1,5 +1,5 @@
 -- A run of mode serve: the start over two disks, the sessions, what happened, and what the disks hold at the end. This project's own.
-use Rattle.std.specs.Prelude.{◌≡◌, ◌<◌, ◌≤◌, ◌+◌, ◌⊎◌, ℕ, Bool, true, false, List, [], ◌++◌, length, map, slice_get}
+use Rattle.std.specs.Prelude.{◌≡◌, ◌≤◌, ◌+◌, ◌⊎◌, ℕ, Bool, true, false, List, [], ◌++◌, length, map, slice_get}
 use Rattle.std.specs.Prelude.{Option, Some, IsSome, is_some}
 use Rattle.std.specs.List.{AllByRecursion}
 use Rattle.cfg_base.specs.Counts.{Rose}
@@ -23,22 +23,26 @@ use Rattle.session_shell.specs.declared.turn.Turn.{Turn}
 use Rattle.stored_ledger.specs.declared.why.StartWhy.{StartWhy}
 use Rattle.stored_ledger.specs.Starting.{IsFound, IsNotFound}
 use Rattle.stored_ledger.specs.Stored.{BothTell, SpellsKept}
+use Rattle.session_threads.specs.declared.ticking.Ticker.{Ticker}
+use Rattle.session_threads.specs.History.{IsMade}
+use Rattle.session_threads.specs.Looks.{HasTicked}
+use Rattle.session_threads.specs.Results.{IsResult, SessionResult, status_of_all, users_of}
 use Rattle.service.specs.declared.closed.Closed.{Closed}
-use Rattle.service.specs.History.{IsMade}
 use Rattle.service.specs.Modes.{IsUndone}
-use Rattle.service.specs.Run.{IsIdle, IsResult, SessionResult, status_of_all, users_of}
+use Rattle.service.specs.Run.{IsIdle}
 
 -- the count of faults of one of two disks rose
 abbrev pub DiskRose : {D : Type 0} → (D → ℕ) → D → D → D → D → Type 0
 DiskRose faults a b a' b' = Rose (faults a) (faults a') ⊎ Rose (faults b) (faults b')
 
--- the start was refused, for a cause that has a status of its own, and nothing happened
+-- the start was refused, for a cause that has a status of its own, nothing happened, and the ticker is as it was given
 pub record IsNotStarted {S K C B D : Type 0} (tells : D → Bool) (history : D → DiskHistory) (faults : D → ℕ) (ends : List (End S K C))
-    (a b : D) (closed : Closed S K C B D) : Type 0 where
+    (ticker : Ticker B C) (a b : D) (closed : Closed S K C B D) : Type 0 where
   pub cause : StartWhy
   pub told : closed.why ≡ Why cause
   pub status_is : closed.status ≡ status_of_start cause
   pub idle : IsIdle ends closed.ends.items closed.turns.items closed.history
+  pub ticker_same : closed.ticker ≡ ticker
   pub disks : IsNotFound tells history faults a b cause closed.disk_a closed.disk_b
 
 -- the start found this list on the disks, and left them so
@@ -59,25 +63,28 @@ pub record AreSessions {S K C : Type 0} (left : S → Option (List ℕ)) (source
   pub each : (k : ℕ) (result : SessionResult S K C) → slice_get results k ≡ Some result
       → IsResult left source_faults held sink_faults coming opening limit events (k + 1) result
 
--- the events are those of callers 1 to count; behind them nobody settles what is in flight, where something is, at the greatest
--- moment so far
-pub record AreTheirs (opening : State) (count : ℕ) (events : List Happened) : Type 0 where
+-- the events are those of callers 1 to count, and of caller 0, which is the ticker; behind them nobody settles what is in flight,
+-- where something is, at the greatest moment so far
+pub record AreTheirs {B C : Type 0} (due : B → Option (ℕ → Bool)) (coming : C → Option (ℕ → ℕ)) (opening : State) (count : ℕ)
+    (ticker ticker' : Ticker B C) (events : List Happened) : Type 0 where
   pub asked : List Happened
   pub closing : List Happened
   pub are : events ≡ asked ++ closing
-  pub callers : AllByRecursion (λ event. (0 < event.caller) × (event.caller ≤ count)) asked
+  pub callers : AllByRecursion (λ event. event.caller ≤ count) asked
+  pub ticked : HasTicked due coming opening ticker ticker' asked
   pub before : State
   pub leads : Leads opening asked before
   pub settles : (closing ≡ []) ⊎ IsOneSettling closing
   pub made : AllByRecursion (IsMade 0 before.greatest) closing
 
 -- what happened: a legal history over this list, for these users, that keeps the active configuration accepted
-pub record HasHappened (kept : Kept) (users : List (List ℕ)) (history : History) : Type 0 where
+pub record HasHappened {B C : Type 0} (due : B → Option (ℕ → Bool)) (coming : C → Option (ℕ → ℕ)) (kept : Kept)
+    (users : List (List ℕ)) (ticker ticker' : Ticker B C) (history : History) : Type 0 where
   pub opening : history.opening ≡ Some kept
   pub users_are : history.users ≡ users
   pub last : State
   pub leads : Leads (opening_of kept users) history.events.items last
-  pub theirs : AreTheirs (opening_of kept users) (length users) history.events.items
+  pub theirs : AreTheirs due coming (opening_of kept users) (length users) ticker ticker' history.events.items
   pub accepted : StaysAccepted (opening_of kept users) history.events.items
 
 -- what the disks hold of a history that ends in this state, where they told what they hold
@@ -115,16 +122,16 @@ pub record IsEnded {D : Type 0} (faults : D → ℕ) (a b a' b' : D) (last : Sta
   pub rose : IsSome last.flight → DiskRose faults before_a before_b a' b'
   pub status_is : status ≡ status_at_end (is_some last.flight) hows
 
--- the sessions were served over the list that the disks held
+-- the sessions were served over the list that the disks held, with the ticker beside them
 pub record IsServed {S K C B D : Type 0} (left : S → Option (List ℕ)) (source_faults : S → ℕ) (held : K → Option (List ℕ))
-    (sink_faults : K → ℕ) (coming : C → Option (ℕ → ℕ)) (tells : D → Bool) (history : D → DiskHistory) (faults : D → ℕ) (limit : ℕ)
-    (ends : List (End S K C)) (a b : D) (closed : Closed S K C B D) : Type 0 where
+    (sink_faults : K → ℕ) (coming : C → Option (ℕ → ℕ)) (due : B → Option (ℕ → Bool)) (tells : D → Bool) (history : D → DiskHistory)
+    (faults : D → ℕ) (limit : ℕ) (ends : List (End S K C)) (ticker : Ticker B C) (a b : D) (closed : Closed S K C B D) : Type 0 where
   pub kept : Kept
   pub found : WasFound tells history a b kept
   pub hows : List How
   pub sessions : AreSessions left source_faults held sink_faults coming (opening_of kept (users_of ends)) limit ends closed.ends.items
       closed.turns.items closed.history.events.items hows
-  pub happened : HasHappened kept (users_of ends) closed.history
+  pub happened : HasHappened due coming kept (users_of ends) ticker closed.ticker closed.history
   pub stored : AreStored tells history a b (opening_of kept (users_of ends)) happened.last closed.history closed.disk_a closed.disk_b
   pub causes : HaveCauses faults a b closed.disk_a closed.disk_b closed.history.events.items
   pub ended : IsEnded faults a b closed.disk_a closed.disk_b happened.last hows closed.status
@@ -132,11 +139,12 @@ pub record IsServed {S K C B D : Type 0} (left : S → Option (List ℕ)) (sourc
 
 -- what comes of mode serve: memory was wanting before the disks were called, or the start was refused, or the sessions were served
 abbrev pub Serves : {S K C B D : Type 0} → (S → Option (List ℕ)) → (S → ℕ) → (K → Option (List ℕ)) → (K → ℕ) → (C → Option (ℕ → ℕ))
-    → (D → Bool) → (D → DiskHistory) → (D → ℕ) → ℕ → List (End S K C) → D → D → Closed S K C B D → Type 0
-Serves left source_faults held sink_faults coming tells history faults limit ends a b closed =
-    IsUndone ends a b closed
-    ⊎ (IsNotStarted tells history faults ends a b closed
-    ⊎ IsServed left source_faults held sink_faults coming tells history faults limit ends a b closed)
+    → (B → Option (ℕ → Bool)) → (D → Bool) → (D → DiskHistory) → (D → ℕ) → ℕ → List (End S K C) → Ticker B C → D → D
+    → Closed S K C B D → Type 0
+Serves left source_faults held sink_faults coming due tells history faults limit ends ticker a b closed =
+    IsUndone ends ticker a b closed
+    ⊎ (IsNotStarted tells history faults ends ticker a b closed
+    ⊎ IsServed left source_faults held sink_faults coming due tells history faults limit ends ticker a b closed)
 
 -- both disks tell what they hold, their files spell a list, and neither's count of faults rose
 pub record AreSound {D : Type 0} (tells : D → Bool) (history : D → DiskHistory) (faults : D → ℕ) (a b a' b' : D) : Type 0 where

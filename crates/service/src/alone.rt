@@ -8,7 +8,7 @@ ghost use Rattle.command_line.specs.declared.asked.RunMode.TheVariants.{Init, Ch
 ghost use Rattle.modes.specs.declared.did.StartWhy0.TheVariants.{None as NoWhy};
 ghost use Rattle.service.specs.Modes.{IsGen, RunsMode};
 
-use crate::closed::{Closed, Ticker, no_history};
+use crate::closed::{Closed, no_history};
 use crate::generating::{Generated, generate};
 use cfg_base::{NoMemory, Users};
 use command_line::Asked;
@@ -17,6 +17,7 @@ use io_edge::Sink;
 use modes::{Did, StartWhy0, check, init, number_of, tell};
 use session_history::History;
 use session_shell::End;
+use session_threads::Ticker;
 use std::alloc::Global;
 
 /// A run that came to this.

@@ -5,16 +5,10 @@ use cfg_base::{Calls, Users};
 use modes::StartWhy0;
 use session_history::History;
 use session_shell::{End, TurnList};
+use session_threads::Ticker;
 use std::alloc::Global;
 
 pub(crate) const NO_CALLS: Calls = Calls { a: 0, b: 0 };
-
-/// What tells when another tick is due, and the time of it.
-#[derive(Drop)]
-pub struct Ticker<B, C> {
-    pub beat: B,
-    pub clock: C,
-}
 
 /// All that a run was given, with what it did.
 #[derive(Drop)]

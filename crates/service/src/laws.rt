@@ -6,7 +6,8 @@ ghost use Rattle.config_core.specs.State.{opening_of};
 ghost use Rattle.session_history.specs.declared.history.Happened.{Happened};
 ghost use Rattle.session_shell.specs.Law.{Agree, Undisturbed};
 ghost use Rattle.session_shell.specs.Transcript.{SessionView};
-ghost use Rattle.service.specs.History.{AreAlike, Follows, IsAlone, Names};
+ghost use Rattle.session_threads.specs.History.{Follows, Names};
+ghost use Rattle.service.specs.Alone.{AreAlike, IsAlone};
 
 use session_history::histories_have_one_outcome;
 use shell_words::lines_are_read_in_one_way;

@@ -1,28 +1,29 @@
 //! The top call: it does what its words ask, and hands everything back.
 
-ghost use Rattle.std.specs.Prelude.{◌≡◌, ◌≢◌, ◌⊎◌, ◌↔◌, ◌<◌, ◌≤◌, [], length, vec_capacity};
+ghost use Rattle.std.specs.Prelude.{◌≡◌, ◌≢◌, ◌⊎◌, ◌↔◌, ◌≤◌, [], length};
 ghost use Rattle.command_line.specs.Asked.{Asks};
 ghost use Rattle.command_line.specs.declared.asked.Asked.{Asked};
 ghost use Rattle.command_line.specs.declared.asked.RunMode.TheVariants.{Serve};
 ghost use Rattle.modes.specs.declared.did.StartWhy0.TheVariants.{None as NoWhy, Why};
 ghost use Rattle.modes.specs.Modes.{status_of as status_of_start};
-ghost use Rattle.stored_ledger.specs.Starting.{IsNotFound};
+ghost use Rattle.config_db.specs.View.{opened};
+ghost use Rattle.session_threads.specs.Results.{users_of};
+ghost use Rattle.session_threads.specs.Rows.{HasRoom};
 ghost use Rattle.service.specs.Modes.{IsUndone, RunsMode};
-ghost use Rattle.service.specs.Run.{AreEnds, BeginsWithDisks, EachEnd, IsAsking, IsFaultless, IsIdle, users_of};
-ghost use Rattle.service.specs.Served.{IsServedOver, status_over};
-ghost use Rattle.service.specs.Serving.{AreSound, IsNotStarted, Serves};
+ghost use Rattle.service.specs.Run.{AreEnds, AsksToServe, BeginsWithDisks, EachEnd, IsAsking, IsFaultless, IsIdle};
+ghost use Rattle.service.specs.ServedOver.{IsServedOver, status_over};
+ghost use Rattle.service.specs.Serving.{AreSound, Serves};
 
 use crate::alone::{run_check, run_gen, run_init};
-use crate::book::Book;
-use crate::closed::{Closed, Ticker, no_history};
-use crate::served::{Served, room, serve_all};
+use crate::closed::{Closed, no_history};
 use cfg_base::{Limits, NoMemory, Words};
 use command_line::{Asked, RunMode, Usage, read_words, words_ask_one_thing};
-use config_db::ClosedBook;
+use config_db::{ClosedBook, Database};
 use disk_model::Disk;
 use io_edge::{Beat, Clock, Sink, Source};
 use modes::StartWhy0;
-use session_shell::{End, TurnList};
+use session_shell::End;
+use session_threads::{Room, Sessions, Ticker, make_room, serve_all};
 use std::alloc::Global;
 use std::sync::Wait;
 use std::thread::Threads;
@@ -107,41 +108,48 @@ fn status_over(fault: bool, status: u8) -> u8
 }
 
 /// Serves the sessions of ends for which there is room, over a database in which nothing happened yet, and closes it.
-fn serve<R: Wait, S: Source, K: Sink, C: Clock, B, D: Disk>(
+fn serve<R, S, K, C, B, D>(
     rt: &R,
     alloc: Global,
-    book: Book<D>,
-    lists: Vec<TurnList>,
+    database: Database<D>,
+    room: Room<S, K, C, D>,
     ends: Vec<End<S, K, C>>,
     limits: Limits,
     ticker: Ticker<B, C>,
 ) -> Closed<S, K, C, B, D>
-    requires fresh { book.database.events ≡ [] }
-    requires users { book.database.users ≡ users_of ends.items }
-    requires lists { (lists.items ≡ []) × (vec_capacity lists ≡ length ends.items) }
+where
+    R: Threads + Wait + Sync,
+    S: Source + Send,
+    K: Sink + Send,
+    C: Clock + Send,
+    B: Beat + Send,
+    D: Disk + Send,
+    requires fresh { (database.events ≡ []) × (database.state ≡ opened database) }
+    requires users { database.users ≡ users_of ends.items }
+    requires room { HasRoom (length ends.items) room }
     requires few { length ends.items ≤ 64 }
-    ensures served { IsServedOver S.left S.faults K.held K.faults C.coming D.tells D.history D.faults limits.input
-        ends.items book.database result }
-    ensures ticker { result.ticker ≡ ticker }
+    ensures { IsServedOver S.left S.faults K.held K.faults C.coming B.coming D.tells D.history D.faults limits.input
+        ends.items ticker database result }
 {
-    let Served {
-        book,
+    let Sessions {
+        database,
         ends,
-        lists,
+        turns,
+        ticker,
         status,
-    } = serve_all(rt, alloc, book, lists, ends, limits);
+    } = serve_all(rt, alloc, database, room, ends, limits, ticker);
     let ClosedBook {
         history,
         fault,
         a,
         b,
-    } = book.close();
+    } = database.close();
     Closed {
         status: status_over(fault, status),
         why: StartWhy0::None,
         ends,
         ticker,
-        turns: lists,
+        turns,
         history,
         disk_a: a,
         disk_b: b,
@@ -149,32 +157,41 @@ fn serve<R: Wait, S: Source, K: Sink, C: Clock, B, D: Disk>(
 }
 
 /// Opens the database, and serves the sessions over it.
-fn serve_from<R: Wait, S: Source, K: Sink, C: Clock, B, D: Disk>(
+fn serve_from<R, S, K, C, B, D>(
     rt: &R,
     alloc: Global,
-    lists: Vec<TurnList>,
+    room: Room<S, K, C, D>,
     asked: Asked,
     ends: Vec<End<S, K, C>>,
     ticker: Ticker<B, C>,
     disk_a: D,
     disk_b: D,
 ) -> Closed<S, K, C, B, D>
+where
+    R: Threads + Wait + Sync,
+    S: Source + Send,
+    K: Sink + Send,
+    C: Clock + Send,
+    B: Beat + Send,
+    D: Disk + Send,
     requires users { users_of ends.items ≡ asked.users }
-    requires some { (0 < length asked.users) × (length asked.users ≤ 64) }
-    requires lists { (lists.items ≡ []) × (vec_capacity lists ≡ length asked.users) }
-    ensures served { Serves S.left S.faults K.held K.faults C.coming D.tells D.history D.faults asked.limits.input
-        ends.items disk_a disk_b result }
-    ensures ticker { result.ticker ≡ ticker }
+    requires few { length asked.users ≤ 64 }
+    requires room { HasRoom (length asked.users) room }
+    ensures { Serves S.left S.faults K.held K.faults C.coming B.coming D.tells D.history D.faults asked.limits.input
+        ends.items ticker disk_a disk_b result }
 {
     let limits = asked.limits;
-    match Book::start(alloc, disk_a, disk_b, asked.users, limits) {
-        Ok(book) => serve(rt, alloc, book, lists, ends, limits, ticker),
-        Err(fault) => refused(alloc, fault, ends, ticker),
+    match Database::start(alloc, disk_a, disk_b, asked.users, limits) {
+        Ok(database) => serve(rt, alloc, database, room, ends, limits, ticker),
+        Err(fault) => {
+            room.destroy_empty();
+            refused(alloc, fault, ends, ticker)
+        }
     }
 }
 
 /// Serves sessions as the words ask, where there is memory for the answer. No disk is called before that is known.
-fn serve_asked<R: Wait, S: Source, K: Sink, C: Clock, B, D: Disk>(
+fn serve_asked<R, S, K, C, B, D>(
     rt: &R,
     alloc: Global,
     asked: Asked,
@@ -183,21 +200,27 @@ fn serve_asked<R: Wait, S: Source, K: Sink, C: Clock, B, D: Disk>(
     disk_a: D,
     disk_b: D,
 ) -> Closed<S, K, C, B, D>
+where
+    R: Threads + Wait + Sync,
+    S: Source + Send,
+    K: Sink + Send,
+    C: Clock + Send,
+    B: Beat + Send,
+    D: Disk + Send,
     requires users { users_of ends.items ≡ asked.users }
-    requires some { (0 < length asked.users) × (length asked.users ≤ 64) }
-    ensures served { Serves S.left S.faults K.held K.faults C.coming D.tells D.history D.faults asked.limits.input
-        ends.items disk_a disk_b result }
-    ensures ticker { result.ticker ≡ ticker }
+    requires few { length asked.users ≤ 64 }
+    ensures { Serves S.left S.faults K.held K.faults C.coming B.coming D.tells D.history D.faults asked.limits.input
+        ends.items ticker disk_a disk_b result }
 {
-    match room(alloc, &asked.users) {
-        Ok(lists) => serve_from(rt, alloc, lists, asked, ends, ticker, disk_a, disk_b),
+    match make_room(alloc, &asked.users) {
+        Ok(room) => serve_from(rt, alloc, room, asked, ends, ticker, disk_a, disk_b),
         Err(NoMemory) => idle(alloc, 9, ends, ticker, disk_a, disk_b),
     }
 }
 
-/// Does what the words ask, with the ends that they ask for. Mode serve opens the list of commits on the two disks, serves the
-/// sessions one after another, as callers 1, 2 and so on, and closes the list; each other mode has one end, whose source isn't
-/// read. Where memory is wanting all parts come back.
+/// Does what the words ask, with the ends that they ask for. Mode serve opens the list of commits on the two disks,
+/// serves the sessions side by side, as callers 1, 2 and so on, with the ticker beside them, and closes the list; each
+/// other mode has one end, whose source isn't read. Where memory is wanting all parts come back.
 pub fn run<R, S, K, C, B, D>(
     rt: &R,
     alloc: Global,
@@ -218,8 +241,8 @@ where
     ensures usage { (result.status ≡ 1) ↔ ((result.status ≢ 9) × (IsAsking words.now → ⊥)) }
     ensures refused { (IsAsking words.now → ⊥) → IsIdle ends.items result.ends.items result.turns.items result.history }
     ensures served { (asked : Asked) → Asks words.now asked → asked.mode ≡ Serve
-        → Serves S.left S.faults K.held K.faults C.coming D.tells D.history D.faults asked.limits.input
-        ends.items disk_a disk_b result }
+        → Serves S.left S.faults K.held K.faults C.coming B.coming D.tells D.history D.faults asked.limits.input
+        ends.items ticker disk_a disk_b result }
     // Where the disks spell a list, no disk, no source and no sink has a fault, and each input is told and within the limit, all
     // sessions end clean.
     ensures complete { (asked : Asked) → Asks words.now asked → asked.mode ≡ Serve
@@ -227,9 +250,10 @@ where
         → EachEnd (IsFaultless S.left S.faults K.faults asked.limits.input) ends.items result.ends.items
         → (result.status ≡ 0) ⊎ (result.status ≡ 9) }
     ensures modes { (asked : Asked) → Asks words.now asked → asked.mode ≢ Serve
-        → IsUndone ends.items disk_a disk_b result
+        → IsUndone ends.items ticker disk_a disk_b result
         ⊎ RunsMode K.held K.faults D.tells D.history D.faults asked ends.items disk_a disk_b result }
-    ensures ticker { result.ticker ≡ ticker }
+    // Mode serve alone asks the ticker.
+    ensures ticker { (AsksToServe words.now → ⊥) → result.ticker ≡ ticker }
     // Only the modes that begin with disks call them, and have a refused start.
     ensures disks { (BeginsWithDisks words.now → ⊥)
         → (result.disk_a ≡ disk_a) × (result.disk_b ≡ disk_b) × (result.why ≡ NoWhy) }

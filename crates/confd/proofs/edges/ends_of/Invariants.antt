@@ -1,5 +1,5 @@
 use Rattle.std.proofs.Common.{◌≡◌, take}
-use Rattle.service.specs.Run.{users_of}
+use Rattle.session_threads.specs.Results.{users_of}
 use Rattle.confd.proofs.edges.ends_of.Given as goal
 
 -- the ends so far are of the first users

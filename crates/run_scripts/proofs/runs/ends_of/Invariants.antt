@@ -1,5 +1,5 @@
 use Rattle.std.proofs.Common.{◌≡◌, take}
-use Rattle.service.specs.Run.{users_of}
+use Rattle.session_threads.specs.Results.{users_of}
 use Rattle.run_scripts.proofs.runs.ends_of.Given as goal
 
 -- the ends so far are of the first users

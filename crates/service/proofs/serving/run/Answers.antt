@@ -7,14 +7,14 @@ use Rattle.service.proofs.RunLemmas.{few_users}
 use Rattle.service.proofs.serving.run.Goals as goal
 
 pub serve_asked-requires-clause-users : goal.serve_asked-requires-clause-users
-serve_asked-requires-clause-users g c = c.requires.ends c.in-Ok.asked c.in-Ok.ensures.ok
+serve_asked-requires-clause-users g c = λ κs lives. c.requires.ends c.in-Ok.asked c.in-Ok.ensures.ok
 
-pub serve_asked-requires-clause-some : goal.serve_asked-requires-clause-some
-serve_asked-requires-clause-some g c = few_users c.args.words.now c.in-Ok.asked c.in-Ok.ensures.ok
+pub serve_asked-requires-clause-few : goal.serve_asked-requires-clause-few
+serve_asked-requires-clause-few g c = λ κs lives. few_users c.args.words.now c.in-Ok.asked c.in-Ok.ensures.ok
 
 pub returns-in-Serve-clause-usage : goal.returns-in-Serve-clause-usage
 returns-in-Serve-clause-usage g c = (
-  λ one. absurd (serves_is_not_1 g.S.Source.left g.S.Source.faults g.K.Sink.held g.K.Sink.faults g.C.Clock.coming g.D.Disk.tells g.D.Disk.history g.D.Disk.faults c.in-Ok.asked.limits.input c.args.ends.items c.args.disk_a c.args.disk_b c.serve_asked.result c.serve_asked.ensures.served one),
+  λ one. absurd (serves_is_not_1 g.S.Source.left g.S.Source.faults g.K.Sink.held g.K.Sink.faults g.C.Clock.coming g.B.Beat.coming g.D.Disk.tells g.D.Disk.history g.D.Disk.faults c.in-Ok.asked.limits.input c.args.ends.items c.args.ticker c.args.disk_a c.args.disk_b c.serve_asked.result c.serve_asked.ensures one),
   λ both. absurd (both.1 (c.in-Ok.asked, c.in-Ok.ensures.ok)),
 )
 
@@ -23,14 +23,14 @@ returns-in-Serve-clause-refused g c = λ not. absurd (not (c.in-Ok.asked, c.in-O
 
 pub returns-in-Serve-clause-served : goal.returns-in-Serve-clause-served
 returns-in-Serve-clause-served g c = λ asked asks serve.
-    serves_so g.S.Source.left g.S.Source.faults g.K.Sink.held g.K.Sink.faults g.C.Clock.coming g.D.Disk.tells g.D.Disk.history g.D.Disk.faults c.in-Ok.asked asked c.args.ends.items c.args.disk_a c.args.disk_b c.serve_asked.result
-    (c.words_ask_one_thing.ensures c.args.words.now c.in-Ok.asked asked c.in-Ok.ensures.ok asks) c.serve_asked.ensures.served
+    serves_so g.S.Source.left g.S.Source.faults g.K.Sink.held g.K.Sink.faults g.C.Clock.coming g.B.Beat.coming g.D.Disk.tells g.D.Disk.history g.D.Disk.faults c.in-Ok.asked asked c.args.ends.items c.args.ticker c.args.disk_a c.args.disk_b c.serve_asked.result
+    (c.words_ask_one_thing.ensures c.args.words.now c.in-Ok.asked asked c.in-Ok.ensures.ok asks) c.serve_asked.ensures
 
 pub returns-in-Serve-clause-complete : goal.returns-in-Serve-clause-complete
 returns-in-Serve-clause-complete g c = λ asked asks serve sound each.
-    serves_complete g.S.Source.left g.S.Source.faults g.K.Sink.held g.K.Sink.faults g.C.Clock.coming g.D.Disk.tells g.D.Disk.history g.D.Disk.faults c.starts_have_one_cause.ensures.spelled asked.limits.input c.args.ends.items c.args.disk_a c.args.disk_b c.serve_asked.result
-    (serves_so g.S.Source.left g.S.Source.faults g.K.Sink.held g.K.Sink.faults g.C.Clock.coming g.D.Disk.tells g.D.Disk.history g.D.Disk.faults c.in-Ok.asked asked c.args.ends.items c.args.disk_a c.args.disk_b c.serve_asked.result
-    (c.words_ask_one_thing.ensures c.args.words.now c.in-Ok.asked asked c.in-Ok.ensures.ok asks) c.serve_asked.ensures.served) sound each
+    serves_complete g.S.Source.left g.S.Source.faults g.K.Sink.held g.K.Sink.faults g.C.Clock.coming g.B.Beat.coming g.D.Disk.tells g.D.Disk.history g.D.Disk.faults c.starts_have_one_cause.ensures.spelled asked.limits.input c.args.ends.items c.args.ticker c.args.disk_a c.args.disk_b c.serve_asked.result
+    (serves_so g.S.Source.left g.S.Source.faults g.K.Sink.held g.K.Sink.faults g.C.Clock.coming g.B.Beat.coming g.D.Disk.tells g.D.Disk.history g.D.Disk.faults c.in-Ok.asked asked c.args.ends.items c.args.ticker c.args.disk_a c.args.disk_b c.serve_asked.result
+    (c.words_ask_one_thing.ensures c.args.words.now c.in-Ok.asked asked c.in-Ok.ensures.ok asks) c.serve_asked.ensures) sound each
 
 pub returns-in-Serve-clause-modes : goal.returns-in-Serve-clause-modes
 returns-in-Serve-clause-modes g c = λ asked asks other.
@@ -38,6 +38,9 @@ returns-in-Serve-clause-modes g c = λ asked asks other.
 
 pub returns-in-Serve-clause-disks : goal.returns-in-Serve-clause-disks
 returns-in-Serve-clause-disks g c = λ not. absurd (not (c.in-Ok.asked, c.in-Ok.ensures.ok, λ gen. gen_apart (sym gen ∙ c.in-Serve.is)))
+
+pub returns-in-Serve-clause-ticker : goal.returns-in-Serve-clause-ticker
+returns-in-Serve-clause-ticker g c = λ not. absurd (not (c.in-Ok.asked, c.in-Ok.ensures.ok, c.in-Serve.is))
 
 pub run_init-requires-clause-one : goal.run_init-requires-clause-one
 run_init-requires-clause-one g c = one_end c.args.words.now c.args.ends.items c.in-Ok.asked c.requires.ends c.in-Ok.ensures.ok (λ serve. init_apart (sym c.in-Init.is ∙ serve))
@@ -63,6 +66,9 @@ pub returns-in-Init-clause-modes : goal.returns-in-Init-clause-modes
 returns-in-Init-clause-modes g c = λ asked asks other.
     inr (moded g.K.Sink.held g.K.Sink.faults g.D.Disk.tells g.D.Disk.history g.D.Disk.faults c.in-Ok.asked asked c.args.ends.items c.args.disk_a c.args.disk_b c.run_init.result
     (c.words_ask_one_thing.ensures c.args.words.now c.in-Ok.asked asked c.in-Ok.ensures.ok asks) c.run_init.ensures.ran)
+
+pub returns-in-Init-clause-ticker : goal.returns-in-Init-clause-ticker
+returns-in-Init-clause-ticker g c = λ not. c.run_init.ensures.ticker
 
 pub returns-in-Init-clause-disks : goal.returns-in-Init-clause-disks
 returns-in-Init-clause-disks g c = λ not. absurd (not (c.in-Ok.asked, c.in-Ok.ensures.ok, λ gen. init_is_not_gen (sym c.in-Init.is ∙ gen)))
@@ -91,6 +97,9 @@ pub returns-in-Check-clause-modes : goal.returns-in-Check-clause-modes
 returns-in-Check-clause-modes g c = λ asked asks other.
     inr (moded g.K.Sink.held g.K.Sink.faults g.D.Disk.tells g.D.Disk.history g.D.Disk.faults c.in-Ok.asked asked c.args.ends.items c.args.disk_a c.args.disk_b c.run_check.result
     (c.words_ask_one_thing.ensures c.args.words.now c.in-Ok.asked asked c.in-Ok.ensures.ok asks) c.run_check.ensures.ran)
+
+pub returns-in-Check-clause-ticker : goal.returns-in-Check-clause-ticker
+returns-in-Check-clause-ticker g c = λ not. c.run_check.ensures.ticker
 
 pub returns-in-Check-clause-disks : goal.returns-in-Check-clause-disks
 returns-in-Check-clause-disks g c = λ not. absurd (not (c.in-Ok.asked, c.in-Ok.ensures.ok, λ gen. check_is_not_gen (sym c.in-Check.is ∙ gen)))
@@ -125,6 +134,9 @@ pub returns-in-Gen-clause-modes : goal.returns-in-Gen-clause-modes
 returns-in-Gen-clause-modes g c = λ asked asks other.
     inr (moded g.K.Sink.held g.K.Sink.faults g.D.Disk.tells g.D.Disk.history g.D.Disk.faults c.in-Ok.asked asked c.args.ends.items c.args.disk_a c.args.disk_b c.run_gen.result
     (c.words_ask_one_thing.ensures c.args.words.now c.in-Ok.asked asked c.in-Ok.ensures.ok asks) c.run_gen.ensures.ran)
+
+pub returns-in-Gen-clause-ticker : goal.returns-in-Gen-clause-ticker
+returns-in-Gen-clause-ticker g c = λ not. c.run_gen.ensures.ticker
 
 pub returns-in-Gen-clause-disks : goal.returns-in-Gen-clause-disks
 returns-in-Gen-clause-disks g c = λ not.

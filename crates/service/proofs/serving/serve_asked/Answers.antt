@@ -1,11 +1,12 @@
 use Rattle.std.proofs.Common.{inl}
 use Rattle.service.proofs.serving.serve_asked.Goals as goal
 
-pub returns-in-Err-clause-served : goal.returns-in-Err-clause-served
-returns-in-Err-clause-served g c = inl (record {
+pub returns-in-Err : goal.returns-in-Err
+returns-in-Err g c = inl (record {
   status_is = c.idle.ensures.status;
   idle = c.idle.ensures.idle;
   why = c.idle.ensures.why;
+  ticker_same = c.idle.ensures.ticker;
   disk_a_same = c.idle.ensures.disks.0;
   disk_b_same = c.idle.ensures.disks.1;
 })
