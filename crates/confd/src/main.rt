@@ -16,6 +16,7 @@ ghost use Rattle.service.specs.Run.{AreEnds, IsAsking};
 
 mod disks;
 mod edges;
+mod pace;
 mod telling;
 
 use cfg_base::{NoMemory, Word, WordFault, Words};
@@ -23,7 +24,8 @@ use command_line::{Asked, RunMode, Usage, read_words, words_ask_one_thing};
 use disk_model::Disk;
 use disks::{make_disks, no_disks, open_disks};
 use edges::{StdEnd, ends_of};
-use io_edge::{SleepBeat, StdClock};
+use io_edge::StdClock;
+use pace::Pace;
 use service::{StartWhy0, Ticker, run};
 use std::alloc::Global;
 use std::env;
@@ -89,7 +91,7 @@ where
 {
     let (disk_a, disk_b) = disks;
     let ticker = Ticker {
-        beat: SleepBeat::new(rt.clone()?),
+        beat: Pace::new(rt.clone()?),
         clock: StdClock::new(rt.clone()?),
     };
     let closed = run(rt, rt.alloc(), words, ends, ticker, disk_a, disk_b);
