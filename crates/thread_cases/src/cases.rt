@@ -1,0 +1,121 @@
+//! The cases, and what is told of each.
+
+use crate::edges::{Asked, Counting, Gate, Still, Waiting};
+use crate::runs::{Part, Ran, made_disks, ran};
+use cfg_base::Moment;
+use config_core::Event;
+use script_lines::Fault;
+use service::Ticker;
+use session_history::Happened;
+use std::alloc::Global;
+use std::sync::atomic::AtomicU64;
+use std::sync::{Arc, Wait};
+use std::thread::Threads;
+
+/// A session whose source has a text, and gives what is behind a place once a gate opens.
+fn session<R: std::rt::Clock + Clone + Drop>(
+    rt: &R,
+    alloc: Global,
+    text: &[u8],
+    stop: usize,
+    gate: Gate,
+    lines: Arc<AtomicU64>,
+) -> Result<Part<Waiting<R>>, Fault> {
+    let text = Vec::from_slice(alloc, text)?;
+    let source = Waiting::new(text, stop, gate, rt.clone()?);
+    Ok((source, Counting { lines }))
+}
+
+/// A ticker that counts its beats, and whose clock answers one moment.
+fn ticker<R: std::rt::Clock + Clone + Drop>(
+    rt: &R,
+    count: Arc<AtomicU64>,
+    moment: u64,
+) -> Result<Ticker<Asked<R>, Still>, Fault> {
+    let moment = Moment::of(moment);
+    Ok(Ticker {
+        beat: Asked {
+            count,
+            clock: rt.clone()?,
+        },
+        clock: Still { moment },
+    })
+}
+
+fn count(alloc: Global) -> Result<Arc<AtomicU64>, Fault> {
+    Ok(Arc::new(alloc, AtomicU64::new(0))?)
+}
+
+/// Two sessions, each of which has its second line only once the other was answered its first.
+fn two_wait<R>(rt: &R, alloc: Global) -> Result<Ran<Waiting<R>, Asked<R>>, Fault>
+where
+    R: Threads + Wait + Sync + Send + std::rt::Clock + Clone + Drop,
+{
+    let alice = count(alloc)?;
+    let bob = count(alloc)?;
+    let beats = count(alloc)?;
+    let mut parts = Vec::new(alloc);
+    for (own, other) in [(&alice, &bob), (&bob, &alice)] {
+        let gate = Gate {
+            lines: other.clone()?,
+            least: 1,
+            beats: beats.clone()?,
+            more: 0,
+        };
+        let text = b"configure\nexit\n";
+        parts.push(session(rt, alloc, text, 10, gate, own.clone()?)?)?;
+    }
+    let ticker = ticker(rt, beats, 1000)?;
+    let disks = made_disks(rt, alloc)?;
+    ran(rt, alloc, "serve d alice:a bob:b", parts, ticker, disks)
+}
+
+/// A session whose commit isn't confirmed, and that has its next line only once the ticker, by whose clock the deadline
+/// has come, has looked at the time.
+fn one_waits<R>(rt: &R, alloc: Global) -> Result<Ran<Waiting<R>, Asked<R>>, Fault>
+where
+    R: Threads + Wait + Sync + Send + std::rt::Clock + Clone + Drop,
+{
+    let lines = count(alloc)?;
+    let beats = count(alloc)?;
+    let gate = Gate {
+        lines: lines.clone()?,
+        least: 3,
+        beats: beats.clone()?,
+        more: 2,
+    };
+    let text = b"configure\nset system host-name a\ncommit confirmed 1\nexit\n";
+    let mut parts = Vec::new(alloc);
+    parts.push(session(rt, alloc, text, 52, gate, lines)?)?;
+    let ticker = ticker(rt, beats, 1060)?;
+    let disks = made_disks(rt, alloc)?;
+    ran(rt, alloc, "serve d", parts, ticker, disks)
+}
+
+/// The events that go back to an older commit, each with its caller and its moment.
+fn say_reverts(out: &mut String, events: &[Happened]) -> Result<(), Fault> {
+    for happened in events {
+        if happened.event == Event::Revert {
+            let caller = happened.caller;
+            let moment = happened.moment.seconds();
+            writeln!(out, "revert of caller {caller} at {moment}")?;
+        }
+    }
+    Ok(())
+}
+
+/// What came of each case.
+pub(crate) fn say_all<R>(rt: &R, alloc: Global, out: &mut String) -> Result<(), Fault>
+where
+    R: Threads + Wait + Sync + Send + std::rt::Clock + Clone + Drop,
+{
+    let status = two_wait(rt, alloc)?.status;
+    writeln!(
+        out,
+        "two sessions that wait for each other: status {status}"
+    )?;
+    let ran = one_waits(rt, alloc)?;
+    let status = ran.status;
+    writeln!(out, "a session that waits for the ticker: status {status}")?;
+    say_reverts(out, &ran.history.events)
+}

@@ -1,0 +1,142 @@
+//! Ends that wait for one another: sources, sinks, clocks and beats with counts that all threads see.
+
+ghost use Rattle.std.specs.Prelude.{None};
+
+use cfg_base::Moment;
+use io_edge::{Beat, Clock, Got, Put, Sink, Source};
+use std::sync::Arc;
+use std::sync::atomic::AtomicU64;
+use std::sync::atomic::Ordering::SeqCst;
+use std::thread;
+use std::time::Duration;
+
+/// How often a count is looked at that is waited for, once a millisecond.
+const LOOKS: u32 = 10_000;
+
+/// Waits until a count has come so far, and tells whether it has.
+fn waits_for<R: std::rt::Clock>(clock: &R, count: &AtomicU64, least: u64) -> bool {
+    for _ in 0..LOOKS {
+        if count.load(SeqCst) >= least {
+            return true;
+        }
+        thread::sleep(clock, Duration::from_millis(1));
+    }
+    false
+}
+
+/// What a source waits for: so many lines that a sink took, and then so many more beats that were asked.
+#[derive(Drop)]
+pub(crate) struct Gate {
+    pub lines: Arc<AtomicU64>,
+    pub least: u64,
+    pub beats: Arc<AtomicU64>,
+    pub more: u64,
+}
+
+impl Gate {
+    fn opens<R: std::rt::Clock>(&self, clock: &R) -> bool {
+        if !waits_for(clock, &self.lines, self.least) {
+            return false;
+        }
+        let start = self.beats.load(SeqCst);
+        waits_for(clock, &self.beats, start.saturating_add(self.more))
+    }
+}
+
+/// A source of a text that gives a byte at a time, and the one at a place only once its gate opens; else it fails.
+#[derive(Drop)]
+pub(crate) struct Waiting<R: std::rt::Clock + Drop> {
+    text: Vec<u8>,
+    given: usize,
+    stop: usize,
+    gate: Gate,
+    clock: R,
+    faults: u64,
+}
+
+impl<R: std::rt::Clock + Drop> Waiting<R> {
+    /// A source of a text, which gives the byte at a place only once the gate opens.
+    pub(crate) fn new(text: Vec<u8>, stop: usize, gate: Gate, clock: R) -> Waiting<R> {
+        Waiting {
+            text,
+            given: 0,
+            stop,
+            gate,
+            clock,
+            faults: 0,
+        }
+    }
+}
+
+impl<R: std::rt::Clock + Drop> Source for Waiting<R> {
+    ghost left = { λ _. None };
+
+    ghost faults = { λ s. s.faults };
+
+    fn read(&mut self, into: &mut [u8]) -> Got {
+        if self.given == self.stop && !self.gate.opens(&self.clock) {
+            self.faults = self.faults.saturating_add(1);
+            return Got::Failed;
+        }
+        match self.text.get(self.given) {
+            None => Got::End,
+            Some(&byte) => {
+                into[0] = byte;
+                self.given += 1;
+                Got::Bytes(1)
+            }
+        }
+    }
+}
+
+/// A sink that counts the lines that it took.
+#[derive(Drop)]
+pub(crate) struct Counting {
+    pub lines: Arc<AtomicU64>,
+}
+
+impl Sink for Counting {
+    ghost held = { λ _. None };
+
+    ghost faults = { λ _. 0 };
+
+    fn write(&mut self, piece: &[u8]) -> Put {
+        for byte in piece {
+            if *byte == b'\n' {
+                self.lines.fetch_add(1, SeqCst);
+            }
+        }
+        Put::Took(piece.len())
+    }
+}
+
+/// A clock that stands still.
+#[derive(Drop)]
+pub(crate) struct Still {
+    pub moment: Moment,
+}
+
+impl Clock for Still {
+    ghost coming = { λ _. None };
+
+    fn now(&mut self) -> Moment {
+        self.moment
+    }
+}
+
+/// A beat each millisecond, which counts how often it was asked.
+#[derive(Drop)]
+pub(crate) struct Asked<R: std::rt::Clock + Drop> {
+    pub count: Arc<AtomicU64>,
+    pub clock: R,
+}
+
+impl<R: std::rt::Clock + Drop> Beat for Asked<R> {
+    ghost coming = { λ _. None };
+
+    fn beat(&mut self) -> bool {
+        self.count.fetch_add(1, SeqCst);
+        thread::sleep(&self.clock, Duration::from_millis(1));
+        true
+    }
+}
