@@ -8,15 +8,19 @@ work=$(mktemp -d -p /dev/shm 2> /dev/null || mktemp -d)
 trap 'rm -rf "$work"' EXIT
 
 # serves an input once over a new journal, on one processor, since moves between processors double the time of some runs, and notes
-# how many nanoseconds that took
+# how many nanoseconds of the processor's time that took: by the clock a run ends up to one beat of the ticker behind its session
 serve() {
-    local begun
     rm -rf "$work/journal"
     mkdir "$work/journal"
     "$program" init "$work/journal" > "$work/output"
-    begun=$(date +%s%N)
-    taskset -c 0 "$program" serve "$work/journal" < "$work/$1" > "$work/output"
-    echo $(($(date +%s%N) - begun)) >> "$work/$1.times"
+    python3 - "$work/$1" "$work/output" taskset -c 0 "$program" serve "$work/journal" << 'END' >> "$work/$1.times"
+import resource, subprocess, sys
+
+with open(sys.argv[1]) as lines, open(sys.argv[2], "w") as output:
+    subprocess.run(sys.argv[3:], stdin=lines, stdout=output, check=True)
+spent = resource.getrusage(resource.RUSAGE_CHILDREN)
+print(round((spent.ru_utime + spent.ru_stime) * 1e9))
+END
     if grep -q error "$work/output"; then
         echo "a line was refused" >&2
         exit 1

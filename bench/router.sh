@@ -20,17 +20,17 @@ session() {
     }'
 }
 
-# nanoseconds an interface of a line: what a session with ten of it takes longer than one without
+# nanoseconds an interface of a line: what a session that asks it 30,000 interfaces' worth takes longer than one that doesn't
 cost() {
     local count=$1 line=$2 round
     rm -f "$work"/*.times
     session "$count" 0 "$line" > "$work/without"
-    session "$count" 10 "$line" > "$work/with"
+    session "$count" $((30000 / count)) "$line" > "$work/with"
     for round in 1 2 3 4 5; do
         serve without
         serve with
     done
-    echo $((($(least_run with) - $(least_run without)) / (10 * count)))
+    echo $((($(least_run with) - $(least_run without)) / 30000))
 }
 
 # what a line takes at 300 and at 3,000 interfaces
