@@ -3,7 +3,7 @@ use Rattle.std.proofs.Common.{◌≡◌, ℕ, ◌+◌, ◌^◌, ◌<◌, Bool, t
 use Rattle.std.specs.Prelude.{IsSome}
 use Rattle.std.specs.FinMap as map
 use Rattle.std.specs.List.{sum_by}
-use Rattle.std.specs.Ordering.{is_eq, is_le, ordering_reverse}
+use Rattle.std.specs.Ordering.{is_le, ordering_reverse}
 use Rattle.std.specs.declared.cmp.Ordering.{Ordering}
 use Rattle.std.specs.declared.cmp.Ordering.TheVariants.{Less, Equal, Greater}
 use Rattle.cfg_base.specs.Order.{path_cmp, paths_total}
@@ -14,14 +14,15 @@ use Rattle.cfg_tree.specs.Statements.{Statements, size_of, is_below}
 use Rattle.cfg_tree.specs.Tree.{IsTree}
 use Rattle.cfg_tree.specs.After.{IsNext, IsLast}
 use Rattle.cfg_tree.specs.Children.{children_of}
-use Rattle.cfg_tree.proofs.MapLemmas.{same_path, path_same}
-use Rattle.cfg_tree.proofs.PathLemmas.{child_differs}
-use Rattle.cfg_tree.proofs.BelowLemmas.{below_le, below_between, below_self, below_more}
+use Rattle.cfg_tree.proofs.MapLemmas.{path_same}
+use Rattle.cfg_tree.proofs.BelowLemmas.{below_between, below_self, below_more}
 use Rattle.cfg_tree.proofs.OnceLemmas.{below_rest}
 use Rattle.curly_print.specs.Printed.{printed}
 use Rattle.curly_print.specs.Length.{holds, entry_len, capped}
-use Rattle.curly_print.proofs.ListedLemmas.{Lists, child_there, there_listed}
-use Rattle.curly_print.proofs.LengthLemmas.{child_above, lt_is, lt_told, length-printed}
+use Rattle.printing_order.proofs.FollowedLemmas.{itself, child_after}
+use Rattle.printing_order.proofs.NumberLemmas.{lt_is, lt_told}
+use Rattle.printing_order.proofs.ListedLemmas.{Lists, child_there, there_listed}
+use Rattle.curly_print.proofs.LengthLemmas.{child_above, length-printed}
 
 some_listed : (steps : List Step) (s : Step) → Lists steps s → 0 < length steps
 some_listed [] s l = absurd l
@@ -30,18 +31,6 @@ some_listed (t ∷ steps) s l = omega arith
 first_listed : (steps : List Step) → 0 < length steps → (s : Step) × Lists steps s
 first_listed [] h = absurd (omega (arith, h))
 first_listed (s ∷ steps) h = (s, inl refl)
-
-no_less : (p : List Step) → path_cmp p p ≡ Less → ⊥
-no_less p e = let tie = (same_path p p).1 refl in let d = ap is_eq e in cc
-
--- a child stands after its path
-pub child_after : (p : List Step) (s : Step) → path_cmp p (p ++ s ∷ []) ≡ Less
-child_after p s = by_order _ refl (below_le p (p ++ s ∷ []) (below_more p p s (below_self p)))
-  where
-    by_order : (o : Ordering) → path_cmp p (p ++ s ∷ []) ≡ o → is_le o ≡ true → o ≡ Less
-    by_order Less e h = refl
-    by_order Equal e h = absurd (child_differs p s (sym (path_same p (p ++ s ∷ []) e)))
-    by_order Greater e h = cc
 
 less_le : (o : Ordering) → o ≡ Less → is_le o ≡ true
 less_le o e = ap is_le e
@@ -52,7 +41,7 @@ module _ (m : Statements) (tree : IsTree m) (p : List Step) where
   holds_below q there after below = let rest = below_rest p q below in by_rest rest.0 rest.1
     where
       by_rest : (rest : List Step) → q ≡ p ++ rest → holds m p ≡ true
-      by_rest [] e = absurd (no_less p (ap (λ (x : List Step). path_cmp p x) (sym (e ∙ append-nil p)) ∙ after))
+      by_rest [] e = absurd (itself p (ap (λ (x : List Step). path_cmp p x) (sym (e ∙ append-nil p)) ∙ after))
       by_rest (t ∷ rest) e =
           let child = child_above m tree p rest t (ap (λ (x : List Step). is_some (map.get m x)) (sym e) ∙ there)
           in lt_is 0 (length (children_of m p)) (some_listed (children_of m p) t (there_listed m tree p t child))

@@ -1,9 +1,8 @@
 -- What the parts of the printer of expansions make together.
-use Rattle.std.proofs.Common.{◌≡◌, ℕ, zero, suc, ◌+◌, ◌-◌, ◌<◌, ◌==◌, Bool, true, false, cond, List, [], ◌∷◌, ◌++◌, length, filter, map, Option, Some, None, refl, sym, ap, ◌∙◌, arith, append-nil, Result, Ok, Err, OnOk, if◌then◌else◌}
+use Rattle.std.proofs.Common.{◌≡◌, ℕ, zero, suc, ◌+◌, ◌-◌, ◌<◌, ◌==◌, Bool, true, false, cond, List, [], ◌∷◌, ◌++◌, length, filter, map, Option, Some, None, refl, sym, ap, ◌∙◌, arith, if◌then◌else◌}
 use Rattle.std.specs.List.{flat_map, AllByRecursion}
 use Rattle.std.specs.FinMap as finite
 use Rattle.std.specs.Map.{keys_of}
-use Rattle.std.proofs.lemmas.Grind.{flat_map-append}
 use Rattle.cfg_base.specs.declared.path.Step.{Step}
 use Rattle.cfg_schema.specs.declared.place.Place.{Place}
 use Rattle.cfg_schema.specs.Profile.{profile, row_of, head_of, rows_below, is_level, same_word}
@@ -15,7 +14,8 @@ use Rattle.cfg_tree.specs.Full.{Expansion}
 use Rattle.cfg_tree.specs.Tree.{step_of}
 use Rattle.curly_print.specs.Inherited.{given_below, given_children, given_children_at, given_order, given_steps, given_text, note_lines, note_of, noted_word}
 use Rattle.curly_print.specs.Inheriting.{FullEntry, entry_text, given_child_text, given_entries, headed_text, row_text}
-use Rattle.curly_print.proofs.EntriesLemmas.{child_is, found_all, none_given, right_below}
+use Rattle.printing_order.proofs.EntriesLemmas.{child_is, found_all, none_given, right_below}
+use Rattle.printing_order.proofs.PutLemmas.{rows_flat}
 
 -- the note where there is a group
 pub noted : (indent : ℕ) (step : Step) (group : List ℕ) → (length group == 0) ≡ false
@@ -36,10 +36,6 @@ no_place zero full path indent e = refl
 no_place (suc levels) full path indent e =
     ap (λ (here : Option Place). flat_map (given_child_text levels full path indent) (given_children_at full path here)) e
 
-pub no_length : {X : Type 0} (es : List X) → length es ≡ 0 → es ≡ []
-no_length [] e = refl
-no_length (x ∷ es) e = absurd (omega (arith, e))
-
 -- nothing is printed below a path that has no entry right below it
 pub no_entries : (levels : ℕ) (full : Expansion) (path : List Step) (indent : ℕ) → given_entries full path ≡ [] → given_below levels full path indent ≡ []
 unfolding given_below
@@ -53,12 +49,6 @@ no_entries (suc levels) full path indent none = all_none (given_children full pa
         (λ (o : Option Given). given_text indent s o (given_below levels full (path ++ s ∷ []) (indent + 4)) ++ flat_map (given_child_text levels full path indent) steps)
         (none_given full path (is_child path) s (right_below path s) none)
         ∙ all_none steps
-
--- lists of lists of lists
-pub rows_flat : {A B C : Type 0} (f : B → List C) (g : A → List B) (xs : List A) → flat_map f (flat_map g xs) ≡ flat_map (λ x. flat_map f (g x)) xs
-rows_flat f g [] = refl
-rows_flat {A} {B} {C} f g (x ∷ xs) =
-    flat_map-append f (g x) (flat_map g xs) ∙ ap (λ (cs : List C). flat_map f (g x) ++ cs) (rows_flat f g xs)
 
 -- what is given below a path is printed row by row
 pub by_rows : (levels : ℕ) (full : Expansion) (path : List Step) (indent : ℕ) (here : Place) → 0 < levels → place_of path ≡ Some here
@@ -128,18 +118,3 @@ not_top [] here e other = let told : true ≡ false = ap level_at e ∙ other in
     level_at None = true
     level_at (Some there) = is_level (row_of there.row).shape
 not_top (step ∷ path) here e other = omega arith
-
--- a number that isn't 0
-pub some_levels : (levels : ℕ) → (levels ≡ 0 → ⊥) → 0 < levels
-some_levels zero some = absurd (some refl)
-some_levels (suc levels) some = omega arith
-
--- nothing more is put
-pub put_nothing : (text more : List ℕ) → more ≡ [] → text ≡ text ++ more
-put_nothing text more none = sym (append-nil text) ∙ ap (λ (t : List ℕ). text ++ t) (sym none)
-
--- the same is put in other words
-pub put_same : {T E : Type 0} (answer : Result T E) (text new told more : List ℕ) → OnOk answer (new ≡ text ++ told) → told ≡ more
-    → OnOk answer (new ≡ text ++ more)
-put_same (Ok done) text new told more put e = put ∙ ap (λ (t : List ℕ). text ++ t) e
-put_same (Err fault) text new told more put e = tt

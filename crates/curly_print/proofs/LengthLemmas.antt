@@ -1,5 +1,5 @@
 -- The length of the printed text is the sum over the statements in the order of paths.
-use Rattle.std.proofs.Common.{◌≡◌, ℕ, zero, suc, ◌+◌, ◌-◌, ◌*◌, ◌<◌, ◌≤◌, nat_lt, Bool, true, false, cond, ◌&&◌, ◌||◌, T, List, [], ◌∷◌, ◌++◌, length, map as each, filter, flat_map, refl, sym, ap, subst, ◌∙◌, inl, inr, Option, Some, None, is_some, arith, codes, length-append, append-nil}
+use Rattle.std.proofs.Common.{◌≡◌, ℕ, zero, suc, ◌+◌, ◌-◌, ◌*◌, ◌≤◌, nat_lt, Bool, true, false, cond, ◌&&◌, ◌||◌, T, List, [], ◌∷◌, ◌++◌, length, map as each, filter, flat_map, refl, sym, ap, subst, ◌∙◌, inl, inr, Option, Some, None, is_some, arith, codes, length-append, append-nil}
 use Rattle.std.specs.FinMap as map
 use Rattle.std.specs.FinMap.Entries.{is_sorted, find}
 use Rattle.std.specs.List.{AllByRecursion, list_any, sum_by}
@@ -25,11 +25,13 @@ use Rattle.cfg_tree.proofs.BelowLemmas.{below_self, parent_apart}
 use Rattle.cfg_tree.proofs.FollowLemmas.{typed_place}
 use Rattle.cfg_tree.proofs.OnceLemmas.{same_test, below_rest, below_apart, children_once}
 use Rattle.curly_print.specs.Printed.{line_of, spaces, ended, statement_text, text_below, printed}
-use Rattle.curly_print.specs.Printing.{child_text, is_inside}
+use Rattle.printing_order.specs.Inside.{is_inside}
+use Rattle.curly_print.specs.Printing.{child_text}
 use Rattle.curly_print.specs.Length.{holds, indent_of, own_len, entry_len}
 use Rattle.curly_print.proofs.PrintingLemmas.{some_printed}
 use Rattle.curly_print.proofs.TopLemmas.{top_text}
-use Rattle.curly_print.proofs.ListedLemmas.{Lists, child_there, none_below, no_deeper, parent_child}
+use Rattle.printing_order.proofs.NumberLemmas.{lt_is, lt_not, lt_told}
+use Rattle.printing_order.proofs.ListedLemmas.{Lists, child_there, none_below, no_deeper, parent_child}
 
 -- sums
 sum_same : {X : Type 0} (f g : X → ℕ) (xs : List X) → AllByRecursion (λ x. f x ≡ g x) xs → sum_by f xs ≡ sum_by g xs
@@ -76,15 +78,6 @@ weaker P Q (x ∷ xs) h k = (h x k.0, weaker P Q xs h k.1)
 listed_steps : (P : Step → Type 0) (steps : List Step) → ((s : Step) → Lists steps s → P s) → AllByRecursion P steps
 listed_steps P [] h = tt
 listed_steps P (s ∷ steps) h = (h s (inl refl), listed_steps P steps (λ t l. h t (inr l)))
-
-pub lt_is : (a b : ℕ) → a < b → nat_lt a b ≡ true
-lt_is a b h = grind (arith, nat_tests)
-
-pub lt_not : (a b : ℕ) → b ≤ a → nat_lt a b ≡ false
-lt_not a b h = grind (arith, nat_tests)
-
-pub lt_told : (a b : ℕ) → nat_lt a b ≡ true → a < b
-lt_told a b h = grind (arith, nat_tests)
 
 not_lt_told : (a b : ℕ) → nat_lt a b ≡ false → b ≤ a
 not_lt_told a b h = grind (arith, nat_tests)

@@ -1,12 +1,8 @@
 pub mod PrintingLemmas
 pub mod TopLemmas
-pub mod ListedLemmas
 pub mod LengthLemmas
 pub mod HoldsLemmas
 pub mod InheritedLemmas
-pub mod EntriesLemmas
-pub mod StatementsLemmas
 pub mod TreeTextLemmas
 pub mod OwnLemmas
-pub mod FollowedLemmas
 pub mod WalkLemmas

@@ -11,7 +11,7 @@ use Rattle.cfg_entries.specs.EntryMap.{Pair}
 use Rattle.cfg_tree.specs.Statements.{Statements, is_below}
 use Rattle.cfg_tree.specs.Tree.{IsTree}
 use Rattle.curly_print.specs.Length.{holds, own_len, entry_len, capped}
-use Rattle.curly_print.proofs.FollowedLemmas.{followed, unfollowed}
+use Rattle.printing_order.proofs.FollowedLemmas.{followed, unfollowed}
 use Rattle.curly_print.proofs.HoldsLemmas.{next_holds, last_holds}
 
 -- what is left of a walk that has one statement in hand

@@ -1,13 +1,13 @@
 -- What the printer's private functions print.
-use Rattle.std.specs.Prelude.{ℕ, ◌+◌, ◌==◌, nat_lt, Bool, ◌&&◌, List, [], ◌∷◌, ◌++◌, length, filter, take, Some, if◌then◌else◌}
-use Rattle.std.specs.List.{flat_map, prefix_len}
+use Rattle.std.specs.Prelude.{ℕ, ◌+◌, ◌==◌, ◌&&◌, List, [], ◌∷◌, ◌++◌, length, Some, if◌then◌else◌}
+use Rattle.std.specs.List.{flat_map}
 use Rattle.std.specs.FinMap as map
 use Rattle.cfg_base.specs.declared.path.Step.{Step}
 use Rattle.cfg_base.specs.declared.value.Value.{Value}
 use Rattle.cfg_entries.specs.EntryMap.{Pair}
 use Rattle.cfg_lex.specs.Printed.{printed_word}
 use Rattle.cfg_schema.specs.Profile.{same_word}
-use Rattle.cfg_tree.specs.Statements.{Statements, is_below, last_of}
+use Rattle.cfg_tree.specs.Statements.{Statements, last_of}
 use Rattle.cfg_tree.specs.Children.{order_in, row_steps, steps_below}
 use Rattle.curly_print.specs.Printed.{statement_text, text_below}
 
@@ -19,18 +19,6 @@ blank_words words = flat_map (λ word. 32 ∷ printed_word word) words
 abbrev pub child_text : ℕ → Statements → List Step → ℕ → Step → List ℕ
 child_text levels m path indent step =
     statement_text indent step (map.get m (path ++ step ∷ [])) (text_below levels m (path ++ step ∷ []) (indent + 4))
-
--- a path stands below another one, and isn't it
-abbrev pub is_inside : List Step → List Step → Bool
-is_inside path other = is_below path other && nat_lt (length path) (length other)
-
--- the statements below a path, in the order of paths
-abbrev pub statements_inside : Statements → List Step → List (Pair Value)
-statements_inside m path = filter (λ e. is_inside path e.0) (map.entries m)
-
--- of the statements behind a path those up to the first that isn't longer
-abbrev pub front_inside : List Step → List (Pair Value) → List (Pair Value)
-front_inside path behind = take (prefix_len (λ e. nat_lt (length path) (length e.0)) behind) behind
 
 -- a statement behind so many spaces, with so many levels below it
 abbrev pub own_text : ℕ → Statements → ℕ → Pair Value → List ℕ

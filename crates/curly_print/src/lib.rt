@@ -16,7 +16,6 @@ mod line;
 mod note;
 mod printer;
 mod printing;
-mod statements;
 mod tree_printer;
 
 pub use inherited::print_inherited;

@@ -14,30 +14,11 @@ use crate::entries::{Entry, entries_below};
 use crate::line::{push_bytes, push_spaces, push_unmarked_line};
 use crate::note::push_note;
 use crate::printing::INDENT;
-use cfg_base::{NoMemory, Path, Step, Word};
+use cfg_base::{NoMemory, Path, Word};
 use cfg_schema::{Place, RowId, head, row, rows_below};
 use cfg_tree::Full;
+use printing_order::named_child;
 use std::alloc::Global;
-
-pub(crate) fn named_child(
-    alloc: Global,
-    path: &Path,
-    head: &[u8],
-    name: &Word,
-) -> Result<Path, NoMemory>
-    requires { length path.now < MAX_STEPS }
-    ensures { IfOk result (λ child. child ≡ path.now ++ step_of head.now name.now ∷ []) }
-{
-    let head = match Word::of(alloc, head) {
-        Ok(head) => head,
-        Err(_) => return Err(NoMemory),
-    };
-    let name = name.clone()?;
-    match path.push(Step { head, name }) {
-        Ok(child) => Ok(child),
-        Err(_) => Err(NoMemory),
-    }
-}
 
 /// Puts the note, the spaces and the line of what is given at a path at the end of a text, up to the line's end.
 pub(crate) fn push_front(

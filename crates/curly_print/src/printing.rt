@@ -8,11 +8,11 @@ ghost use Rattle.cfg_tree.specs.Statements.{last_of};
 ghost use Rattle.curly_print.specs.Printed.{printed, statement_text, text_below};
 
 use crate::line::{push_bytes, push_line};
-use crate::statements::statements_below;
 use crate::tree_printer::TreePrinter;
 use cfg_base::{Bytes, MAX_STEPS, NoMemory, Path, Shape};
 use cfg_schema::{Place, row};
 use cfg_tree::Tree;
+use printing_order::statements_below;
 use std::alloc::Global;
 
 /// How many spaces a level stands behind the one above it.

@@ -6,16 +6,16 @@ ghost use Rattle.std.specs.FinMap as finite;
 ghost use Rattle.cfg_base.specs.declared.path.TheConstants.{MAX_STEPS};
 ghost use Rattle.cfg_tree.specs.Children.{order_in};
 ghost use Rattle.cfg_tree.specs.Tree.{step_of, IsTree};
+ghost use Rattle.printing_order.specs.Inside.{front_inside, statements_inside};
 ghost use Rattle.curly_print.specs.Printed.{ended, text_below};
-ghost use Rattle.curly_print.specs.Printing.{child_text, front_inside, own_headed, own_row, own_text, statements_inside};
+ghost use Rattle.curly_print.specs.Printing.{child_text, own_headed, own_row, own_text};
 
 use crate::line::{push_bytes, push_line, push_spaces};
-use crate::printer::named_child;
 use crate::printing::INDENT;
-use crate::statements::{Statement, front_inside, statements_below};
 use cfg_base::{NoMemory, Path, Word};
 use cfg_schema::{Place, RowId, head, row, rows_below};
 use cfg_tree::Tree;
+use printing_order::{Statement, front_inside, named_child, statements_below};
 use std::alloc::Global;
 
 /// A tree that is printed.

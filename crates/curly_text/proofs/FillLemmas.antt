@@ -18,7 +18,7 @@ use Rattle.cfg_tree.proofs.MapLemmas.{same_statements}
 use Rattle.cfg_tree.proofs.PathLemmas.{child_longer, child_differs, get_here, get_other, renamed, order_at, order_other}
 use Rattle.cfg_tree.proofs.FollowLemmas.{typed_place}
 use Rattle.cfg_tree.proofs.StatedLemmas.{stated-append}
-pub use Rattle.curly_print.proofs.ListedLemmas.{Lists, Differ, children_differ, child_there, there_listed, none_below, parent_child, no_deeper}
+pub use Rattle.printing_order.proofs.ListedLemmas.{Lists, Differ, children_differ, child_there, there_listed, none_below, parent_child, no_deeper}
 use Rattle.curly_text.proofs.OrderBackLemmas.{ordered_names, order_back}
 
 -- a statement without its order, and the statements below it; none where it isn't there

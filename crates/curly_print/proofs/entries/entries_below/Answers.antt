@@ -1,7 +1,7 @@
 use Rattle.std.proofs.Common.{◌+◌, List, length, sym, ap}
 use Rattle.cfg_base.specs.declared.path.Step.{Step}
 use Rattle.cfg_tree.specs.Children.{is_child}
-use Rattle.curly_print.proofs.EntriesLemmas.{child_part, long_child, ahead_start, ahead_taken, ahead_end, ahead_other, ahead_less}
+use Rattle.printing_order.proofs.EntriesLemmas.{child_part, long_child, ahead_start, ahead_taken, ahead_end, ahead_other, ahead_less}
 use Rattle.curly_print.proofs.entries.entries_below.Goals as goal
 use Rattle.curly_print.proofs.entries.entries_below.Goals.{in-Some+then-not-is_below, in_default}
 

@@ -1,7 +1,7 @@
 use Rattle.std.proofs.Common.{◌≡◌, ◌++◌, length}
 use Rattle.cfg_tree.specs.Children.{is_child}
 use Rattle.curly_print.specs.Inheriting.{given_entries}
-use Rattle.curly_print.proofs.EntriesLemmas.{ahead}
+use Rattle.printing_order.proofs.EntriesLemmas.{ahead}
 use Rattle.curly_print.proofs.entries.entries_below.Given as goal
 
 abbrev pub invariant-loop-at : goal.invariant-loop-at

@@ -1,6 +1,6 @@
 use Rattle.std.proofs.Common.{sym, ◌∙◌}
 use Rattle.cfg_base.specs.declared.path.TheConstants.{MAX_STEPS}
-use Rattle.curly_print.proofs.InheritedLemmas.{put_nothing}
+use Rattle.printing_order.proofs.PutLemmas.{put_nothing}
 use Rattle.curly_print.proofs.TreeTextLemmas.{no_statements}
 use Rattle.curly_print.proofs.printing.push_level.Goals as goal
 

@@ -3,7 +3,9 @@ use Rattle.cfg_base.specs.declared.path.Step.{Step}
 use Rattle.cfg_schema.specs.Place.{place_of}
 use Rattle.cfg_tree.proofs.TargetLemmas.{room_below}
 use Rattle.curly_print.specs.Inheriting.{headed_text, row_text}
-use Rattle.curly_print.proofs.InheritedLemmas.{no_length, no_levels, no_entries, no_place, by_rows, row_headed, some_levels, put_nothing, put_same}
+use Rattle.printing_order.proofs.NumberLemmas.{no_length, some_levels}
+use Rattle.printing_order.proofs.PutLemmas.{put_nothing, put_same}
+use Rattle.curly_print.proofs.InheritedLemmas.{no_levels, no_entries, no_place, by_rows, row_headed}
 use Rattle.curly_print.proofs.printer.Printer.+inherited.Goals as goal
 
 pub push_below-returns-then-levels-eq0 : goal.push_below-returns-then-levels-eq0

@@ -3,8 +3,9 @@ use Rattle.cfg_base.specs.declared.path.Step.{Step}
 use Rattle.cfg_schema.specs.Place.{place_of}
 use Rattle.cfg_tree.proofs.TargetLemmas.{room_below}
 use Rattle.curly_print.specs.Printing.{own_headed, own_row}
-use Rattle.curly_print.proofs.InheritedLemmas.{no_length, some_levels, put_nothing, put_same}
-use Rattle.curly_print.proofs.StatementsLemmas.{inside_at}
+use Rattle.printing_order.proofs.NumberLemmas.{no_length, some_levels}
+use Rattle.printing_order.proofs.PutLemmas.{put_nothing, put_same}
+use Rattle.printing_order.proofs.StatementsLemmas.{inside_at}
 use Rattle.curly_print.proofs.TreeTextLemmas.{no_levels, none_inside, no_place, by_rows, row_headed}
 use Rattle.curly_print.proofs.tree_printer.TreePrinter.+printing.Goals as goal
 

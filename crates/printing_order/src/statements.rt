@@ -1,10 +1,11 @@
 //! The statements of a tree below a path, in the order of paths.
 
-ghost use Rattle.std.specs.Prelude.{◌≡◌, ◌<◌, ◌≤◌, ◌==◌, ◌&&◌, nat_lt, [], ◌∷◌, ◌++◌, length, if◌then◌else◌, IfOk, OnOk};
+ghost use Rattle.std.specs.Prelude.{◌≡◌, ◌<◌, ◌≤◌, ◌==◌, ◌&&◌, nat_lt, [], ◌∷◌, ◌++◌, length, None, Some, MatchOption, if◌then◌else◌, IfOk, OnOk};
+ghost use Rattle.std.specs.FinMap as finite;
 ghost use Rattle.std.specs.List.{prefix_len};
 ghost use Rattle.cfg_schema.specs.Profile.{same_word};
 ghost use Rattle.cfg_tree.specs.Statements.{last_of};
-ghost use Rattle.curly_print.specs.Printing.{front_inside, statements_inside};
+ghost use Rattle.printing_order.specs.Inside.{front_inside, statements_inside};
 
 use cfg_base::{NoMemory, Path, Step, Value};
 use cfg_tree::Tree;
@@ -13,7 +14,7 @@ use std::marker::Model;
 
 /// A statement of a tree, and the steps of its path.
 #[derive(Debug, Drop)]
-pub(crate) struct Statement<'a> {
+pub struct Statement<'a> {
     path: &'a Path,
     steps: &'a [Step],
     value: &'a Value,
@@ -32,6 +33,7 @@ impl<'a> Model for Statement<'a> {
 }
 
 impl<'a> Statement<'a> {
+    /// The statement of a path and its value.
     pub fn of(path: &'a Path, value: &'a Value) -> Statement<'a>
         requires { 0 < length path.now }
         ensures { result ≡ (path.now, value.now) }
@@ -50,12 +52,14 @@ impl<'a> Statement<'a> {
         &self.steps[self.steps.len() - 1]
     }
 
+    /// Its path.
     pub fn path(&self) -> &'a Path
         ensures { result.now ≡ self.now.0 }
     {
         self.path
     }
 
+    /// Its value.
     pub fn value(&self) -> &'a Value
         ensures { result.now ≡ self.now.1 }
     {
@@ -89,7 +93,7 @@ fn count_inside(above: &Statement<'_>, behind: &[Statement<'_>]) -> usize
 }
 
 /// Of the statements behind one those below it.
-pub(crate) fn front_inside<'a, 'b>(
+pub fn front_inside<'a, 'b>(
     above: &Statement<'_>,
     behind: &'b [Statement<'a>],
 ) -> &'b [Statement<'a>]
@@ -115,7 +119,7 @@ fn push_if_long<'a>(
 }
 
 /// The statements below a path, in their order.
-pub(crate) fn statements_below<'a>(
+pub fn statements_below<'a>(
     alloc: Global,
     tree: &'a Tree,
     path: &Path,
@@ -132,4 +136,23 @@ pub(crate) fn statements_below<'a>(
         push_if_long(&mut statements, count, at, value)?;
     }
     Ok(statements)
+}
+
+/// The statement at a path, where it is there.
+pub(crate) fn statement_at<'a>(tree: &'a Tree, path: &Path) -> Option<Statement<'a>>
+    requires { 0 < length path.now }
+    ensures { MatchOption result (finite.get tree.now path.now ≡ None)
+        (λ found. (found.0 ≡ path.now) × (finite.get tree.now path.now ≡ Some found.1)) }
+{
+    let mut walk = tree.walk_from(path);
+    match walk.next() {
+        None => None,
+        Some((at, value)) => {
+            if at == path {
+                Some(Statement::of(at, value))
+            } else {
+                None
+            }
+        }
+    }
 }

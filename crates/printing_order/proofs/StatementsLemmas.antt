@@ -20,11 +20,11 @@ use Rattle.cfg_tree.proofs.BelowLemmas.{none_later, below_between, below_first, 
 use Rattle.cfg_tree.proofs.MapLemmas.{same_path, same_step}
 use Rattle.cfg_tree.proofs.OnceLemmas.{below_rest}
 use Rattle.cfg_tree.proofs.PathLemmas.{child_longer, split}
-use Rattle.curly_print.specs.Printing.{is_inside, front_inside, statements_inside}
-use Rattle.curly_print.proofs.EntriesLemmas.{head_of, tail_of, later, found_all, inside_part, none_passes}
-use Rattle.curly_print.proofs.FollowedLemmas.{itself, not_both, all_in, by_first, back_sorted, found_behind, later_found}
-use Rattle.curly_print.proofs.HoldsLemmas.{child_after}
-use Rattle.curly_print.proofs.LengthLemmas.{lt_is, lt_not, lt_told}
+use Rattle.printing_order.specs.Inside.{is_inside, front_inside, statements_inside}
+use Rattle.printing_order.proofs.EntriesLemmas.{head_of, tail_of, later, found_all, inside_part, none_passes}
+use Rattle.printing_order.proofs.FollowedLemmas.{itself, not_both, all_in, by_first, back_sorted, found_behind, later_found}
+use Rattle.printing_order.proofs.FollowedLemmas.{child_after}
+use Rattle.printing_order.proofs.NumberLemmas.{lt_is, lt_not, lt_told}
 
 -- what passes a test passes a weaker one before it
 twice : {X : Type 0} (p q : X → Bool) → ((x : X) → q x ≡ true → p x ≡ true) → (xs : List X) → filter q (filter p xs) ≡ filter q xs
@@ -127,7 +127,7 @@ right_behind (g ∷ front) rest e sorted =
     ∙ right_behind front rest e (tail_of _ _ sorted)
 
 -- what is kept of a list, and of the end of a list
-kept_pass : {X : Type 0} (P : X → Type 0) (p : X → Bool) (xs : List X) → AllByRecursion P xs → AllByRecursion (λ x. (p x ≡ true) × P x) (filter p xs)
+pub kept_pass : {X : Type 0} (P : X → Type 0) (p : X → Bool) (xs : List X) → AllByRecursion P xs → AllByRecursion (λ x. (p x ≡ true) × P x) (filter p xs)
 kept_pass P p [] all = tt
 kept_pass {X} P p (x ∷ xs) all = by_test (p x) refl (kept_pass P p xs all.1)
   where

@@ -1,9 +1,9 @@
 use Rattle.std.proofs.Common.{List, length, sym, ap}
 use Rattle.cfg_base.specs.declared.path.Step.{Step}
-use Rattle.curly_print.specs.Printing.{is_inside}
-use Rattle.curly_print.proofs.EntriesLemmas.{inside_part, long_inside, ahead_start, ahead_taken, ahead_end, ahead_other, ahead_less}
-use Rattle.curly_print.proofs.statements.statements_below.Goals as goal
-use Rattle.curly_print.proofs.statements.statements_below.Goals.{in-Some+then-not-is_below, in_default}
+use Rattle.printing_order.specs.Inside.{is_inside}
+use Rattle.printing_order.proofs.EntriesLemmas.{inside_part, long_inside, ahead_start, ahead_taken, ahead_end, ahead_other, ahead_less}
+use Rattle.printing_order.proofs.statements.statements_below.Goals as goal
+use Rattle.printing_order.proofs.statements.statements_below.Goals.{in-Some+then-not-is_below, in_default}
 
 pub loop-at-init : goal.loop-at-init
 loop-at-init c =

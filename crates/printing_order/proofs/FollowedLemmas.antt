@@ -3,7 +3,7 @@ use Rattle.std.proofs.Common.{◌≡◌, Bool, true, false, cond, T, ◌&&◌, L
 use Rattle.std.specs.Prelude.{IsSome}
 use Rattle.std.specs.FinMap as map
 use Rattle.std.specs.FinMap.Entries.{find, is_sorted, below_all}
-use Rattle.std.specs.Ordering.{is_eq, is_lt, eq_by_cmp, ordering_reverse}
+use Rattle.std.specs.Ordering.{is_eq, is_le, is_lt, eq_by_cmp, ordering_reverse}
 use Rattle.std.specs.declared.cmp.Ordering.{Ordering}
 use Rattle.std.specs.declared.cmp.Ordering.TheVariants.{Less, Equal, Greater}
 use Rattle.std.proofs.lemmas.List.{append_assoc}
@@ -13,13 +13,24 @@ use Rattle.cfg_base.specs.declared.value.Value.{Value}
 use Rattle.cfg_entries.specs.EntryMap.{Pair}
 use Rattle.cfg_tree.specs.Statements.{Statements}
 use Rattle.cfg_tree.specs.After.{IsNext, IsLast}
-use Rattle.cfg_tree.proofs.MapLemmas.{same_path}
+use Rattle.cfg_tree.proofs.BelowLemmas.{below_le, below_more, below_self}
+use Rattle.cfg_tree.proofs.MapLemmas.{same_path, path_same}
+use Rattle.cfg_tree.proofs.PathLemmas.{child_differs}
 
 pub itself : (p : List Step) → path_cmp p p ≡ Less → ⊥
 itself p e = let tie : is_eq (path_cmp p p) ≡ true = (same_path p p).1 refl in let c = sym tie ∙ ap is_eq e in cc
 
 pub not_both : (p q : List Step) → path_cmp p q ≡ Less → path_cmp q p ≡ Less → ⊥
 not_both p q e f = let turned = paths_total.antisymm q p ∙ ap ordering_reverse e in let c = sym turned ∙ f in cc
+
+-- a child stands after its path
+pub child_after : (p : List Step) (s : Step) → path_cmp p (p ++ s ∷ []) ≡ Less
+child_after p s = by_order _ refl (below_le p (p ++ s ∷ []) (below_more p p s (below_self p)))
+  where
+    by_order : (o : Ordering) → path_cmp p (p ++ s ∷ []) ≡ o → is_le o ≡ true → o ≡ Less
+    by_order Less e h = refl
+    by_order Equal e h = absurd (child_differs p s (sym (path_same p (p ++ s ∷ []) e)))
+    by_order Greater e h = cc
 
 less : (o : Ordering) → T (is_lt o) → o ≡ Less
 less Less h = refl

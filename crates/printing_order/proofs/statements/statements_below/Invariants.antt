@@ -1,7 +1,7 @@
 use Rattle.std.proofs.Common.{◌≡◌, ◌++◌, length}
-use Rattle.curly_print.specs.Printing.{is_inside, statements_inside}
-use Rattle.curly_print.proofs.EntriesLemmas.{ahead}
-use Rattle.curly_print.proofs.statements.statements_below.Given as goal
+use Rattle.printing_order.specs.Inside.{is_inside, statements_inside}
+use Rattle.printing_order.proofs.EntriesLemmas.{ahead}
+use Rattle.printing_order.proofs.statements.statements_below.Given as goal
 
 abbrev pub invariant-loop-at : goal.invariant-loop-at
 invariant-loop-at l = l.statements.items ++ ahead l.path (is_inside l.path) l.walk ≡ statements_inside l.tree l.path

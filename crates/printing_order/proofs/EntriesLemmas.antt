@@ -17,8 +17,8 @@ use Rattle.cfg_tree.proofs.BelowLemmas.{front_of, none_later, below_le, below_mo
 use Rattle.cfg_tree.proofs.MapLemmas.{same_path}
 use Rattle.cfg_tree.proofs.OnceLemmas.{below_rest}
 use Rattle.cfg_tree.proofs.PathLemmas.{split, same_ends, child_longer}
-use Rattle.curly_print.specs.Printing.{is_inside}
-use Rattle.curly_print.proofs.LengthLemmas.{lt_is}
+use Rattle.printing_order.specs.Inside.{is_inside}
+use Rattle.printing_order.proofs.NumberLemmas.{lt_is}
 
 -- what passes a test stands below a path
 abbrev pub IsPart : List Step → (List Step → Bool) → Type 0

@@ -1,0 +1,10 @@
+pub mod NumberLemmas
+pub mod EntriesLemmas
+pub mod FollowedLemmas
+pub mod ListedLemmas
+pub mod StatementsLemmas
+pub mod AtLemmas
+pub mod PutLemmas
+pub mod RowsLemmas
+pub mod ListingLemmas
+pub mod ChildlessLemmas

@@ -1,0 +1,68 @@
+use Rattle.std.proofs.Common.{rules, ◌≡◌, ◌+◌, ◌-◌, ◌*◌, ◌<◌, List, length, None, Some, arith, sym, ap, ◌∙◌, ◌++◌, ◌∷◌, [], flat_map}
+use Rattle.cfg_base.specs.declared.path.Step.{Step}
+use Rattle.cfg_schema.specs.Place.{place_of}
+use Rattle.cfg_tree.proofs.TargetLemmas.{room_below}
+use Rattle.printing_order.specs.Listed.{items_below}
+use Rattle.printing_order.specs.Listing.{headed_items, row_items}
+use Rattle.printing_order.proofs.NumberLemmas.{no_length, some_levels}
+use Rattle.printing_order.proofs.PutLemmas.{put_nothing, put_same}
+use Rattle.printing_order.proofs.StatementsLemmas.{inside_at}
+use Rattle.printing_order.proofs.ListingLemmas.{no_levels, none_inside, no_place, by_rows, row_headed, told_behind}
+use Rattle.printing_order.proofs.lister.Lister.+listing.Goals as goal
+
+pub push_below-returns-then-levels-eq0 : goal.push_below-returns-then-levels-eq0
+push_below-returns-then-levels-eq0 t c =
+    put_nothing c.args.items.now.items _ (no_levels c.args.levels c.args.self.now.tree.now c.args.path.now c.if-levels-eq0.true)
+
+pub push_below-returns-then-is_empty : goal.push_below-returns-then-is_empty
+push_below-returns-then-is_empty t c =
+    let none : length c.args.inside.now ≡ 0 = search rules
+    in put_nothing c.args.items.now.items _
+    (none_inside c.args.levels c.args.self.now.tree.now c.args.path.now (sym c.requires.inside ∙ no_length c.args.inside.now none))
+
+pub push_below-returns-in-None : goal.push_below-returns-in-None
+push_below-returns-in-None t c =
+    let placed : place_of c.args.path.now ≡ None = ap (λ (p : List Step). place_of p) (sym c.steps.ensures.steps) ∙ sym c.of.ensures ∙ c.in-None.is
+    in put_nothing c.args.items.now.items _ (no_place c.args.levels c.args.self.now.tree.now c.args.path.now placed)
+
+pub push_below-push_rows-requires : goal.push_below-push_rows-requires
+push_below-push_rows-requires t c =
+    let placed : place_of c.args.path.now ≡ Some c.in-Some.here =
+    ap (λ (p : List Step). place_of p) (sym c.steps.ensures.steps) ∙ sym c.of.ensures ∙ c.in-Some.is
+    in let some = some_levels c.args.levels c.if-levels-eq0.false
+    in let fewer : 8 * (c.args.levels - 1) + 7 < t = omega (arith, some, c.decreases)
+    in (fewer, (room_below c.args.path.now _ placed, (c.requires.inside, c.requires.tree)))
+
+pub push_below-returns : goal.push_below-returns
+push_below-returns t c =
+    let placed : place_of c.args.path.now ≡ Some c.in-Some.here =
+    ap (λ (p : List Step). place_of p) (sym c.steps.ensures.steps) ∙ sym c.of.ensures ∙ c.in-Some.is
+    in let rows = c.deref.ensures.value ∙ c.in_ok-rows.ensures
+    in put_same c.push_rows.result c.args.items.now.items c.push_rows.new.items.items _ _ c.push_rows.ensures
+    (ap (λ ids. flat_map (row_items (c.args.levels - 1) c.args.self.now.tree.now c.args.path.now) ids) rows
+    ∙ sym (by_rows c.args.levels c.args.self.now.tree.now c.args.path.now c.in-Some.here (some_levels c.args.levels c.if-levels-eq0.false) placed))
+
+pub push_row-returns-else-row : goal.push_row-returns-else-row
+push_row-returns-else-row t c =
+    put_same c.push_headed.result c.args.items.now.items c.push_headed.new.items.items _ _ c.push_headed.ensures
+    (ap (λ head. flat_map (headed_items head (length c.args.path.now + 1) c.args.levels c.args.self.now.tree.now) c.args.inside.now) c.head-else-row.ensures
+    ∙ row_headed c.args.levels c.args.self.now.tree.now c.args.path.now c.args.id c.args.inside.now c.requires.inside
+    (ap (λ r. r.ordered) (sym c.row.ensures) ∙ c.if-row.false))
+
+pub push_headed-push_if_headed-requires : goal.push_headed-push_if_headed-requires
+push_headed-push_if_headed-requires t c =
+    let fewer : 8 * c.args.levels + 4 < t = omega (arith, c.decreases)
+    in let each = inside_at c.args.self.now.tree.now c.requires.tree c.args.path.now c.args.inside.now c.split_at.result.1.now c.loop-at.at c.index-inside-at.result
+    c.requires.inside c.loop-at-test.true c.index-inside-at.is c.split_at.ensures.back
+    in (fewer, (each, c.requires.tree))
+
+pub push_statement-returns : goal.push_statement-returns
+push_statement-returns t c =
+    let behind : c.push_below.new.items.items
+    ≡ (c.args.items.now.items ++ record { path = c.args.statement.now.0; value = c.args.statement.now.1; inside = 0 } ∷ [])
+    ++ items_below c.args.levels c.args.self.now.tree.now c.args.statement.now.0 = search rules
+    in let here : c.len-at.result ≡ length c.args.items.now.items = search rules
+    in let count : c.len.result ≡ length c.push_below.new.items.items = search rules
+    in told_behind c.args.items.now.items c.push_below.new.items.items (items_below c.args.levels c.args.self.now.tree.now c.args.statement.now.0) _ c.index_mut.result.now
+    c.hold.new.self c.len-at.result here behind c.index_mut.ensures.value
+    (c.hold.ensures ∙ ap (λ n. record { path = c.index_mut.result.now.path; value = c.index_mut.result.now.value; inside = n - c.len-at.result - 1 }) count)
