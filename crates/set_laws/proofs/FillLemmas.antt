@@ -37,7 +37,7 @@ use Rattle.cfg_tree.proofs.StatedLemmas.{stated-append, stays_there}
 use Rattle.edit_ops.specs.Value.{no_value, value_or_none, value_set, words_set, has_words}
 use Rattle.edit_ops.specs.Change.{with_level, with_levels, set_of}
 use Rattle.set_text.specs.Printed.{Line, set_line, word_lines, sets_by, sets_at, sets_in, sets_of, with_below, each_below, paths_below}
-use Rattle.set_text.proofs.PrintedLemmas.{paths_below_is}
+use Rattle.set_text.proofs.PrintedLemmas.{paths_below_more}
 use Rattle.curly_text.proofs.FillLemmas.{Lists, Differ, children_differ, child_there, no_deeper, item_and, items_below, child_items}
 use Rattle.set_laws.proofs.LookLemmas.{plain, Unprotected, put_open, put_stays, levels_all, IsReached}
 use Rattle.set_laws.proofs.SetLemmas.{bare_item, bare, SetsAll, sets_both, sets_wider, sets_open, sets_kept, AtChild, Below, set_first, set_more}
@@ -344,7 +344,7 @@ module _ (m : Statements) (tree : IsTree m) where
       clash : (length (children_of m q) == 0) ≡ true → (length (children_of m q) == 0) ≡ false → ⊥
       clash a b = cc
   some_below (suc levels) q deep children =
-      subst (λ (ps : List (List Step)). 0 < length (set_lines m ps)) (sym (paths_below_is (suc levels) m q))
+      subst (λ (ps : List (List Step)). 0 < length (set_lines m ps)) (sym (paths_below_more levels m q))
       (by_steps (children_of m q) refl children (λ t more. some_below levels (q ++ t ∷ []) (omega (arith, deep, child_longer q t)) more))
     where
       by_steps : (steps : List Step) → children_of m q ≡ steps → (length steps == 0) ≡ false

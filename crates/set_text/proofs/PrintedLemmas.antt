@@ -1,65 +1,70 @@
--- The paths that are printed, and the lines of several statements one after another.
-use Rattle.std.proofs.Common.{◌≡◌, ◌-◌, zero, suc, ℕ, List, [], ◌∷◌, ◌++◌, length, refl, sym, ap, ◌∙◌, subst, true}
+-- The lines of statements in a list are those of their paths.
+use Rattle.std.proofs.Common.{◌≡◌, ◌+◌, ◌≤◌, ◌==◌, zero, suc, ℕ, Bool, true, List, [], ◌∷◌, ◌++◌, length, Option, Some, None, is_some, inl, inr, refl, sym, ap, ◌∙◌, arith}
 use Rattle.std.specs.List.{flat_map}
-use Rattle.std.proofs.lemmas.List.{append_assoc, append-nil}
+use Rattle.std.specs.FinMap as map
 use Rattle.std.proofs.lemmas.List.Concat.{flat_map-append}
 use Rattle.cfg_base.specs.declared.path.Step.{Step}
-use Rattle.cfg_base.specs.declared.path.TheConstants.{MAX_STEPS}
-use Rattle.cfg_schema.specs.Place.{place_of}
+use Rattle.cfg_base.specs.declared.value.Value.{Value}
 use Rattle.cfg_tree.specs.Statements.{Statements}
 use Rattle.cfg_tree.specs.Children.{children_of}
+use Rattle.cfg_tree.specs.Tree.{IsTree}
+use Rattle.cfg_tree.proofs.PathLemmas.{child_longer}
+use Rattle.printing_order.specs.Listed.{Item, item_with, items_below}
+use Rattle.printing_order.specs.Listing.{child_items}
+use Rattle.printing_order.proofs.ChildlessLemmas.{childless}
+use Rattle.printing_order.proofs.ListedLemmas.{Lists, child_there}
 use Rattle.set_text.specs.declared.groups.Groups.{Groups}
-use Rattle.set_text.specs.Printed.{Line, printed_line, printed_lines, with_below, each_below, paths_below, sets_of, deactivates_of, protects_of, opens_at, shown_by, shown_of}
-use Rattle.set_text.specs.Groups.{IsPrinted, paths_at}
+use Rattle.set_text.specs.Printed.{Line, printed_lines, with_below, each_below, paths_below, sets_in, deactivates_in, protects_in, sets_of, deactivates_of, protects_of}
+use Rattle.set_text.specs.Groups.{item_sets, item_deactivates, item_protects, AreItems, ArePaths}
 
-pub paths_below_is : (n : ℕ) (m : Statements) (path : List Step) → paths_below n m path ≡ paths_at n m path (children_of m path)
+pub paths_below_more : (levels : ℕ) (m : Statements) (path : List Step) → paths_below (suc levels) m path ≡ each_below (paths_below levels m) path (children_of m path)
 unfolding paths_below
-paths_below_is zero m path = refl
-paths_below_is (suc n) m path = refl
+paths_below_more levels m path = refl
 
-nothing : (text : List ℕ) → text ≡ text ++ []
-nothing text = sym (append-nil text)
+module _ (m : Statements) (tree : IsTree m) (f : Item → List Line) (g : List Step → List Line)
+    (agree : (path : List Step) (value : Value) (inside : ℕ) → map.get m path ≡ Some value → (inside == 0) ≡ (length (children_of m path) == 0)
+    → f (record { path = path; value = value; inside = inside }) ≡ g path) where
+  -- a statement with those that stand in it
+  with_lines : (path : List Step) (inside : List Item) (paths : List (List Step)) (o : Option Value) → map.get m path ≡ o → is_some o ≡ true
+      → (length inside == 0) ≡ (length (children_of m path) == 0) → flat_map f inside ≡ flat_map g paths
+      → flat_map f (item_with path o inside) ≡ flat_map g (path ∷ paths)
+  with_lines path inside paths None found there held same = cc
+  with_lines path inside paths (Some value) found there held same =
+      ap (λ (ls : List Line). ls ++ flat_map f inside) (agree path value (length inside) found held)
+      ∙ ap (λ (ls : List Line). g path ++ ls) same
 
-pub printed_none : (m : Statements) (groups : Groups) → IsPrinted m [] groups groups
-printed_none m groups = record {
-  sets = nothing groups.sets.items;
-  deactivates = nothing groups.deactivates.items;
-  protects = nothing groups.protects.items;
+  pub same_lines : (levels : ℕ) (path : List Step) → 10 ≤ levels + length path → flat_map f (items_below levels m path) ≡ flat_map g (paths_below levels m path)
+  unfolding items_below paths_below
+  same_lines zero path deep = refl
+  same_lines (suc levels) path deep = by_steps (children_of m path) (λ s listed. child_there m tree path s listed) (λ s. same_lines levels (path ++ s ∷ []) (deeper s))
+    where
+      deeper : (s : Step) → 10 ≤ levels + length (path ++ s ∷ [])
+      deeper s = omega (arith, deep, child_longer path s)
+
+      by_steps : (steps : List Step) → ((s : Step) → Lists steps s → is_some (map.get m (path ++ s ∷ [])) ≡ true)
+          → ((s : Step) → flat_map f (items_below levels m (path ++ s ∷ [])) ≡ flat_map g (paths_below levels m (path ++ s ∷ [])))
+          → flat_map f (flat_map (child_items levels m path) steps) ≡ flat_map g (each_below (paths_below levels m) path steps)
+      by_steps [] there below = refl
+      by_steps (s ∷ steps) there below =
+          flat_map-append f (child_items levels m path s) (flat_map (child_items levels m path) steps)
+          ∙ ap (λ (ls : List Line). ls ++ flat_map f (flat_map (child_items levels m path) steps))
+          (with_lines (path ++ s ∷ []) (items_below levels m (path ++ s ∷ [])) (paths_below levels m (path ++ s ∷ [])) (map.get m (path ++ s ∷ [])) refl (there s (inl refl))
+          (childless levels m tree (path ++ s ∷ []) (deeper s)) (below s))
+          ∙ ap (λ (ls : List Line). flat_map g (with_below (paths_below levels m) (path ++ s ∷ [])) ++ ls) (by_steps steps (λ t listed. there t (inr listed)) below)
+          ∙ sym (flat_map-append g (with_below (paths_below levels m) (path ++ s ∷ [])) (each_below (paths_below levels m) path steps))
+
+-- what is put of the statements below a path in a list is put of their paths
+pub items_printed : (levels : ℕ) (m : Statements) → IsTree m → (path : List Step) → 10 ≤ levels + length path → (a b : Groups) → AreItems (items_below levels m path) a b
+    → ArePaths m (paths_below levels m path) a b
+items_printed levels m tree path deep a b put = record {
+  sets_put = put.sets_put
+      ∙ ap (λ (ls : List Line). a.sets.items ++ printed_lines ls)
+      (same_lines m tree item_sets (sets_of m)
+      (λ p v n found held. ap (λ (c : Bool). sets_in p c (Some v)) held ∙ ap (sets_in p (length (children_of m p) == 0)) (sym found)) levels path deep);
+  deactivates_put = put.deactivates_put
+      ∙ ap (λ (ls : List Line). a.deactivates.items ++ printed_lines ls)
+      (same_lines m tree item_deactivates (deactivates_of m) (λ p v n found held. ap (deactivates_in p) (sym found)) levels path deep);
+  protects_put = put.protects_put
+      ∙ ap (λ (ls : List Line). a.protects.items ++ printed_lines ls)
+      (same_lines m tree item_protects (protects_of m) (λ p v n found held. ap (protects_in p) (sym found)) levels path deep);
 }
-
--- what is printed of one list of statements and then of another is printed of both
-both : (f : List Step → List Line) (ps qs : List (List Step)) (one two three : List ℕ) → two ≡ one ++ printed_lines (flat_map f ps) → three ≡ two ++ printed_lines (flat_map f qs) → three ≡ one ++ printed_lines (flat_map f (ps ++ qs))
-both f ps qs one two three first next =
-    next
-    ∙ ap (λ t. t ++ printed_lines (flat_map f qs)) first
-    ∙ append_assoc one (printed_lines (flat_map f ps)) (printed_lines (flat_map f qs))
-    ∙ ap (λ t. one ++ t) (sym (flat_map-append printed_line (flat_map f ps) (flat_map f qs)) ∙ ap printed_lines (sym (flat_map-append f ps qs)))
-
-pub printed_both : (m : Statements) (ps qs : List (List Step)) (a b c : Groups) → IsPrinted m ps a b → IsPrinted m qs b c → IsPrinted m (ps ++ qs) a c
-printed_both m ps qs a b c first next = record {
-  sets = both (sets_of m) ps qs a.sets.items b.sets.items c.sets.items first.sets next.sets;
-  deactivates = both (deactivates_of m) ps qs a.deactivates.items b.deactivates.items c.deactivates.items first.deactivates next.deactivates;
-  protects = both (protects_of m) ps qs a.protects.items b.protects.items c.protects.items first.protects next.protects;
-}
-
--- one child more
-pub each_more : (inner : List Step → List (List Step)) (path front : List Step) (step : Step) → each_below inner path (front ++ step ∷ []) ≡ each_below inner path front ++ with_below inner (path ++ step ∷ [])
-each_more inner path front step =
-    flat_map-append (λ (s : Step). with_below inner (path ++ s ∷ [])) front (step ∷ [])
-    ∙ ap (λ ps. each_below inner path front ++ ps) (append-nil (with_below inner (path ++ step ∷ [])))
-
--- a statement, and then the statements below it
-pub with_below_printed : (n : ℕ) (m : Statements) (path steps : List Step) (a b c : Groups) → steps ≡ children_of m path → IsPrinted m (path ∷ []) a b → IsPrinted m (paths_at n m path steps) b c → IsPrinted m (with_below (paths_below n m) path) a c
-with_below_printed n m path steps a b c is own rest =
-    printed_both m (path ∷ []) (paths_below n m path) a b c own
-    (subst (λ ps. IsPrinted m ps b c) (ap (paths_at n m path) is ∙ sym (paths_below_is n m path)) rest)
-
--- the statements below a level or the top
-pub level_printed : (m : Statements) (below steps now : List Step) (a b : Groups) → steps ≡ children_of m below → now ≡ below → opens_at (place_of below) ≡ true → IsPrinted m (paths_at (MAX_STEPS - length now) m below steps) a b → IsPrinted m (shown_of m below) a b
-level_printed m below steps now a b is same level rest =
-    subst (λ ps. IsPrinted m ps a b)
-    (ap (λ (p : List Step). paths_at (MAX_STEPS - length p) m below steps) same
-    ∙ ap (paths_at (MAX_STEPS - length below) m below) is
-    ∙ sym (paths_below_is (MAX_STEPS - length below) m below)
-    ∙ ap (λ b. shown_by b m below) (sym level))
-    rest

@@ -1,16 +1,13 @@
 //! The lines of statements, in three groups: `set` lines, and those of the two marks.
 
-ghost use Rattle.std.specs.Prelude.{◌≡◌, ◌++◌, ◌∷◌, [], ◌==◌, length, OnOk, IfOk};
-ghost use Rattle.std.specs.List.{flat_map};
-ghost use Rattle.cfg_tree.specs.Children.{children_of};
+ghost use Rattle.std.specs.Prelude.{◌≡◌, ◌++◌, [], OnOk, IfOk};
 ghost use Rattle.cfg_schema.specs.Place.{place_of};
 ghost use Rattle.set_text.specs.Printed.{printed_lines, sets_at};
-ghost use Rattle.set_text.specs.Groups.{IsPrinted};
+ghost use Rattle.set_text.specs.Groups.{IsStatement};
 
 use crate::line::{push_bytes, push_own_line_if, push_sets};
 use cfg_base::{NoMemory, Path, Value, WordList};
 use cfg_schema::{Place, row};
-use cfg_tree::Tree;
 use commands::Verb;
 use std::alloc::Global;
 
@@ -63,17 +60,12 @@ impl Groups {
 /// Puts the lines of a statement at the end of each group.
 pub(crate) fn push_statement(
     groups: &mut Groups,
-    tree: &Tree,
     path: &Path,
+    value: &Value,
     childless: bool,
 ) -> Result<(), NoMemory>
-    requires { childless ≡ (length (children_of tree.now path.now) == 0) }
-    ensures { OnOk result (IsPrinted tree.now (path.now ∷ []) groups.old groups.new) }
+    ensures { OnOk result (IsStatement path.now value.now childless groups.old groups.new) }
 {
-    let value = match tree.at(path) {
-        None => return Ok(()),
-        Some(value) => value,
-    };
     push_sets_at(&mut groups.sets, path, childless, &value.words)?;
     push_own_line_if(
         &mut groups.deactivates,

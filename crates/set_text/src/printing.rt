@@ -1,68 +1,18 @@
 //! Statements as the lines that make them.
 
-ghost use Rattle.std.specs.Prelude.{◌≡◌, ◌+◌, ◌-◌, ◌≤◌, ◌==◌, ◌∷◌, [], ◌++◌, length, OnOk, IfOk};
+ghost use Rattle.std.specs.Prelude.{◌≡◌, ◌-◌, ◌∷◌, [], length, OnOk, IfOk};
 ghost use Rattle.cfg_base.specs.declared.path.TheConstants.{MAX_STEPS};
 ghost use Rattle.cfg_schema.specs.Place.{place_of};
 ghost use Rattle.cfg_schema.specs.Profile.{is_level};
-ghost use Rattle.cfg_tree.specs.Children.{children_of};
-ghost use Rattle.set_text.specs.Printed.{opens_at, paths_below, printed_set, shown_of, with_below};
-ghost use Rattle.set_text.specs.Groups.{IsPrinted, paths_at};
+ghost use Rattle.set_text.specs.Printed.{opens_at, paths_below, printed_set, shown_of};
+ghost use Rattle.set_text.specs.Groups.{AreItems, ArePaths};
 
 use crate::groups::{Groups, push_statement};
-use cfg_base::{Bytes, MAX_STEPS, NoMemory, Path, PathFault, Shape, Step};
+use cfg_base::{Bytes, MAX_STEPS, NoMemory, Path, Shape};
 use cfg_schema::{Place, row};
 use cfg_tree::Tree;
+use printing_order::{Item, items_below};
 use std::alloc::Global;
-
-/// The path of a child.
-fn child_of(path: &Path, step: &Step) -> Result<Path, NoMemory>
-    requires { length path.now + 1 ≤ MAX_STEPS }
-    ensures { IfOk result (λ child. child ≡ path.now ++ step.now ∷ []) }
-{
-    match path.push(step.clone()?) {
-        Ok(child) => Ok(child),
-        Err(PathFault::TooDeep) => unreachable!(),
-        Err(PathFault::NoMemory) => Err(NoMemory),
-    }
-}
-
-/// Puts the lines of a statement and of those below it at the end of each group.
-#[cycle(printing)]
-fn print_statement(
-    groups: &mut Groups,
-    tree: &Tree,
-    path: &Path,
-    levels: usize,
-) -> Result<(), NoMemory>
-    requires { length path.now + levels ≤ MAX_STEPS }
-    ensures { OnOk result (IsPrinted tree.now (with_below (paths_below levels tree.now) path.now) groups.old groups.new) }
-{
-    let steps = tree.children(path)?;
-    push_statement(groups, tree, path, steps.as_slice().is_empty())?;
-    print_each(groups, tree, path, steps.as_slice(), levels)
-}
-
-/// The same of each child of a path.
-#[cycle(printing)]
-fn print_each(
-    groups: &mut Groups,
-    tree: &Tree,
-    path: &Path,
-    steps: &[Step],
-    levels: usize,
-) -> Result<(), NoMemory>
-    requires { length path.now + levels ≤ MAX_STEPS }
-    ensures { OnOk result (IsPrinted tree.now (paths_at levels tree.now path.now steps.now) groups.old groups.new) }
-{
-    if levels == 0 {
-        return Ok(());
-    }
-    for step in steps {
-        let child = child_of(path, step)?;
-        print_statement(groups, tree, &child, levels - 1)?;
-    }
-    Ok(())
-}
 
 fn is_level(shape: Shape) -> bool
     ensures { result ≡ is_level shape }
@@ -83,15 +33,55 @@ fn opens(path: &Path) -> bool
     }
 }
 
-fn print_shown(groups: &mut Groups, tree: &Tree, below: &Path) -> Result<(), NoMemory>
-    ensures { OnOk result (IsPrinted tree.now (shown_of tree.now below.now) groups.old groups.new) }
+/// Puts the lines of statements at the end of each group.
+fn print_items(groups: &mut Groups, items: &[Item<'_>]) -> Result<(), NoMemory>
+    ensures { OnOk result (AreItems items.now groups.old groups.new) }
 {
-    let steps = tree.children(below)?;
+    for item in items {
+        push_statement(groups, item.path(), item.value(), item.inside() == 0)?;
+    }
+    Ok(())
+}
+
+/// Puts the lines of what stands in the top or in a level at the end of each group.
+fn print_level(
+    alloc: Global,
+    groups: &mut Groups,
+    tree: &Tree,
+    below: &Path,
+) -> Result<(), NoMemory>
+    ensures { OnOk result (ArePaths tree.now (paths_below (MAX_STEPS - length below.now) tree.now below.now) groups.old groups.new) }
+{
+    let levels = MAX_STEPS - below.steps().len();
+    let items = items_below(alloc, tree, below, levels)?;
+    print_items(groups, &items)
+}
+
+/// Puts the lines of the statement of a path at the end of each group, where it is there.
+fn print_alone(groups: &mut Groups, tree: &Tree, path: &Path) -> Result<(), NoMemory>
+    ensures { OnOk result (ArePaths tree.now (path.now ∷ []) groups.old groups.new) }
+{
+    match tree.at(path) {
+        None => Ok(()),
+        Some(value) => {
+            let steps = tree.children(path)?;
+            push_statement(groups, path, value, steps.as_slice().is_empty())
+        }
+    }
+}
+
+fn print_shown(
+    alloc: Global,
+    groups: &mut Groups,
+    tree: &Tree,
+    below: &Path,
+) -> Result<(), NoMemory>
+    ensures { OnOk result (ArePaths tree.now (shown_of tree.now below.now) groups.old groups.new) }
+{
     if opens(below) {
-        let levels = MAX_STEPS - below.steps().len();
-        print_each(groups, tree, below, steps.as_slice(), levels)
+        print_level(alloc, groups, tree, below)
     } else {
-        push_statement(groups, tree, below, steps.as_slice().is_empty())
+        print_alone(groups, tree, below)
     }
 }
 
@@ -100,6 +90,6 @@ pub fn print_lines(alloc: Global, tree: &Tree, below: &Path) -> Result<Bytes, No
     ensures { IfOk result (λ bytes. bytes ≡ printed_set tree.now below.now) }
 {
     let mut groups = Groups::new(alloc);
-    print_shown(&mut groups, tree, below)?;
+    print_shown(alloc, &mut groups, tree, below)?;
     Ok(Bytes::from(groups.joined()?))
 }
