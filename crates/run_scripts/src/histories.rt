@@ -11,6 +11,10 @@ use session_shell::{Turn, TurnList};
 fn say_turn(out: &mut String, turn: &Turn) -> Result<(), Fault> {
     match turn {
         Turn::Kept(place) => writeln!(out, "= turn event {place}")?,
+        Turn::Seen { front, moment } => {
+            let moment = moment.seconds();
+            writeln!(out, "= turn seen {front} {moment}")?;
+        }
         Turn::Local(ShellFault::Syntax(place)) => writeln!(
             out,
             "= turn syntax error at byte {place}"

@@ -15,7 +15,7 @@ use Rattle.session_history.specs.declared.history.Happened.{Happened}
 use Rattle.session_history.specs.Events.{IsAt, IsLegal, Leads, is_command}
 use Rattle.session_history.proofs.EventLemmas.{Leads-append, at_seam}
 use Rattle.session_shell.specs.declared.door.Given0.{Given0}
-use Rattle.session_shell.specs.declared.door.Given0.TheVariants.{Kept as KeptAt, NoMemory}
+use Rattle.session_shell.specs.declared.door.Given0.TheVariants.{Kept as KeptAt, Seen, NoMemory}
 use Rattle.session_shell.specs.Law.{IsDetermined}
 use Rattle.session_threads.specs.History.{Follows, IsMade, NoCommand}
 use Rattle.session_threads.proofs.ListLemmas.{all_back, some_is}
@@ -175,5 +175,7 @@ module _ (opening : State) (caller : ℕ) (leads_once : (events : List Happened)
       same_reply : reply ≡ reply'
       same_reply = (at_once b place' one.follows.named.before other.follows.named.before one.follows.named.event other.follows.named.event reply reply'
           (subst (λ p. IsAt opening b p one.follows.named.before one.follows.named.event reply) same_place (subst (λ l. IsAt opening l place one.follows.named.before one.follows.named.event reply) same_events one.follows.named.is_at)) other.follows.named.is_at).2
+  FollowsPlain-determined at_once events a b command answer (Seen front reply) given' one other want want' = absurd one.follows.named
+  FollowsPlain-determined at_once events a b command answer (KeptAt place reply) (Seen front reply') one other want want' = absurd other.follows.named
   FollowsPlain-determined at_once events a b command answer NoMemory given' one other want want' = absurd (want refl)
   FollowsPlain-determined at_once events a b command answer (KeptAt place reply) NoMemory one other want want' = absurd (want' refl)

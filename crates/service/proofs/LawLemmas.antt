@@ -8,7 +8,7 @@ use Rattle.config_core.specs.State.{State}
 use Rattle.session_history.specs.declared.history.Happened.{Happened}
 use Rattle.session_history.specs.Events.{IsAsked, IsAt, IsLegal, Leads, is_asked_by, is_command, places_from}
 use Rattle.session_shell.specs.declared.door.Given0.{Given0}
-use Rattle.session_shell.specs.declared.door.Given0.TheVariants.{Kept as KeptAt, NoMemory}
+use Rattle.session_shell.specs.declared.door.Given0.TheVariants.{Kept as KeptAt, Seen, NoMemory}
 use Rattle.session_shell.specs.Exchange.{Exchange, Asked, Refused}
 use Rattle.session_shell.specs.Law.{Agree, Undisturbed}
 use Rattle.session_shell.specs.Transcript.{GoesBy, SessionView}
@@ -57,6 +57,7 @@ plain_asked opening events place caller answer command reply asked = record {
 
 plain_names : (opening : State) (caller : ℕ) (events : List Happened) (command : Command) (answer : ℕ) (given : Given0) → Names opening caller events command answer given → Names opening caller (plain events) command answer given
 plain_names opening caller events command answer (KeptAt place reply) named = plain_asked opening events place caller answer command reply named
+plain_names opening caller events command answer (Seen front reply) named = absurd named
 plain_names opening caller events command answer NoMemory named = tt
 
 plain_turn : (given : Given0) (own events : List Happened) → IsTurn given own events → IsTurn given (plain own) (plain events)
@@ -67,6 +68,7 @@ plain_turn (KeptAt place reply) own events turn = record {
   no_command = All-map uncounted (λ event. is_command event.event ≡ false) (λ event. is_command event.event ≡ false) turn.front (λ event is. is) turn.no_command;
   at_end = omega (arith, turn.at_end, length-map events uncounted);
 }
+plain_turn (Seen front reply) own events turn = absurd turn
 plain_turn NoMemory own events turn = All-map uncounted (λ event. is_command event.event ≡ false) (λ event. is_command event.event ≡ false) own (λ event is. is) turn
 
 -- how a history follows, without the numbers of calls
@@ -156,9 +158,12 @@ module _ (opening : State) (caller : ℕ) where
 -- at a place a history names one reply
 pub names_agree : (opening : State) (caller : ℕ) (events : List Happened) → ((place : ℕ) (before again : State) (event same : Happened) (one other : Reply) → IsAt opening events place before event one → IsAt opening events place again same other → (event ≡ same) × (before ≡ again) × (one ≡ other)) →
     Agree (Names opening caller) events events
-names_agree opening caller events at_once command moment (KeptAt place reply) (KeptAt place' reply') named named' is =
+names_agree opening caller events at_once command moment (KeptAt place reply) (KeptAt place' reply') named named' is front =
     let same : place ≡ place' = some_is is in
     ap (λ p. KeptAt p reply) same ∙ ap (KeptAt place') (at_once place' named.before named'.before named.event named'.event reply reply' (subst (λ p. IsAt opening events p named.before named.event reply) same named.is_at) named'.is_at).2
-names_agree opening caller events at_once command moment NoMemory NoMemory named named' is = refl
-names_agree opening caller events at_once command moment (KeptAt place reply) NoMemory named named' is = cc
-names_agree opening caller events at_once command moment NoMemory (KeptAt place reply) named named' is = cc
+names_agree opening caller events at_once command moment NoMemory NoMemory named named' is front = refl
+names_agree opening caller events at_once command moment (KeptAt place reply) NoMemory named named' is front = cc
+names_agree opening caller events at_once command moment NoMemory (KeptAt place reply) named named' is front = cc
+names_agree opening caller events at_once command moment (Seen seen reply) other named named' is front = absurd named
+names_agree opening caller events at_once command moment (KeptAt place reply) (Seen seen reply') named named' is front = absurd named'
+names_agree opening caller events at_once command moment NoMemory (Seen seen reply') named named' is front = absurd named'

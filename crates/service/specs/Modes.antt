@@ -39,8 +39,8 @@ RunsIn held sink_faults tells history faults Gen asked old new a b closed =
 RunsIn held sink_faults tells history faults Serve asked old new a b closed = ⊥
 
 -- a run of a mode that serves no session: there is one end, of which the sink alone was called
-pub record RunsMode {S K C B D : Type 0} (held : K → Option (List ℕ)) (sink_faults : K → ℕ) (tells : D → Bool) (history : D → DiskHistory)
-    (faults : D → ℕ) (asked : Asked) (ends : List (End S K C)) (a b : D) (closed : Closed S K C B D) : Type 0 where
+pub record RunsMode {S K C B D : Type 0} (held : K → Option (List ℕ)) (sink_faults : K → ℕ) (tells : D → Bool)
+    (history : D → DiskHistory) (faults : D → ℕ) (asked : Asked) (ends : List (End S K C)) (a b : D) (closed : Closed S K C B D) : Type 0 where
   pub old : End S K C
   pub new : End S K C
   pub one : ends ≡ old ∷ []
@@ -49,10 +49,10 @@ pub record RunsMode {S K C B D : Type 0} (held : K → Option (List ℕ)) (sink_
   pub no_turns : closed.turns.items ≡ []
   pub ran : RunsIn held sink_faults tells history faults asked.mode asked old.sink new.sink a b closed
 
--- memory was wanting for the words themselves: nothing was done, no disk was called, the ticker is as it was given, and the start has
--- no cause
-pub record IsUndone {S K C B D : Type 0} (ends : List (End S K C)) (ticker : Ticker B C) (a b : D) (closed : Closed S K C B D)
-    : Type 0 where
+-- memory was wanting for the words themselves: nothing was done, no disk was called, the ticker is as it was given, and the
+-- start has no cause
+pub record IsUndone {S K C B D : Type 0} (ends : List (End S K C)) (ticker : Ticker B C) (a b : D)
+    (closed : Closed S K C B D) : Type 0 where
   pub status_is : closed.status ≡ 9
   pub idle : IsIdle ends closed.ends.items closed.turns.items closed.history
   pub why : closed.why ≡ NoWhy

@@ -1,4 +1,5 @@
--- A run of mode serve: the start over two disks, the sessions, what happened, and what the disks hold at the end. This project's own.
+-- A run of mode serve: the start over two disks, the sessions, what happened, and what the disks hold at the end. This
+-- project's own.
 use Rattle.std.specs.Prelude.{◌≡◌, ◌≤◌, ◌+◌, ◌⊎◌, ℕ, Bool, true, false, List, [], ◌++◌, length, map, slice_get}
 use Rattle.std.specs.Prelude.{Option, Some, IsSome, is_some}
 use Rattle.std.specs.List.{AllByRecursion}
@@ -36,8 +37,8 @@ abbrev pub DiskRose : {D : Type 0} → (D → ℕ) → D → D → D → D → T
 DiskRose faults a b a' b' = Rose (faults a) (faults a') ⊎ Rose (faults b) (faults b')
 
 -- the start was refused, for a cause that has a status of its own, nothing happened, and the ticker is as it was given
-pub record IsNotStarted {S K C B D : Type 0} (tells : D → Bool) (history : D → DiskHistory) (faults : D → ℕ) (ends : List (End S K C))
-    (ticker : Ticker B C) (a b : D) (closed : Closed S K C B D) : Type 0 where
+pub record IsNotStarted {S K C B D : Type 0} (tells : D → Bool) (history : D → DiskHistory) (faults : D → ℕ)
+    (ends : List (End S K C)) (ticker : Ticker B C) (a b : D) (closed : Closed S K C B D) : Type 0 where
   pub cause : StartWhy
   pub told : closed.why ≡ Why cause
   pub status_is : closed.status ≡ status_of_start cause
@@ -63,8 +64,8 @@ pub record AreSessions {S K C : Type 0} (left : S → Option (List ℕ)) (source
   pub each : (k : ℕ) (result : SessionResult S K C) → slice_get results k ≡ Some result
       → IsResult left source_faults held sink_faults coming opening limit events (k + 1) result
 
--- the events are those of callers 1 to count, and of caller 0, which is the ticker; behind them nobody settles what is in flight,
--- where something is, at the greatest moment so far
+-- the events are those of callers 1 to count, and of caller 0, which is the ticker; behind them nobody settles what is in
+-- flight, where something is, at the greatest moment so far
 pub record AreTheirs {B C : Type 0} (due : B → Option (ℕ → Bool)) (coming : C → Option (ℕ → ℕ)) (opening : State) (count : ℕ)
     (ticker ticker' : Ticker B C) (events : List Happened) : Type 0 where
   pub asked : List Happened
@@ -88,8 +89,8 @@ pub record HasHappened {B C : Type 0} (due : B → Option (ℕ → Bool)) (comin
   pub accepted : StaysAccepted (opening_of kept users) history.events.items
 
 -- what the disks hold of a history that ends in this state, where they told what they hold
-pub record AreStored {D : Type 0} (tells : D → Bool) (history : D → DiskHistory) (a b : D) (opening last : State) (happened : History)
-    (a' b' : D) : Type 0 where
+pub record AreStored {D : Type 0} (tells : D → Bool) (history : D → DiskHistory) (a b : D) (opening last : State)
+    (happened : History) (a' b' : D) : Type 0 where
   pub tells_a : tells a' ≡ tells a
   pub tells_b : tells b' ≡ tells b
   -- the numbers of calls don't fall from event to event
@@ -99,8 +100,8 @@ pub record AreStored {D : Type 0} (tells : D → Bool) (history : D → DiskHist
   -- they spell the list at the end, and of an entry that is in flight still it isn't known
   pub read : BothTell tells a b → AreRead (history a') (history b') last
 
--- an event has the outcome of a fault only where a disk's count of faults rose in this run, and no count falls; the commands that
--- have it are at most as many as the counts rose by, and so are the other events
+-- an event has the outcome of a fault only where a disk's count of faults rose in this run, and no count falls; the commands
+-- that have it are at most as many as the counts rose by, and so are the other events
 pub record HaveCauses {D : Type 0} (faults : D → ℕ) (a b a' b' : D) (events : List Happened) : Type 0 where
   pub later_a : faults a ≤ faults a'
   pub later_b : faults b ≤ faults b'
@@ -124,23 +125,26 @@ pub record IsEnded {D : Type 0} (faults : D → ℕ) (a b a' b' : D) (last : Sta
 
 -- the sessions were served over the list that the disks held, with the ticker beside them
 pub record IsServed {S K C B D : Type 0} (left : S → Option (List ℕ)) (source_faults : S → ℕ) (held : K → Option (List ℕ))
-    (sink_faults : K → ℕ) (coming : C → Option (ℕ → ℕ)) (due : B → Option (ℕ → Bool)) (tells : D → Bool) (history : D → DiskHistory)
-    (faults : D → ℕ) (limit : ℕ) (ends : List (End S K C)) (ticker : Ticker B C) (a b : D) (closed : Closed S K C B D) : Type 0 where
+    (sink_faults : K → ℕ) (coming : C → Option (ℕ → ℕ)) (due : B → Option (ℕ → Bool)) (tells : D → Bool)
+    (history : D → DiskHistory) (faults : D → ℕ) (limit : ℕ) (ends : List (End S K C)) (ticker : Ticker B C) (a b : D)
+    (closed : Closed S K C B D) : Type 0 where
   pub kept : Kept
   pub found : WasFound tells history a b kept
   pub hows : List How
-  pub sessions : AreSessions left source_faults held sink_faults coming (opening_of kept (users_of ends)) limit ends closed.ends.items
-      closed.turns.items closed.history.events.items hows
+  pub sessions : AreSessions left source_faults held sink_faults coming (opening_of kept (users_of ends)) limit ends
+      closed.ends.items closed.turns.items closed.history.events.items hows
   pub happened : HasHappened due coming kept (users_of ends) ticker closed.ticker closed.history
-  pub stored : AreStored tells history a b (opening_of kept (users_of ends)) happened.last closed.history closed.disk_a closed.disk_b
+  pub stored : AreStored tells history a b (opening_of kept (users_of ends)) happened.last closed.history closed.disk_a
+      closed.disk_b
   pub causes : HaveCauses faults a b closed.disk_a closed.disk_b closed.history.events.items
   pub ended : IsEnded faults a b closed.disk_a closed.disk_b happened.last hows closed.status
   pub why : closed.why ≡ NoWhy
 
--- what comes of mode serve: memory was wanting before the disks were called, or the start was refused, or the sessions were served
-abbrev pub Serves : {S K C B D : Type 0} → (S → Option (List ℕ)) → (S → ℕ) → (K → Option (List ℕ)) → (K → ℕ) → (C → Option (ℕ → ℕ))
-    → (B → Option (ℕ → Bool)) → (D → Bool) → (D → DiskHistory) → (D → ℕ) → ℕ → List (End S K C) → Ticker B C → D → D
-    → Closed S K C B D → Type 0
+-- what comes of mode serve: memory was wanting before the disks were called, or the start was refused, or the sessions were
+-- served
+abbrev pub Serves : {S K C B D : Type 0} → (S → Option (List ℕ)) → (S → ℕ) → (K → Option (List ℕ)) → (K → ℕ)
+    → (C → Option (ℕ → ℕ)) → (B → Option (ℕ → Bool)) → (D → Bool) → (D → DiskHistory) → (D → ℕ) → ℕ → List (End S K C)
+    → Ticker B C → D → D → Closed S K C B D → Type 0
 Serves left source_faults held sink_faults coming due tells history faults limit ends ticker a b closed =
     IsUndone ends ticker a b closed
     ⊎ (IsNotStarted tells history faults ends ticker a b closed

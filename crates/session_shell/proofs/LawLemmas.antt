@@ -1,7 +1,8 @@
 -- What a session's door names, and that a session has one text.
-use Rattle.std.proofs.Common.{◌≡◌, ℕ, ◌+◌, List, [], ◌∷◌, ◌++◌, map, refl, sym, ap, subst, ◌∙◌, Option, None, Some, Result, inl, inr, ◌⊎◌, Bool, true, false}
+use Rattle.std.proofs.Common.{◌≡◌, ℕ, suc, ◌+◌, List, [], ◌∷◌, ◌++◌, map, refl, sym, ap, subst, ◌∙◌, Option, None, Some, Result, inl, inr, ◌⊎◌, Bool, true, false}
 use Rattle.std.proofs.lemmas.Bool.{false≢true}
 use Rattle.std.proofs.lemmas.List.{append-nil}
+use Rattle.std.proofs.lemmas.Option.{none-some}
 use Rattle.std.specs.List.{AllByRecursion, flat_map}
 use Rattle.cfg_base.specs.Counts.{Rose}
 use Rattle.commands.specs.declared.command.Command.{Command}
@@ -22,11 +23,12 @@ use Rattle.session_shell.specs.declared.reading.Item.{Item}
 use Rattle.session_shell.specs.declared.reading.Item.TheVariants.{Ask, Wrong}
 use Rattle.session_shell.specs.declared.reading.Reading.{Reading}
 use Rattle.session_shell.specs.declared.reading.Reading.TheVariants.{Operational, Configuring, Collecting, Spoilt, Out}
-use Rattle.session_shell.specs.Exchange.{Exchange, Asked, Refused, item_of, moment_of, turn_of, text_of, after}
+use Rattle.session_shell.specs.Exchange.{Exchange, Asked, Refused, item_of, moment_of, turn_of, text_of, after, front_of, place_of}
 use Rattle.session_shell.specs.Items.{ComesOf, GoesOn, IsRead, IsReadAs, ReadsAs, asked_by}
 use Rattle.session_shell.specs.Cut.{lines_of}
 use Rattle.session_shell.specs.Transcript.{AnswersAre, EndsBy, Following, GoesBy, IsInput, LogsOut, Naming, SessionView, TakesAnswers, Texts, Wrote}
-use Rattle.session_shell.specs.Law.{Agree, IsDetermined, IsNamed, Undisturbed, kept_place}
+use Rattle.session_shell.specs.Law.{Agree, IsDetermined, IsNamed, IsShown, SeeAlike, Undisturbed, front_at, kept_place}
+use Rattle.session_shell.specs.Shows.{SeesShow}
 use Rattle.session_shell.proofs.TurnLemmas.{flat_map_over_append}
 use Rattle.session_shell.proofs.TakeLemmas.{not_full}
 
@@ -42,6 +44,15 @@ module _ {D : Type 0} (names : Naming D) (follows : Following D)
   all_named [] d e goes = tt
   all_named (Asked moment command given ∷ exchanges) d e goes = (kept exchanges goes.0 e goes.2 command moment given (named d goes.0 command moment given goes.1), all_named exchanges goes.0 e goes.2)
   all_named (Refused moment fault ∷ exchanges) d e goes = (tt, all_named exchanges d e goes)
+
+-- what was answered from a snapshot was a show
+pub all_shown : {D : Type 0} (follows : Following D)
+    (shows : (d e : D) (command : Command) (moment : ℕ) (given : Given0) → follows d command moment given e → SeesShow command given)
+    (exchanges : List Exchange) (d e : D) → GoesBy follows exchanges d e → AllByRecursion IsShown exchanges
+all_shown follows shows [] d e goes = tt
+all_shown follows shows (Asked moment command given ∷ exchanges) d e goes =
+    (shows d goes.0 command moment given goes.1, all_shown follows shows exchanges goes.0 e goes.2)
+all_shown follows shows (Refused moment fault ∷ exchanges) d e goes = (tt, all_shown follows shows exchanges d e goes)
 
 head_is : {A : Type 0} {x y : A} {xs ys : List A} → x ∷ xs ≡ y ∷ ys → x ≡ y
 head_is {A} {x} is = ap (λ l. elim l [ [] ↦ x | a ∷ _ ↦ a ]) is
@@ -254,29 +265,46 @@ module _ {D : Type 0} (follows : Following D) (once : Once) (limit : ℕ) (bytes
       text' : other.held ≡ behind (Some []) (flat_map text_of all_of')
       text' = all_text second.how second.session.asked second.session.final (record { coming = Some coming; held = Some []; faults = second.faults; turns = [] }) other second.ended second.no_fault second.session.texts
 
--- two doors that name the same, and events at the same places
+-- two doors that name the same, events at the same places, and snapshots of as many entries
 record AtPlaces {D : Type 0} (names : Naming D) (d e : D) (xs ys : List Exchange) : Type 0 where
   pub places : flat_map kept_place (map turn_of xs) ≡ flat_map kept_place (map turn_of ys)
+  pub seen : SeeAlike (map turn_of xs) (map turn_of ys)
   pub named : AllByRecursion (IsNamed names d) xs
   pub named' : AllByRecursion (IsNamed names e) ys
 
-peels_places : {D : Type 0} (names : Naming D) (d e : D) → Agree names d e → Peels (AtPlaces names d e)
-peels_places names d e agree (Asked moment command (given.Kept place reply)) (Asked moment' command' (given.Kept place' reply')) xs ys item when want want' at = (
-  ap (λ m. Asked m command (given.Kept place reply)) when ∙ ap (λ x. Asked moment' x (given.Kept place reply)) which ∙ ap (Asked moment' command') same,
-  record { places = tail_is at.places; named = at.named.1; named' = at.named'.1 },
-)
-  where
-    which : command ≡ command'
-    which = command_is command command' item
+module _ {D : Type 0} (names : Naming D) (d e : D) (agree : Agree names d e) where
+  -- the same command at the same moment came to the same, where the place and the front are
+  asked_same : (moment moment' : ℕ) (command command' : Command) (given given' : Given0) → Ask command ≡ Ask command' → moment ≡ moment'
+      → names d command moment given → names e command' moment' given' → place_of given ≡ place_of given' → front_of given ≡ front_of given'
+      → Asked moment command given ≡ Asked moment' command' given'
+  asked_same moment moment' command command' given given' item when named named' place front =
+      let which : command ≡ command' = command_is command command' item in
+      let there : names e command moment given' =
+      subst (λ m. names e command m given') (sym when) (subst (λ x. names e x moment' given') (sym which) named') in
+      ap (λ m. Asked m command given) when ∙ ap (λ x. Asked moment' x given) which
+      ∙ ap (Asked moment' command') (agree command moment given given' named there place front)
 
-    same : given.Kept place reply ≡ given.Kept place' reply'
-    same = agree command moment (given.Kept place reply) (given.Kept place' reply') at.named.0 (subst (λ m. names e command m (given.Kept place' reply')) (sym when) (subst (λ x. names e x moment' (given.Kept place' reply')) (sym which) at.named'.0)) (ap Some (head_is at.places))
-peels_places names d e agree (Asked moment command given.NoMemory) y xs ys item when want want' at = absurd (want refl)
-peels_places names d e agree (Asked moment command (given.Kept place reply)) (Asked moment' command' given.NoMemory) xs ys item when want want' at = absurd (want' refl)
-peels_places names d e agree (Refused moment fault) (Refused moment' fault') xs ys item when want want' at =
-    (ap (λ m. Refused m fault) when ∙ ap (Refused moment') (fault_is fault fault' item), record { places = at.places; named = at.named.1; named' = at.named'.1 })
-peels_places names d e agree (Asked moment command (given.Kept place reply)) (Refused moment' fault') xs ys item when want want' at = absurd (ask_is command fault' item)
-peels_places names d e agree (Refused moment fault) (Asked moment' command' given') xs ys item when want want' at = absurd (ask_is command' fault (sym item))
+  peels_places : Peels (AtPlaces names d e)
+  peels_places (Asked moment command (given.Kept place reply)) (Asked moment' command' (given.Kept place' reply')) xs ys item when want want' at = (
+    asked_same moment moment' command command' (given.Kept place reply) (given.Kept place' reply') item when at.named.0 at.named'.0 (ap Some (head_is at.places)) refl,
+    record { places = tail_is at.places; seen = λ number. at.seen (suc number); named = at.named.1; named' = at.named'.1 },
+  )
+  peels_places (Asked moment command (given.Seen front reply)) (Asked moment' command' (given.Seen front' reply')) xs ys item when want want' at = (
+    asked_same moment moment' command command' (given.Seen front reply) (given.Seen front' reply') item when at.named.0 at.named'.0 refl (at.seen 0),
+    record { places = at.places; seen = λ number. at.seen (suc number); named = at.named.1; named' = at.named'.1 },
+  )
+  peels_places (Asked moment command (given.Kept place reply)) (Asked moment' command' (given.Seen front' reply')) xs ys item when want want' at = absurd (none-some front' (at.seen 0))
+  peels_places (Asked moment command (given.Seen front reply)) (Asked moment' command' (given.Kept place' reply')) xs ys item when want want' at = absurd (none-some front (sym (at.seen 0)))
+  peels_places (Asked moment command given.NoMemory) y xs ys item when want want' at = absurd (want refl)
+  peels_places (Asked moment command (given.Kept place reply)) (Asked moment' command' given.NoMemory) xs ys item when want want' at = absurd (want' refl)
+  peels_places (Asked moment command (given.Seen front reply)) (Asked moment' command' given.NoMemory) xs ys item when want want' at = absurd (want' refl)
+  peels_places (Refused moment fault) (Refused moment' fault') xs ys item when want want' at = (
+    ap (λ m. Refused m fault) when ∙ ap (Refused moment') (fault_is fault fault' item),
+    record { places = at.places; seen = λ number. at.seen (suc number); named = at.named.1; named' = at.named'.1 },
+  )
+  peels_places (Asked moment command (given.Kept place reply)) (Refused moment' fault') xs ys item when want want' at = absurd (ask_is command fault' item)
+  peels_places (Asked moment command (given.Seen front reply)) (Refused moment' fault') xs ys item when want want' at = absurd (ask_is command fault' item)
+  peels_places (Refused moment fault) (Asked moment' command' given') xs ys item when want want' at = absurd (ask_is command' fault (sym item))
 
 -- two doors that stood alike, and went on by what they were asked
 record FromOne {D : Type 0} (follows : Following D) (e e' : D) (xs ys : List Exchange) : Type 0 where
@@ -288,7 +316,7 @@ peels_one : {D : Type 0} (follows : Following D) (e e' : D) → IsDetermined fol
 peels_one follows e e' determined (Asked moment command given) (Asked moment' command' given') xs ys item when want want' from =
     let which : command ≡ command' = command_is command command' item in
     let did : follows from.start command moment given' from.went'.0 = subst (λ m. follows from.start command m given' from.went'.0) (sym when) (subst (λ x. follows from.start x moment' given' from.went'.0) (sym which) from.went'.1) in
-    let same : (given ≡ given') × (from.went.0 ≡ from.went'.0) = determined from.start from.went.0 from.went'.0 command moment given given' from.went.1 did (λ is. want (ap (λ g. turn_of (Asked moment command g)) is)) (λ is. want' (ap (λ g. turn_of (Asked moment command g)) is)) in (
+    let same : (given ≡ given') × (from.went.0 ≡ from.went'.0) = determined from.start from.went.0 from.went'.0 command moment given given' from.went.1 did (λ is. want (ap (λ g. turn_of (Asked moment command g)) is)) (λ is. want' (ap (λ g. turn_of (Asked moment' command' g)) is)) in (
       ap (λ m. Asked m command given) when ∙ ap (λ x. Asked moment' x given) which ∙ ap (Asked moment' command') same.0,
       record { start = from.went'.0; went = subst (λ x. GoesBy follows xs x e) same.1 from.went.2; went' = from.went'.2 },
     )
@@ -297,14 +325,15 @@ peels_one follows e e' determined (Refused moment fault) (Refused moment' fault'
 peels_one follows e e' determined (Asked moment command given) (Refused moment' fault') xs ys item when want want' from = absurd (ask_is command fault' item)
 peels_one follows e e' determined (Refused moment fault) (Asked moment' command' given') xs ys item when want want' from = absurd (ask_is command' fault (sym item))
 
--- two sessions at the same places of doors that name the same
+-- two sessions at the same places, and over snapshots of as many entries, of doors that name the same
 pub one_text : {D : Type 0} (names : Naming D) (follows : Following D) (named : (d e : D) (command : Command) (moment : ℕ) (given : Given0) → follows d command moment given e → names e command moment given)
     (keeps : (d e : D) (command : Command) (moment : ℕ) (given : Given0) → follows d command moment given e → (asked : Command) (when : ℕ) (was : Given0) → names d asked when was → names e asked when was) → Once →
     (limit : ℕ) (bytes : List ℕ) (coming : ℕ → ℕ) (d e d' e' : D) (one other : SessionView) → Undisturbed follows limit bytes coming d e one → Undisturbed follows limit bytes coming d' e' other → Agree names e e' →
-    flat_map kept_place one.turns ≡ flat_map kept_place other.turns → (one.turns ≡ other.turns) × (one.held ≡ other.held)
-one_text names follows named keeps once limit bytes coming d e d' e' one other first second agree places =
+    flat_map kept_place one.turns ≡ flat_map kept_place other.turns → SeeAlike one.turns other.turns → (one.turns ≡ other.turns) × (one.held ≡ other.held)
+one_text names follows named keeps once limit bytes coming d e d' e' one other first second agree places seen =
     outcome_same follows once limit bytes coming d e d' e' one other first second (all_same follows once limit bytes coming d e d' e' one other first second (AtPlaces names e e') (peels_places names e e' agree) (record {
       places = ap (flat_map kept_place) (sym first.session.turns.turned) ∙ places ∙ ap (flat_map kept_place) second.session.turns.turned;
+      seen = λ number. ap (λ turns. front_at turns number) (sym first.session.turns.turned) ∙ seen number ∙ ap (λ turns. front_at turns number) second.session.turns.turned;
       named = all_named names follows named keeps (first.session.asked ++ first.session.final) d e first.session.turns.asked;
       named' = all_named names follows named keeps (second.session.asked ++ second.session.final) d' e' second.session.turns.asked;
     })).0

@@ -26,7 +26,7 @@ use Rattle.session_shell.proofs.TurnLemmas.{one_answer, Turns-none}
 
 -- an item that was asked
 pub Serves-asked : {D T E : Type 0} (follows : Following D) (command : Command) (moment : ℕ) (given : Given0) (put : Result T E) (d e : D) (reading reading' : Reading) (old new : SessionView) →
-    TakesAnswer old.coming new.coming moment → new.turns ≡ old.turns ++ turn_of_given given ∷ [] → follows d command moment given e → reading' ≡ after_given reading given → WroteAs put (text_of_given given) old.held new.held →
+    TakesAnswer old.coming new.coming moment → new.turns ≡ old.turns ++ turn_of_given moment given ∷ [] → follows d command moment given e → reading' ≡ after_given reading given → WroteAs put (text_of_given given) old.held new.held →
     Serves follows (Ask command) put d e reading reading' old new
 Serves-asked follows command moment given put d e reading reading' old new takes turned did is_reading wrote = record {
   exchange = Asked moment command given;

@@ -2,11 +2,12 @@
 use Rattle.std.specs.Prelude.{ℕ, List, if◌then◌else◌, Option, None, Some}
 use Rattle.commands.specs.declared.command.Command.{Command}
 use Rattle.config_core.specs.declared.reply.Reply.{Reply}
-use Rattle.config_core.specs.declared.reply.Reply.TheVariants.{Done, LoggedOut, Text, Entered, Left, Loaded, Checked, Committed, Refused as Denied}
+use Rattle.config_core.specs.declared.reply.Reply.TheVariants.{Done, LoggedOut, Text, Entered, Left}
+use Rattle.config_core.specs.declared.reply.Reply.TheVariants.{Loaded, Checked, Committed, Refused as Denied}
 use Rattle.reply_text.specs.declared.fault.ShellFault.{ShellFault}
 use Rattle.reply_text.specs.Texts.{text_of_reply, text_of_fault, no_memory_text}
 use Rattle.session_shell.specs.declared.door.Given0.{Given0}
-use Rattle.session_shell.specs.declared.door.Given0.TheVariants.{Kept, NoMemory}
+use Rattle.session_shell.specs.declared.door.Given0.TheVariants.{Kept, Seen, NoMemory}
 use Rattle.session_shell.specs.declared.reading.Item.{Item}
 use Rattle.session_shell.specs.declared.reading.Item.TheVariants.{Ask, Wrong}
 use Rattle.session_shell.specs.declared.reading.Reading.{Reading}
@@ -14,10 +15,17 @@ use Rattle.session_shell.specs.declared.reading.Reading.TheVariants.{Operational
 use Rattle.session_shell.specs.declared.turn.Turn.{Turn}
 use Rattle.session_shell.specs.declared.turn.Turn.TheVariants as turn
 
--- the place of what was given
+-- the event's place of what was given
 abbrev pub place_of : Given0 → Option ℕ
 place_of (Kept place reply) = Some place
+place_of (Seen front reply) = None
 place_of NoMemory = None
+
+-- how many entries the snapshot has from which it was read
+abbrev pub front_of : Given0 → Option ℕ
+front_of (Kept place reply) = None
+front_of (Seen front reply) = Some front
+front_of NoMemory = None
 
 -- an item with the clock's answer that it took: the command and what the door gave for it, or the fault for which it was
 -- refused
@@ -35,19 +43,21 @@ abbrev pub item_of : Exchange → Item
 item_of (Asked moment command given) = Ask command
 item_of (Refused moment fault) = Wrong fault
 
--- the turn that stands for what was given
-abbrev pub turn_of_given : Given0 → Turn
-turn_of_given (Kept place reply) = turn.Kept place
-turn_of_given NoMemory = turn.NoMemory
+-- the turn that stands for what was given at a moment
+abbrev pub turn_of_given : ℕ → Given0 → Turn
+turn_of_given moment (Kept place reply) = turn.Kept place
+turn_of_given moment (Seen front reply) = turn.Seen front moment
+turn_of_given moment NoMemory = turn.NoMemory
 
 -- the turn that stands for an item
 abbrev pub turn_of : Exchange → Turn
-turn_of (Asked moment command given) = turn_of_given given
+turn_of (Asked moment command given) = turn_of_given moment given
 turn_of (Refused moment fault) = turn.Local fault
 
 -- the text of what was given
 abbrev pub text_of_given : Given0 → List ℕ
 text_of_given (Kept place reply) = text_of_reply reply
+text_of_given (Seen front reply) = text_of_reply reply
 text_of_given NoMemory = no_memory_text
 
 -- the text that answers an item
@@ -67,9 +77,10 @@ after_reply reading Checked = reading
 after_reply reading (Committed minutes quit) = if quit then Operational else reading
 after_reply reading (Denied refusal) = reading
 
--- how a session reads on after what was given
+-- how a session reads on after what was given; what is read from a snapshot moves nobody
 abbrev pub after_given : Reading → Given0 → Reading
 after_given reading (Kept place reply) = after_reply reading reply
+after_given reading (Seen front reply) = reading
 after_given reading NoMemory = reading
 
 -- how a session reads on after an item

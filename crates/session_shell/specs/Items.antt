@@ -1,7 +1,8 @@
 -- The items of an input: what its lines ask, each read as the replies before it leave the session.
 -- A `load` line, the lines of its text and the line 0x04 that ends them are one item. Junos OS CLI User Guide, on load and its
 -- `terminal`, which a ^D ends; the limits and which fault decides are this project's own.
-use Rattle.std.specs.Prelude.{◌≡◌, ℕ, List, [], ◌∷◌, ◌++◌, length, Bool, true, false, if◌then◌else◌, nat_eq, nat_lt, Option, None, Some, Result, Ok, Err}
+use Rattle.std.specs.Prelude.{◌≡◌, ℕ, List, [], ◌∷◌, ◌++◌, length, Bool, true, false, if◌then◌else◌, nat_eq, nat_lt}
+use Rattle.std.specs.Prelude.{Option, None, Some, Result, Ok, Err}
 use Rattle.std.specs.Cmp.Lexicographic.{pointwise}
 use Rattle.commands.specs.Sound.{IsSound}
 use Rattle.commands.specs.declared.command.Command.TheVariants.{Load}

@@ -1,4 +1,5 @@
 pub mod Exchange
+pub mod Shows
 pub mod Items
 pub mod Cut
 pub mod Transcript

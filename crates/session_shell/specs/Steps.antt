@@ -1,5 +1,6 @@
 -- A session between its steps: what it holds, and what one line, or the stop of its input, does. This project's own.
-use Rattle.std.specs.Prelude.{◌≡◌, ◌≤◌, ℕ, List, [], ◌∷◌, ◌++◌, length, Result, Option, None, Some, Bool, true, false, if◌then◌else◌, ◌⊎◌}
+use Rattle.std.specs.Prelude.{◌≡◌, ◌≤◌, ℕ, List, [], ◌∷◌, ◌++◌, length, Bool, true, false, if◌then◌else◌, ◌⊎◌}
+use Rattle.std.specs.Prelude.{Result, Option, None, Some}
 use Rattle.std.specs.List.{flat_map}
 use Rattle.io_edge.specs.Feed.{Feed}
 use Rattle.io_edge.specs.Ends.{behind}
@@ -29,7 +30,8 @@ pub record Held (K C : Type 0) : Type 0 where
 
 -- its view, as its sink and clock tell it
 abbrev pub view_of : {K C : Type 0} → (C → Option (ℕ → ℕ)) → (K → Option (List ℕ)) → (K → ℕ) → Held K C → SessionView
-view_of coming held faults now = record { coming = coming now.clock; held = held now.sink; faults = faults now.sink; turns = now.turns }
+view_of coming held faults now =
+    record { coming = coming now.clock; held = held now.sink; faults = faults now.sink; turns = now.turns }
 
 abbrev pub is_out : Reading → Bool
 is_out Out = true
@@ -40,7 +42,8 @@ is_end End = true
 is_end line = false
 
 -- an item was served
-pub record Serves {D T E : Type 0} (follows : Following D) (item : Item) (put : Result T E) (d e : D) (reading reading' : Reading) (old new : SessionView) : Type 0 where
+pub record Serves {D T E : Type 0} (follows : Following D) (item : Item) (put : Result T E) (d e : D)
+    (reading reading' : Reading) (old new : SessionView) : Type 0 where
   pub exchange : Exchange
   pub is_item : item_of exchange ≡ item
   pub is_reading : reading' ≡ after reading exchange
@@ -48,47 +51,61 @@ pub record Serves {D T E : Type 0} (follows : Following D) (item : Item) (put : 
   pub wrote : WroteAs put (text_of exchange) old.held new.held
 
 -- a session so far: the lines that were served, from the first view to this one
-pub record SoFar {D : Type 0} (follows : Following D) (limit : ℕ) (source : Option (List ℕ)) (d e : D) (feed : Feed) (reading : Reading) (old now : SessionView) : Type 0 where
+pub record SoFar {D : Type 0} (follows : Following D) (limit : ℕ) (source : Option (List ℕ)) (d e : D) (feed : Feed)
+    (reading : Reading) (old now : SessionView) : Type 0 where
   pub lines : List Line
   pub exchanges : List Exchange
   pub reads : ReadsAs lines Operational exchanges reading
-  pub first : TellsBoth (λ bytes left. AreFirst lines (lines_of feed.room left) limit bytes feed.room left) source feed.left
+  pub first : TellsBoth (λ bytes left. AreFirst lines (lines_of feed.room left) limit bytes feed.room left) source
+      feed.left
   pub within : feed.ahead ≤ feed.room
   pub turns : Turns follows exchanges d e old now
   pub text : now.held ≡ behind old.held (flat_map text_of exchanges)
   pub going : is_out reading ≡ false
 
 -- a line was served: what it came to
-pub record ServesLine {D : Type 0} (follows : Following D) (line : Line) (exchanges : List Exchange) (d e : D) (reading reading' : Reading) (old new : SessionView) : Type 0 where
+pub record ServesLine {D : Type 0} (follows : Following D) (line : Line) (exchanges : List Exchange) (d e : D)
+    (reading reading' : Reading) (old new : SessionView) : Type 0 where
   pub reads : ReadsAs (line ∷ []) reading exchanges reading'
   pub turns : Turns follows exchanges d e old new
 
 -- a line was taken, and the session goes on, or ends so by it
-abbrev pub Takes : {D : Type 0} → Following D → Line → Option How → D → D → Reading → Reading → SessionView → SessionView → Type 0
+abbrev pub Takes : {D : Type 0} → Following D → Line → Option How → D → D → Reading → Reading → SessionView
+    → SessionView → Type 0
 Takes follows line None d e reading reading' old new =
-    (exchanges : List Exchange) × ServesLine follows line exchanges d e reading reading' old new × (new.held ≡ behind old.held (flat_map text_of exchanges)) × (is_out reading' ≡ false) × (is_end line ≡ false)
+    (exchanges : List Exchange) × ServesLine follows line exchanges d e reading reading' old new
+    × (new.held ≡ behind old.held (flat_map text_of exchanges)) × (is_out reading' ≡ false) × (is_end line ≡ false)
 Takes follows line (Some Clean) d e reading reading' old new =
-    (exchanges : List Exchange) × ServesLine follows line exchanges d e reading reading' old new × (new.held ≡ behind old.held (flat_map text_of exchanges)) × ((is_out reading' ≡ true) ⊎ (is_end line ≡ true))
+    (exchanges : List Exchange) × ServesLine follows line exchanges d e reading reading' old new
+    × (new.held ≡ behind old.held (flat_map text_of exchanges)) × ((is_out reading' ≡ true) ⊎ (is_end line ≡ true))
 Takes follows line (Some SinkFault) d e reading reading' old new =
-    (last : Exchange) × ServesLine follows line (last ∷ []) d e reading reading' old new × WrotePart (text_of last) old.held new.held
+    (last : Exchange) × ServesLine follows line (last ∷ []) d e reading reading' old new
+    × WrotePart (text_of last) old.held new.held
 Takes follows line (Some NoMemory) d e reading reading' old new = (e ≡ d) × (reading' ≡ reading) × (new ≡ old)
 Takes follows line (Some how) d e reading reading' old new = ⊥
 
 -- a session has ended, but for its last logout; what its reader has left was read ahead or is the source's
-pub record Ends {D : Type 0} (follows : Following D) (limit : ℕ) (how : How) (source : Option (List ℕ)) (d e : D) (feed : Feed) (reading : Reading) (old now : SessionView) : Type 0 where
+pub record Ends {D : Type 0} (follows : Following D) (limit : ℕ) (how : How) (source : Option (List ℕ)) (d e : D)
+    (feed : Feed) (reading : Reading) (old now : SessionView) : Type 0 where
   pub lines : List Line
   pub asked : List Exchange
   pub reads : ReadsAs lines Operational asked reading
-  pub input : TellsBoth (λ before left. (ahead now : List ℕ) → left ≡ ahead ++ now → length ahead ≡ feed.ahead → IsInput lines reading how limit before now) source feed.left
+  pub input : TellsBoth (λ before left. (ahead now : List ℕ) → left ≡ ahead ++ now → length ahead ≡ feed.ahead
+      → IsInput lines reading how limit before now) source feed.left
   pub turns : Turns follows asked d e old now
   pub texts : Texts how asked [] old now
 
 -- whatever a session did before, a step goes on from there or ends it
-abbrev pub Steps : {D : Type 0} → Following D → Option How → D → D → Feed → Feed → Reading → Reading → SessionView → SessionView → Type 0
+abbrev pub Steps : {D : Type 0} → Following D → Option How → D → D → Feed → Feed → Reading → Reading → SessionView
+    → SessionView → Type 0
 Steps {D} follows None d e feed feed' reading reading' old new =
-    (limit : ℕ) (source : Option (List ℕ)) (first : D) (from : SessionView) → SoFar follows limit source first d feed reading from old → SoFar follows limit source first e feed' reading' from new
+    (limit : ℕ) (source : Option (List ℕ)) (first : D) (from : SessionView)
+    → SoFar follows limit source first d feed reading from old
+    → SoFar follows limit source first e feed' reading' from new
 Steps {D} follows (Some how) d e feed feed' reading reading' old new =
-    (limit : ℕ) (source : Option (List ℕ)) (first : D) (from : SessionView) → from.faults ≤ old.faults → SoFar follows limit source first d feed reading from old → Ends follows limit how source first e feed' reading' from new
+    (limit : ℕ) (source : Option (List ℕ)) (first : D) (from : SessionView) → from.faults ≤ old.faults
+    → SoFar follows limit source first d feed reading from old
+    → Ends follows limit how source first e feed' reading' from new
 
 -- how a session ends by a line, after its text was written or not
 abbrev pub how_next : Line → Reading → Bool → Option How
@@ -101,7 +118,8 @@ LastText SinkFault final old new = new.held ≡ old.held
 LastText how final old new = Wrote [] (flat_map text_of final) old new
 
 -- the last logout was asked, where one is needed
-pub record Finishes {D : Type 0} (follows : Following D) (how : How) (d e : D) (reading : Reading) (old new : SessionView) : Type 0 where
+pub record Finishes {D : Type 0} (follows : Following D) (how : How) (d e : D) (reading : Reading)
+    (old new : SessionView) : Type 0 where
   pub final : List Exchange
   pub logs_out : LogsOut reading final
   pub turns : Turns follows final d e old new

@@ -9,15 +9,21 @@ ghost use Rattle.session_shell.specs.Steps.{how_next, is_end, is_out};
 use crate::door::Given0;
 use crate::reading::Reading;
 use crate::turn::{How, Turn};
+use cfg_base::Moment;
 use config_core::Reply;
 use io_edge::{Line, PutFailed, Sink};
 use reply_text::{put_no_memory, put_reply};
 
-pub(crate) fn turn_of(given: &Given0) -> Turn
-    ensures { result ≡ turn_of_given given.now }
+/// The turn of what was given at a moment.
+pub(crate) fn turn_of(moment: Moment, given: &Given0) -> Turn
+    ensures { result ≡ turn_of_given moment given.now }
 {
     match given {
         Given0::Kept { place, reply: _ } => Turn::Kept(*place),
+        Given0::Seen { front, reply: _ } => Turn::Seen {
+            front: *front,
+            moment,
+        },
         Given0::NoMemory => Turn::NoMemory,
     }
 }
@@ -50,7 +56,7 @@ fn follow(reading: &mut Reading, given: &Given0)
 {
     match given {
         Given0::Kept { place: _, reply } => follow_reply(reading, reply),
-        Given0::NoMemory => {}
+        Given0::Seen { .. } | Given0::NoMemory => {}
     }
 }
 
@@ -60,7 +66,7 @@ fn put_given<K: Sink>(sink: &mut K, given: &Given0) -> Result<(), PutFailed>
     ensures later { K.faults sink.old ≤ K.faults sink.new }
 {
     match given {
-        Given0::Kept { place: _, reply } => put_reply(sink, reply),
+        Given0::Kept { reply, .. } | Given0::Seen { reply, .. } => put_reply(sink, reply),
         Given0::NoMemory => put_no_memory(sink),
     }
 }

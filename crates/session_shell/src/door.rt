@@ -4,6 +4,7 @@ ghost use Rattle.std.specs.Prelude.{ℕ};
 ghost use Rattle.commands.specs.Sound.{IsSound};
 ghost use Rattle.commands.specs.declared.command.Command.{Command};
 ghost use Rattle.session_shell.specs.declared.door.Given0.{Given0};
+ghost use Rattle.session_shell.specs.Shows.{SeesShow};
 
 use cfg_base::Moment;
 use commands::Command;
@@ -15,13 +16,15 @@ use std::sync::Wait;
 pub enum Given0 {
     /// The event of the command stands at that place of the history, counted from 0, and that is its reply.
     Kept { place: u64, reply: Reply },
+    /// No event was made: the reply was read from a snapshot that has that many entries of the list of commits.
+    Seen { front: u64, reply: Reply },
     /// Memory was wanting.
     NoMemory,
 }
 
 /// What a session asks its commands of: the machine, as one caller sees it.
 pub trait Door {
-    // what belongs to a command at a moment: the event at its place, with its reply
+    // what belongs to a command at a moment: the event at its place, or a snapshot, with its reply
     ghost names: { Self → Command → ℕ → Given0 → Type 0 };
 
     // how the door may stand after one command at a moment, for which that was given
@@ -39,4 +42,8 @@ pub trait Door {
     // what was named stays
     ghost keeps: { (d e : Self) (command : Command) (moment : ℕ) (given : Given0) → follows d command moment given e
         → (asked : Command) (when : ℕ) (was : Given0) → names d asked when was → names e asked when was };
+
+    // only a show of the active configuration or of the commits is answered from a snapshot
+    ghost shows: { (d e : Self) (command : Command) (moment : ℕ) (given : Given0) → follows d command moment given e
+        → SeesShow command given };
 }

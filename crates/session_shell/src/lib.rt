@@ -2,10 +2,10 @@
 //!
 //! Guarantees: a session is what its source's bytes say: items, turns, texts, moments and how it ended
 //! (specs/Transcript.antt), over whatever answers its commands; what a door gave is what it names, and a session has one
-//! text (src/laws.rt). In order of reading: src/door.rt, specs/Exchange.antt, specs/Items.antt, specs/Cut.antt,
-//! specs/Transcript.antt.
+//! text (src/laws.rt). In order of reading: src/door.rt, specs/Shows.antt, specs/Exchange.antt, specs/Items.antt,
+//! specs/Cut.antt, specs/Transcript.antt.
 //! Leaves to others: what a line asks (`shell_words`), what the texts are (`reply_text`), the ends (`io_edge`), and what
-//! answers the commands (`service`).
+//! answers the commands (`session_threads`).
 #![tactic(auto)]
 
 mod answer;

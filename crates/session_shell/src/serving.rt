@@ -125,7 +125,7 @@ impl<S: Source, K: Sink, C: Clock> Serving<S, K, C> {
         match item {
             Item::Ask(command) => {
                 let given = door.ask(rt, moment, command);
-                self.turns.push_reserved(turn_of(&given));
+                self.turns.push_reserved(turn_of(moment, &given));
                 answer(&mut self.sink, &mut self.reading, given)
             }
             Item::Wrong(fault) => {
@@ -227,7 +227,7 @@ impl<S: Source, K: Sink, C: Clock> Serving<S, K, C> {
     {
         let moment = self.clock.now();
         let given = door.ask(rt, moment, Command::Logout);
-        self.turns.push_reserved(turn_of(&given));
+        self.turns.push_reserved(turn_of(moment, &given));
         let_go(given);
     }
 

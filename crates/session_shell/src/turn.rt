@@ -1,5 +1,6 @@
 ghost use Rattle.std.specs.Prelude.{◌≡◌};
 
+use cfg_base::Moment;
 use reply_text::ShellFault;
 use std::marker::Model;
 
@@ -8,6 +9,8 @@ use std::marker::Model;
 pub enum Turn {
     /// The event at that place of the history, counted from 0.
     Kept(u64),
+    /// What a snapshot of that many entries of the list of commits says, at that answer of the session's clock.
+    Seen { front: u64, moment: Moment },
     /// The line, or the text of a load, was refused.
     Local(ShellFault),
     /// Memory was wanting.

@@ -11,11 +11,13 @@ use Rattle.session_history.specs.declared.history.Happened.{Happened}
 use Rattle.session_history.specs.Events.{Leads, is_command, places_from, places_of}
 use Rattle.session_history.proofs.EventLemmas.{places_of-append}
 use Rattle.session_shell.specs.declared.door.Given0.{Given0}
+use Rattle.session_shell.specs.declared.door.Given0.TheVariants.{Kept, Seen, NoMemory}
+use Rattle.session_shell.specs.Shows.{SeesShow}
 use Rattle.turn_lock.specs.Histories.{entries_by}
 use Rattle.turn_lock.specs.Passes.{TookTurn}
 use Rattle.turn_lock.proofs.AccountLemmas.{grows}
 use Rattle.turn_lock.proofs.EntryLemmas.{entries_by-append}
-use Rattle.session_threads.specs.History.{Follows, Grows, places_given}
+use Rattle.session_threads.specs.History.{Follows, Grows, Names, places_given}
 use Rattle.session_threads.specs.Looks.{LooksAlone, LooksOnce}
 use Rattle.session_threads.specs.Sessions.{CallerPass, FollowsAlone, FollowsIn, IsReady, KnowsOwn, WentOn, caller_in}
 use Rattle.session_threads.proofs.ListLemmas.{some_is}
@@ -91,6 +93,13 @@ LooksOnce-behind opening answer seen others before events' is not_own looked = r
   no_command = looked.looks.no_command;
 }
 
+-- what a history names was read from no snapshot
+shows_named : (opening : State) (caller : ℕ) (events : List Happened) (command : Command) (answer : ℕ) (given : Given0)
+    → Names opening caller events command answer given → SeesShow command given
+shows_named opening caller events command answer (Kept place reply) named = tt
+shows_named opening caller events command answer (Seen front reply) named = absurd named
+shows_named opening caller events command answer NoMemory named = tt
+
 module _ {D : Type 0} where
   pub WentOn-same : (pass : CallerPass D) → KnowsOwn pass → WentOn pass pass
   WentOn-same pass own = record {
@@ -160,6 +169,7 @@ module _ {D : Type 0} where
             subst (λ events'. Follows (opened first) old.caller old.seen command answer given events') (sym (seen-took says old new took))
             (subst (λ f. Follows (opened f) old.caller old.seen command answer given (took.before ++ took.added))
             (some_is (sym took.is_fixed ∙ fixed)) behind);
+        shows = shows_named (opened took.fixed) old.caller (took.before ++ took.added) command answer given behind.named;
       }
 
   pub IsReady-then : (lock : TableId) (first : DatabaseView D) (old new : CallerPass D) → IsReady lock first old → WentOn old new

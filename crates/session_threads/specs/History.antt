@@ -6,7 +6,7 @@ use Rattle.config_core.specs.State.{State}
 use Rattle.session_history.specs.declared.history.Happened.{Happened}
 use Rattle.session_history.specs.Events.{IsAsked, Leads, is_command, places_of}
 use Rattle.session_shell.specs.declared.door.Given0.{Given0}
-use Rattle.session_shell.specs.declared.door.Given0.TheVariants.{Kept, NoMemory}
+use Rattle.session_shell.specs.declared.door.Given0.TheVariants.{Kept, Seen, NoMemory}
 use Rattle.session_shell.specs.declared.end.End.{End}
 use Rattle.session_shell.specs.declared.turn.How.{How}
 use Rattle.session_shell.specs.declared.turn.Turn.{Turn}
@@ -27,9 +27,11 @@ pub record Grows (opening : State) (caller answer : ℕ) (events events' : List 
   pub leads : Leads opening (events ++ others) before
   pub made : AllByRecursion (IsMade caller (max answer before.greatest)) own
 
--- what belongs to a caller's command at a clock's answer: its event at a place of the history, with the machine's reply
+-- what belongs to a caller's command at a clock's answer: its event at a place of the history, with the machine's reply;
+-- nothing is answered from a snapshot
 abbrev pub Names : State → ℕ → List Happened → Command → ℕ → Given0 → Type 0
 Names opening caller events command answer (Kept place reply) = IsAsked opening events place caller answer command reply
+Names opening caller events command answer (Seen front reply) = ⊥
 Names opening caller events command answer NoMemory = Unit {0}
 
 -- no event is a command
@@ -46,11 +48,13 @@ pub record EndsAt (place : ℕ) (own events : List Happened) : Type 0 where
 
 abbrev pub IsTurn : Given0 → List Happened → List Happened → Type 0
 IsTurn (Kept place reply) own events = EndsAt place own events
+IsTurn (Seen front reply) own events = ⊥
 IsTurn NoMemory own events = NoCommand own
 
 -- the places of the events that were given
 abbrev pub places_given : Given0 → List ℕ
 places_given (Kept place reply) = place ∷ []
+places_given (Seen front reply) = []
 places_given NoMemory = []
 
 -- how a history follows after one ask of a caller

@@ -1,5 +1,6 @@
 -- The ticker, which looks at the time at each beat. This project's own.
-use Rattle.std.specs.Prelude.{◌≡◌, ◌≢◌, ◌⊎◌, ℕ, Bool, true, false, List, [], ◌∷◌, ◌++◌, length, replicate, Option}
+use Rattle.std.specs.Prelude.{◌≡◌, ◌≢◌, ◌⊎◌, ℕ, Bool, true, false, Option}
+use Rattle.std.specs.Prelude.{List, [], ◌∷◌, ◌++◌, length, replicate}
 use Rattle.std.specs.List.{AllByRecursion}
 use Rattle.config_core.specs.State.{State}
 use Rattle.io_edge.specs.Ends.{TakesAnswer}
@@ -33,8 +34,8 @@ abbrev pub CallFor : List Bool → ℕ → Type 0
 CallFor beats looks = (beats ≡ replicate looks true) ⊎ (beats ≡ replicate looks true ++ false ∷ [])
 
 -- a ticker's beat and its clock gave these answers, and it looked at the time at those of the clock
-pub record AreLooks {B C : Type 0} (due : B → Option (ℕ → Bool)) (coming : C → Option (ℕ → ℕ)) (opening : State) (beats : List Bool)
-    (answers : List ℕ) (old new : Ticker B C) (events events' : List Happened) : Type 0 where
+pub record AreLooks {B C : Type 0} (due : B → Option (ℕ → Bool)) (coming : C → Option (ℕ → ℕ)) (opening : State)
+    (beats : List Bool) (answers : List ℕ) (old new : Ticker B C) (events events' : List Happened) : Type 0 where
   pub beat_told : Takes (due old.beat) beats (due new.beat)
   pub clock_told : Takes (coming old.clock) answers (coming new.clock)
   pub looks : Looks opening answers events events'

@@ -45,10 +45,10 @@ pub record IsUnbegun {S K C : Type 0} (events : List Happened) (caller : ℕ) (r
 -- the session of a caller, over a part of the events of a run; a fault of its source or its sink is answered only where that
 -- object's count rose
 pub record IsResult {S K C : Type 0} (left : S → Option (List ℕ)) (source_faults : S → ℕ) (held : K → Option (List ℕ))
-    (sink_faults : K → ℕ) (coming : C → Option (ℕ → ℕ)) (opening : State) (limit : ℕ) (events : List Happened) (caller : ℕ)
-    (result : SessionResult S K C) : Type 0 where
-  pub session : HasSession left held sink_faults coming opening caller limit events result.how result.turns result.old result.new
-      ⊎ IsUnbegun events caller result
+    (sink_faults : K → ℕ) (coming : C → Option (ℕ → ℕ)) (opening : State) (limit : ℕ) (events : List Happened)
+    (caller : ℕ) (result : SessionResult S K C) : Type 0 where
+  pub session : HasSession left held sink_faults coming opening caller limit events result.how result.turns result.old
+      result.new ⊎ IsUnbegun events caller result
   pub user : result.new.user ≡ result.old.user
   pub source_cause : result.how ≡ SourceFault → Rose (source_faults result.old.source) (source_faults result.new.source)
   pub sink_cause : result.how ≡ SinkFault → Rose (sink_faults result.old.sink) (sink_faults result.new.sink)

@@ -27,10 +27,10 @@ EachFrom Is number [] = Unit {0}
 EachFrom Is number (x ∷ xs) = Is number x × EachFrom Is (number + 1) xs
 
 -- a database in which nothing had happened, and what came over it of the sessions of these ends and of the ticker
-pub record AreServed {S K C B D : Type 0} (left : S → Option (List ℕ)) (source_faults : S → ℕ) (held : K → Option (List ℕ))
-    (sink_faults : K → ℕ) (coming : C → Option (ℕ → ℕ)) (due : B → Option (ℕ → Bool)) (tells : D → Bool) (faults : D → ℕ) (limit : ℕ)
-    (first : DatabaseView D) (ends ends' : List (End S K C)) (ticker ticker' : Ticker B C) (turns : List (List Turn)) (v : DatabaseView D)
-    (status : ℕ) : Type 0 where
+pub record AreServed {S K C B D : Type 0} (left : S → Option (List ℕ)) (source_faults : S → ℕ)
+    (held : K → Option (List ℕ)) (sink_faults : K → ℕ) (coming : C → Option (ℕ → ℕ)) (due : B → Option (ℕ → Bool)) (tells : D → Bool)
+    (faults : D → ℕ) (limit : ℕ) (first : DatabaseView D) (ends ends' : List (End S K C)) (ticker ticker' : Ticker B C)
+    (turns : List (List Turn)) (v : DatabaseView D) (status : ℕ) : Type 0 where
   pub leads : Leads (opened first) v.events v.state
   pub adds : AddsUp tells faults v.events first v
   -- the sessions of callers 1, 2 and so on

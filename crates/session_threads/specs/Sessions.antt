@@ -10,6 +10,7 @@ use Rattle.session_history.specs.declared.history.Happened.{Happened}
 use Rattle.session_shell.specs.declared.door.Given0.{Given0}
 use Rattle.session_shell.specs.declared.turn.How.TheVariants.{SourceFault, SinkFault, NoMemory}
 use Rattle.session_shell.specs.Opened.{end_view}
+use Rattle.session_shell.specs.Shows.{SeesShow}
 use Rattle.session_shell.specs.Transcript.{IsSession}
 use Rattle.turn_lock.specs.Histories.{entries_by}
 use Rattle.turn_lock.specs.Passes.{PassView}
@@ -48,8 +49,8 @@ pub record WentOn {D : Type 0} (old new : CallerPass D) : Type 0 where
   pub own : KnowsOwn new
 
 -- a history grew by what one ask of a caller made, and by nothing else
-pub record FollowsAlone {D : Type 0} (first : DatabaseView D) (caller : ℕ) (events : List Happened) (command : Command) (answer : ℕ)
-    (given : Given0) (events' : List Happened) : Type 0 where
+pub record FollowsAlone {D : Type 0} (first : DatabaseView D) (caller : ℕ) (events : List Happened) (command : Command)
+    (answer : ℕ) (given : Given0) (events' : List Happened) : Type 0 where
   pub follows : Follows (opened first) caller events command answer given events'
   pub alone : follows.grows.others ≡ []
 
@@ -59,11 +60,12 @@ NamesIn {D} pass command answer given =
     (first : DatabaseView D) → pass.fixed ≡ Some first → Names (opened first) pass.caller pass.seen command answer given
 
 -- how a pass follows after one ask of its caller
-pub record FollowsIn {D : Type 0} (pass : CallerPass D) (command : Command) (answer : ℕ) (given : Given0) (pass' : CallerPass D)
-    : Type 0 where
+pub record FollowsIn {D : Type 0} (pass : CallerPass D) (command : Command) (answer : ℕ) (given : Given0)
+    (pass' : CallerPass D) : Type 0 where
   pub goes : WentOn pass pass'
   pub follows : (first : DatabaseView D) → pass.fixed ≡ Some first
       → Follows (opened first) pass.caller pass.seen command answer given pass'.seen
+  pub shows : SeesShow command given
 
 -- no session began
 pub record StaysOut {S K C D : Type 0} (old new : CallerPass D) (result : SessionResult S K C) : Type 0 where
@@ -74,14 +76,15 @@ pub record StaysOut {S K C D : Type 0} (old new : CallerPass D) (result : Sessio
 
 -- the session ran over a part of what its pass has seen, behind which nothing is its caller's
 pub record HasRun {S K C D : Type 0} (left : S → Option (List ℕ)) (held : K → Option (List ℕ)) (sink_faults : K → ℕ)
-    (coming : C → Option (ℕ → ℕ)) (limit : ℕ) (first : DatabaseView D) (old new : CallerPass D) (result : SessionResult S K C)
-    : Type 0 where
+    (coming : C → Option (ℕ → ℕ)) (limit : ℕ) (first : DatabaseView D) (old new : CallerPass D)
+    (result : SessionResult S K C) : Type 0 where
   pub after : List Happened
   pub later : List Happened
   pub begins : new.seen ≡ after ++ later
   pub none_later : AllByRecursion (λ event. event.caller ≢ old.caller) later
-  pub session : IsSession (Follows (opened first) old.caller) limit result.how (left result.old.source) (left result.new.source) old.seen
-      after (end_view coming held sink_faults result.old []) (end_view coming held sink_faults result.new result.turns)
+  pub session : IsSession (Follows (opened first) old.caller) limit result.how (left result.old.source)
+      (left result.new.source) old.seen after (end_view coming held sink_faults result.old [])
+      (end_view coming held sink_faults result.new result.turns)
 
 -- the session of a pass's caller was served
 pub record ServesOne {S K C D : Type 0} (left : S → Option (List ℕ)) (source_faults : S → ℕ) (held : K → Option (List ℕ))
@@ -103,8 +106,9 @@ IsSeated lock first None = ⊥
 IsSeated lock first (Some seat) = IsReady lock first seat.pass
 
 -- the session of a seat was served
-abbrev pub ServesSeat : {S K C D : Type 0} → (S → Option (List ℕ)) → (S → ℕ) → (K → Option (List ℕ)) → (K → ℕ) → (C → Option (ℕ → ℕ)) → ℕ
-    → DatabaseView D → Option (Seat S K C (DatabaseView D)) → Option (Seat S K C (DatabaseView D)) → Type 0
+abbrev pub ServesSeat : {S K C D : Type 0} → (S → Option (List ℕ)) → (S → ℕ) → (K → Option (List ℕ)) → (K → ℕ)
+    → (C → Option (ℕ → ℕ)) → ℕ → DatabaseView D → Option (Seat S K C (DatabaseView D))
+    → Option (Seat S K C (DatabaseView D)) → Type 0
 ServesSeat left source_faults held sink_faults coming limit first (Some old) (Some new) =
     ServesOne left source_faults held sink_faults coming limit first old.pass new.pass (result_of old new)
 ServesSeat left source_faults held sink_faults coming limit first None now = ⊥

@@ -16,21 +16,21 @@ pub record IsFirst {D : Type 0} (lock : TableId) (first : DatabaseView D) (pass 
   pub own : KnowsOwn pass
 
 -- one look, which the beat called for
-abbrev pub IsLook : {B C : Type 0} → (B → Option (ℕ → Bool)) → (C → Option (ℕ → ℕ)) → State → Ticker B C → Ticker B C → List Happened
-    → List Happened → Type 0
+abbrev pub IsLook : {B C : Type 0} → (B → Option (ℕ → Bool)) → (C → Option (ℕ → ℕ)) → State → Ticker B C → Ticker B C
+    → List Happened → List Happened → Type 0
 IsLook due coming opening old new events events' =
     (answer : ℕ) × AreLooks due coming opening (true ∷ []) (answer ∷ []) old new events events'
 
 -- one round of the ticker: it looked at the time, or, where it is the last one, its beat may have said that no look is due
-abbrev pub IsRound : {B C : Type 0} → (B → Option (ℕ → Bool)) → (C → Option (ℕ → ℕ)) → State → Bool → Ticker B C → Ticker B C
-    → List Happened → List Happened → Type 0
+abbrev pub IsRound : {B C : Type 0} → (B → Option (ℕ → Bool)) → (C → Option (ℕ → ℕ)) → State → Bool → Ticker B C
+    → Ticker B C → List Happened → List Happened → Type 0
 IsRound due coming opening true old new events events' = IsLook due coming opening old new events events'
 IsRound due coming opening false old new events events' =
     IsLook due coming opening old new events events' ⊎ AreLooks due coming opening (false ∷ []) [] old new events events'
 
 -- the ticker took at most one turn
-pub record Ticks {B C D : Type 0} (due : B → Option (ℕ → Bool)) (coming : C → Option (ℕ → ℕ)) (goes_on : Bool) (first : DatabaseView D)
-    (old new : CallerPass D) (ticker ticker' : Ticker B C) : Type 0 where
+pub record Ticks {B C D : Type 0} (due : B → Option (ℕ → Bool)) (coming : C → Option (ℕ → ℕ)) (goes_on : Bool)
+    (first : DatabaseView D) (old new : CallerPass D) (ticker ticker' : Ticker B C) : Type 0 where
   pub goes : WentOn old new
   pub round : IsRound due coming (opened first) goes_on ticker ticker' old.seen new.seen
 

@@ -2,7 +2,7 @@
 
 ghost use Rattle.std.specs.Prelude.{◌≡◌};
 ghost use Rattle.config_db.specs.View.{DatabaseView};
-ghost use Rattle.session_threads.specs.Naming.{keeps_names, names_given};
+ghost use Rattle.session_threads.specs.Naming.{keeps_names, names_given, shows_given};
 ghost use Rattle.session_threads.specs.Sessions.{FollowsIn, IsReady, NamesIn};
 
 use crate::deeds::Ask;
@@ -68,4 +68,6 @@ impl<'a, D: Disk> Door for Gate<'a, D> {
     ghost named = { names_given };
 
     ghost keeps = { keeps_names };
+
+    ghost shows = { shows_given };
 }
