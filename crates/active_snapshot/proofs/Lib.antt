@@ -1,0 +1,5 @@
+mod AddingLemmas
+mod PrefixLemmas
+mod ReadLemmas
+pub mod SendLemmas
+mod ViewLemmas

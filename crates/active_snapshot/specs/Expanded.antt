@@ -1,0 +1,17 @@
+-- A view with its expansion. This is the project's own.
+use Rattle.std.specs.Prelude.{◌≡◌, Option, Some, None}
+use Rattle.cfg_tree.specs.Full.{Expansion}
+use Rattle.group_expand.specs.Expansion.{IsExpansion}
+use Rattle.commit_ledger.specs.declared.entry.Entry.{Entry}
+use Rattle.commit_ledger.specs.declared.entry.Entry.TheVariants.{Commit as CommitOf, Confirm as ConfirmOf}
+use Rattle.commit_ledger.specs.Kept.{Kept, active_of}
+
+-- the active configuration with all that its groups give
+abbrev pub IsExpanded : Kept → Expansion → Type 0
+IsExpanded view full = IsExpansion (active_of view) full
+
+-- the expansion that comes with an entry: of a commit's configuration, and none with a confirmation
+abbrev pub ComesWith : Entry → Option Expansion → Type 0
+ComesWith (CommitOf commit) None = ⊥
+ComesWith (CommitOf commit) (Some full) = IsExpansion commit.tree full
+ComesWith (ConfirmOf confirm) full = full ≡ None

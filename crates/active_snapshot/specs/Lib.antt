@@ -1,0 +1,5 @@
+pub mod Views
+pub mod States
+pub mod Expanded
+pub mod Book
+pub mod Reads

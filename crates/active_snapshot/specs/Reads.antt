@@ -1,0 +1,19 @@
+-- What a read answers. Junos OS CLI User Guide, on commits that require a confirmation; that a read stops at a missed deadline
+-- is this project's own.
+use Rattle.std.specs.Prelude.{ℕ, ◌≡◌, true, false, List, Some}
+use Rattle.std.specs.Arc.{arc_value}
+use Rattle.commit_ledger.specs.Kept.{Kept, Unconfirmed, is_revert_due}
+use Rattle.active_snapshot.specs.Views.{IsLast}
+use Rattle.active_snapshot.specs.declared.reader.Read.{Read}
+use Rattle.active_snapshot.specs.declared.reader.Read.TheVariants.{Due, At}
+
+-- the answer of a view at a moment: its front, and the deadline where it has come, else the view
+abbrev pub IsAnswer : Kept → ℕ → Read → Type 0
+IsAnswer view moment (Due front deadline) =
+    (front ≡ view.count) × (is_revert_due view moment ≡ true)
+    × ((run : Unconfirmed) × (view.pending ≡ Some run) × (deadline ≡ run.deadline))
+IsAnswer view moment (At front shown) = (front ≡ view.count) × (is_revert_due view moment ≡ false) × (arc_value shown ≡ view)
+
+-- the answer of the last view of a list
+abbrev pub IsReadOf : List Kept → ℕ → Read → Type 0
+IsReadOf list moment read = (view : Kept) × IsLast list view × IsAnswer view moment read

@@ -1,0 +1,210 @@
+//! The writer.
+
+ghost use Rattle.std.specs.Prelude.{◌≡◌, ◌≤◌, ◌<◌, ◌+◌, ◌^◌, ◌++◌, ◌∷◌, [], length, Some, None, OnOk, OnErr, true, false};
+ghost use Rattle.std.specs.Arc.{arc_value};
+ghost use Rattle.active_snapshot.specs.States.{all_published, first_written, with_kept};
+ghost use Rattle.active_snapshot.specs.Views.{AreViews, ComesNext, IsLast, with_proposal};
+
+use crate::book::{Naming, Shelf};
+use crate::note::SnapNote;
+use crate::reader::{Of, OfBook};
+use crate::slot::Slot;
+use crate::view::Shown;
+use cfg_base::NoMemory;
+use left_right::writer::Writer;
+use std::alloc::Global;
+use std::marker::Model;
+use std::sync::{Arc, Wait};
+
+/// Keeps and publishes views, one after another. It is not `Drop`: end it by `end`.
+pub struct SnapWriter<J: Naming> {
+    writer: Option<Writer<Slot, Slot, u8, Of<J>>>,
+    shelf: Shelf,
+    slot: Slot,
+    proposal: Option<Arc<Shown, Global>>,
+    late: bool,
+    published: u64,
+}
+
+impl<J: Naming> Model for SnapWriter<J> {
+    ghost use Rattle.std.specs.Prelude.{◌≡◌, ◌≤◌, length, false, IfSome};
+    ghost use Rattle.std.specs.Arc.{arc_value};
+    ghost use Rattle.std.specs.Option.{option_map};
+    ghost use Rattle.std.specs.Coded.{codes};
+    ghost use Rattle.cfg_tree.specs.Statements.{statements_code};
+    ghost use Rattle.active_snapshot.specs.States.{WriterState};
+    ghost use Rattle.active_snapshot.specs.Views.{ComesNext};
+
+    ghost Value = { WriterState };
+
+    ghost coded = { Prim.hlevel (codes, statements_code) };
+
+    ghost view = { λ w. record {
+      list = w.slot.list;
+      proposal = option_map (λ shown. arc_value shown) w.proposal;
+      late = w.late;
+      published = w.published;
+    } };
+
+    ghost invariant = { λ w. (w.slot.book ≡ J.book) × (w.shelf ≡ J.book)
+        × IfSome w.proposal (λ shown. ComesNext w.slot.list (arc_value shown))
+        × (w.published ≤ length w.slot.list) × (w.late ≡ false → w.published ≡ length w.slot.list) };
+}
+
+/// Puts a value where there is none.
+fn put_back<T>(place: &mut Option<T>, value: T)
+    requires { place.old ≡ None }
+    ensures { place.new ≡ Some value }
+{
+    let nothing = place.replace(value);
+    let None = nothing else { unreachable!() };
+}
+
+/// Publishes a slot behind whatever waits, and says whether it did.
+fn publish_slot<J: Naming, R: Wait>(
+    rt: &R,
+    writer: &mut Option<Writer<Slot, Slot, u8, Of<J>>>,
+    slot: Slot,
+) -> bool
+    requires { slot.book ≡ J.book }
+{
+    let Some(mut open) = writer.take() else {
+        return false;
+    };
+    match open.append(slot) {
+        Ok(()) => {
+            let (open, done) = open.publish_as::<OfBook<J>, R>(rt);
+            put_back(writer, open);
+            done.is_ok()
+        }
+        Err(_) => {
+            put_back(writer, open);
+            false
+        }
+    }
+}
+
+impl<J: Naming> SnapWriter<J> {
+    /// A writer whose first view is published.
+    pub(crate) fn of(
+        writer: Writer<Slot, Slot, u8, Of<J>>,
+        shelf: Shelf,
+        slot: Slot,
+    ) -> SnapWriter<J>
+        requires book { (slot.book ≡ J.book) × (shelf ≡ J.book) }
+        requires one { length slot.list ≡ 1 }
+        ensures { result ≡ record { list = slot.list; proposal = None; late = false; published = 1 } }
+    {
+        SnapWriter {
+            writer: Some(writer),
+            shelf,
+            slot,
+            proposal: None,
+            late: false,
+            published: 1,
+        }
+    }
+
+    /// Makes a view ready to be kept, in the place of one that was. No reader sees it.
+    pub fn propose(&mut self, alloc: Global, next: Shown) -> Result<(), NoMemory>
+        requires on_time { self.old.late ≡ false }
+        requires next { ComesNext self.old.list next }
+        ensures ok { OnOk result (self.new ≡ record self.old { proposal = Some next }) }
+        ensures err { OnErr result (self.new ≡ self.old) }
+    {
+        self.proposal = Some(Arc::new(alloc, next)?);
+        Ok(())
+    }
+
+    /// Drops the proposal.
+    pub fn withdraw(&mut self)
+        ensures { self.new ≡ record self.old { proposal = None } }
+    {
+        self.proposal = None;
+    }
+
+    /// Whether the last view that was kept isn't published yet.
+    pub fn is_late(&self) -> bool
+        ensures { result ≡ self.now.late }
+    {
+        self.late
+    }
+
+    /// How far the list of views goes, and how many are published: all of them, unless the writer is late.
+    pub fn note(&self) -> SnapNote<J>
+        ensures told { result ≡ record { list = self.now.list; published = self.now.published } }
+        ensures views { AreViews self.now.list }
+        ensures within { self.now.published ≤ length self.now.list }
+        ensures whole { self.now.late ≡ false → self.now.published ≡ length self.now.list }
+    {
+        SnapNote::of(self.slot.front.again(), self.published)
+    }
+
+    /// The last view that was kept.
+    pub fn view(&self) -> &Arc<Shown, Global>
+        ensures last { IsLast self.now.list (arc_value result.now) }
+        ensures views { AreViews self.now.list }
+    {
+        &self.slot.shown
+    }
+
+    /// Keeps the proposal, where there is one, and publishes the last view that is kept. It may wait for readers that are inside
+    /// a read. After a refusal the proposal is kept and not yet published.
+    pub fn keep<R: Wait>(&mut self, rt: &R) -> Result<(), NoMemory>
+        ensures ok { OnOk result (self.new ≡ all_published (with_kept self.old)) }
+        ensures err { OnErr result (self.new ≡ record (with_kept self.old) { late = true }) }
+    {
+        self.take_in(rt);
+        self.publish(rt)
+    }
+
+    /// Keeps the proposal. Nobody else adds to the list, which no proof here knows: it would wait for ever.
+    pub(crate) fn take_in<R: Wait>(&mut self, rt: &R)
+        ensures { self.new ≡ record (with_kept self.old) { late = true } }
+    {
+        self.late = true;
+        let Some(shown) = self.proposal.take() else {
+            return;
+        };
+        let Some(slot) = self.slot.with(&self.shelf, shown) else {
+            for _ in rt.forever() {}
+            unreachable!()
+        };
+        self.slot = slot;
+    }
+
+    /// Shows readers what was kept.
+    fn publish<R: Wait>(&mut self, rt: &R) -> Result<(), NoMemory>
+        requires { self.old.late ≡ true }
+        ensures ok { OnOk result (self.new ≡ all_published self.old) }
+        ensures err { OnErr result (self.new ≡ self.old) }
+    {
+        let Ok(slot) = self.slot.again() else {
+            return Err(NoMemory);
+        };
+        if !publish_slot(rt, &mut self.writer, slot) {
+            return Err(NoMemory);
+        }
+        self.published = self.slot.len();
+        self.late = false;
+        Ok(())
+    }
+
+    /// Ends the writer. It may wait for readers that are inside a read.
+    pub fn end<R: Wait>(self, rt: &R) {
+        let SnapWriter {
+            writer,
+            shelf: _,
+            slot: _,
+            proposal: _,
+            late: _,
+            published: _,
+        } = self;
+        match writer {
+            Some(writer) => {
+                writer.take(rt);
+            }
+            None => {}
+        }
+    }
+}
