@@ -2,6 +2,8 @@
 # Builds nothing: the program is the one that ./demo leaves.
 cd "$(dirname "$0")/.."
 program=$PWD/crates/confd/out/confd
+# memory as the service's unit has it
+export GLIBC_TUNABLES=$(sed -n 's/^Environment=GLIBC_TUNABLES=//p' docs/confd.service)
 [ -x "$program" ] || { echo "there is no program at $program: ./demo builds it" >&2; exit 1; }
 # in memory where there is such a file system, so that no disk's time is measured
 work=$(mktemp -d -p /dev/shm 2> /dev/null || mktemp -d)

@@ -22,24 +22,28 @@ session() {
 
 # nanoseconds an interface of a line: what a session that asks it 30,000 interfaces' worth takes longer than one that doesn't
 cost() {
-    local count=$1 line=$2 round
-    rm -f "$work"/*.times
-    session "$count" 0 "$line" > "$work/without"
-    session "$count" $((30000 / count)) "$line" > "$work/with"
-    for round in 1 2 3 4 5; do
-        serve without
-        serve with
-    done
-    echo $((($(least_run with) - $(least_run without)) / 30000))
+    echo $((($(least_run "$1-with") - $(least_run "$1-without")) / 30000))
 }
 
-# what a line takes at 300 and at 3,000 interfaces
+# what a line takes at 300 and at 3,000 interfaces: sessions of few and of many that ask it, and that don't, take turns, and often, since
+# what else runs on a machine takes the cache that they share
 time_line() {
-    local few many
-    few=$(cost 300 "$1")
-    many=$(cost 3000 "$1")
-    awk -v line="$1" -v few="$few" -v many="$many" 'BEGIN {
-        printf "%s: %.1f microseconds an interface of 300, %.1f of 3,000\n", line, few / 1000, many / 1000
+    local line=$1 count round few many
+    rm -f "$work"/*.times
+    for count in 300 3000; do
+        session "$count" 0 "$line" > "$work/$count-without"
+        session "$count" $((30000 / count)) "$line" > "$work/$count-with"
+    done
+    for ((round = 0; round < 15; round++)); do
+        for count in 300 3000; do
+            serve "$count-without"
+            serve "$count-with"
+        done
+    done
+    few=$(cost 300)
+    many=$(cost 3000)
+    awk -v line="$line" -v few="$few" -v many="$many" 'BEGIN {
+        printf "%s: %.2f microseconds an interface of 300, %.2f of 3,000\n", line, few / 1000, many / 1000
         printf "3,000 interfaces take %.1f times as long as 300\n", 10 * many / few
     }'
 }
