@@ -6,3 +6,4 @@ pub mod CutLemmas
 pub mod ReadLemmas
 pub mod OnceLemmas
 pub mod BackLemmas
+pub mod TrailLemmas

@@ -6,3 +6,4 @@ pub mod Fit
 pub mod Lines
 pub mod Stop
 pub mod Back
+pub mod Trail

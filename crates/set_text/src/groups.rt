@@ -6,8 +6,9 @@ ghost use Rattle.set_text.specs.Printed.{printed_lines, sets_at};
 ghost use Rattle.set_text.specs.Groups.{IsStatement};
 
 use crate::line::{push_bytes, push_own_line_if, push_sets};
-use cfg_base::{NoMemory, Path, Value, WordList};
-use cfg_schema::{Place, row};
+use crate::trail::Trail;
+use cfg_base::{NoMemory, Value, WordList};
+use cfg_schema::row;
 use commands::Verb;
 use std::alloc::Global;
 
@@ -21,15 +22,15 @@ pub(crate) struct Groups {
 
 fn push_sets_at(
     text: &mut Vec<u8>,
-    path: &Path,
+    at: &Trail<'_>,
     childless: bool,
     words: &WordList,
 ) -> Result<(), NoMemory>
-    ensures { OnOk result (text.new.items ≡ text.old.items ++ printed_lines (sets_at (place_of path.now) path.now childless words.now)) }
+    ensures { OnOk result (text.new.items ≡ text.old.items ++ printed_lines (sets_at (place_of at.now) at.now childless words.now)) }
 {
-    match Place::of(path.steps()) {
+    match at.place() {
         None => Ok(()),
-        Some(here) => push_sets(text, row(here.row).shape, path, childless, words),
+        Some(here) => push_sets(text, row(here.row).shape, at, childless, words),
     }
 }
 
@@ -60,18 +61,18 @@ impl Groups {
 /// Puts the lines of a statement at the end of each group.
 pub(crate) fn push_statement(
     groups: &mut Groups,
-    path: &Path,
+    at: &Trail<'_>,
     value: &Value,
     childless: bool,
 ) -> Result<(), NoMemory>
-    ensures { OnOk result (IsStatement path.now value.now childless groups.old groups.new) }
+    ensures { OnOk result (IsStatement at.now value.now childless groups.old groups.new) }
 {
-    push_sets_at(&mut groups.sets, path, childless, &value.words)?;
+    push_sets_at(&mut groups.sets, at, childless, &value.words)?;
     push_own_line_if(
         &mut groups.deactivates,
         Verb::Deactivate,
-        path,
+        at,
         value.inactive,
     )?;
-    push_own_line_if(&mut groups.protects, Verb::Protect, path, value.protected)
+    push_own_line_if(&mut groups.protects, Verb::Protect, at, value.protected)
 }

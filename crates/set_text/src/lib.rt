@@ -18,6 +18,7 @@ mod phase;
 mod printing;
 mod reading;
 mod stop;
+mod trail;
 
 pub use fault::LineFault;
 pub use laws::{printed_lines_are_read_back, texts_have_one_answer};

@@ -6,7 +6,8 @@ ghost use Rattle.cfg_tree.specs.OwnWords.{own_words, word_if_any, words_of_step}
 ghost use Rattle.commands.specs.declared.verb.Verb.TheVariants as verb;
 ghost use Rattle.set_text.specs.Printed.{line, own_line_if, printed_line, printed_lines, sets_by, spaced, word_lines};
 
-use cfg_base::{NoMemory, Path, Shape, Step, Word, WordList};
+use crate::trail::Trail;
+use cfg_base::{NoMemory, Shape, Step, Word, WordList};
 use cfg_lex::push_word;
 use commands::Verb;
 
@@ -36,50 +37,40 @@ fn push_if_any(text: &mut Vec<u8>, word: &Word) -> Result<(), NoMemory>
     push_spaced(text, word)
 }
 
-fn push_step(text: &mut Vec<u8>, step: &Step) -> Result<(), NoMemory>
+pub(crate) fn push_step(text: &mut Vec<u8>, step: &Step) -> Result<(), NoMemory>
     ensures { OnOk result (text.new.items ≡ text.old.items ++ flat_map spaced (words_of_step step.now)) }
 {
     push_if_any(text, &step.head)?;
     push_if_any(text, &step.name)
 }
 
-/// Puts the own words of a path at the end of a text.
-fn push_own(text: &mut Vec<u8>, path: &[Step]) -> Result<(), NoMemory>
-    ensures { OnOk result (text.new.items ≡ text.old.items ++ flat_map spaced (own_words path.now)) }
-{
-    for step in path {
-        push_step(text, step)?;
-    }
-    Ok(())
-}
-
 /// Puts the line of a path's own words at the end of a text.
-fn push_own_line(text: &mut Vec<u8>, verb: Verb, path: &Path) -> Result<(), NoMemory>
-    ensures { OnOk result (text.new.items ≡ text.old.items ++ printed_line (line verb (own_words path.now))) }
+fn push_own_line(text: &mut Vec<u8>, verb: Verb, at: &Trail<'_>) -> Result<(), NoMemory>
+    ensures { OnOk result (text.new.items ≡ text.old.items ++ printed_line (line verb (own_words at.now))) }
 {
     push_bytes(text, verb.keyword())?;
-    push_own(text, path.steps())?;
+    push_bytes(text, at.words())?;
     text.push(b'\n')?;
     Ok(())
 }
 
 /// Puts the line of a path's own words and one more at the end of a text.
-fn push_word_line(text: &mut Vec<u8>, path: &Path, word: &Word) -> Result<(), NoMemory>
-    ensures { OnOk result (text.new.items ≡ text.old.items ++ printed_line (line verb.Set (own_words path.now ++ word.now ∷ []))) }
+fn push_word_line(text: &mut Vec<u8>, at: &Trail<'_>, word: &Word) -> Result<(), NoMemory>
+    ensures { OnOk result (text.new.items ≡ text.old.items ++ printed_line (line verb.Set (own_words at.now ++ word.now ∷ []))) }
 {
     push_bytes(text, Verb::Set.keyword())?;
-    push_own(text, path.steps())?;
+    push_bytes(text, at.words())?;
     push_spaced(text, word)?;
     text.push(b'\n')?;
     Ok(())
 }
 
-fn push_word_lines(text: &mut Vec<u8>, path: &Path, words: &WordList) -> Result<(), NoMemory>
-    ensures { OnOk result (text.new.items ≡ text.old.items ++ printed_lines (word_lines path.now words.now)) }
+fn push_word_lines(text: &mut Vec<u8>, at: &Trail<'_>, words: &WordList) -> Result<(), NoMemory>
+    ensures { OnOk result (text.new.items ≡ text.old.items ++ printed_lines (word_lines at.now words.now)) }
 {
     let mut left = words.iter();
     while let Some(word) = left.next() {
-        push_word_line(text, path, word)?;
+        push_word_line(text, at, word)?;
     }
     Ok(())
 }
@@ -88,13 +79,13 @@ fn push_word_lines(text: &mut Vec<u8>, path: &Path, words: &WordList) -> Result<
 pub(crate) fn push_own_line_if(
     text: &mut Vec<u8>,
     verb: Verb,
-    path: &Path,
+    at: &Trail<'_>,
     is_so: bool,
 ) -> Result<(), NoMemory>
-    ensures { OnOk result (text.new.items ≡ text.old.items ++ printed_lines (own_line_if verb path.now is_so)) }
+    ensures { OnOk result (text.new.items ≡ text.old.items ++ printed_lines (own_line_if verb at.now is_so)) }
 {
     if is_so {
-        push_own_line(text, verb, path)
+        push_own_line(text, verb, at)
     } else {
         Ok(())
     }
@@ -104,17 +95,17 @@ pub(crate) fn push_own_line_if(
 pub(crate) fn push_sets(
     text: &mut Vec<u8>,
     shape: Shape,
-    path: &Path,
+    at: &Trail<'_>,
     childless: bool,
     words: &WordList,
 ) -> Result<(), NoMemory>
-    ensures { OnOk result (text.new.items ≡ text.old.items ++ printed_lines (sets_by shape path.now childless words.now)) }
+    ensures { OnOk result (text.new.items ≡ text.old.items ++ printed_lines (sets_by shape at.now childless words.now)) }
 {
     match shape {
-        Shape::Leaf | Shape::Many => push_word_lines(text, path, words),
-        Shape::Flag => push_own_line_if(text, Verb::Set, path, true),
+        Shape::Leaf | Shape::Many => push_word_lines(text, at, words),
+        Shape::Flag => push_own_line_if(text, Verb::Set, at, true),
         Shape::Container | Shape::Fixed | Shape::Keyed | Shape::Bare => {
-            push_own_line_if(text, Verb::Set, path, childless)
+            push_own_line_if(text, Verb::Set, at, childless)
         }
     }
 }

@@ -6,8 +6,10 @@ ghost use Rattle.cfg_schema.specs.Place.{place_of};
 ghost use Rattle.cfg_schema.specs.Profile.{is_level};
 ghost use Rattle.set_text.specs.Printed.{opens_at, paths_below, printed_set, shown_of};
 ghost use Rattle.set_text.specs.Groups.{AreItems, ArePaths};
+ghost use Rattle.set_text.specs.Trail.{GoesOn};
 
 use crate::groups::{Groups, push_statement};
+use crate::trail::Trail;
 use cfg_base::{Bytes, MAX_STEPS, NoMemory, Path, Shape};
 use cfg_schema::{Place, row};
 use cfg_tree::Tree;
@@ -33,12 +35,15 @@ fn opens(path: &Path) -> bool
     }
 }
 
-/// Puts the lines of statements at the end of each group.
-fn print_items(groups: &mut Groups, items: &[Item<'_>]) -> Result<(), NoMemory>
+/// Puts the lines of statements at the end of each group, of which the first stands right below the trail's path.
+fn print_items<'a>(groups: &mut Groups, from: Trail<'a>, items: &[Item<'a>]) -> Result<(), NoMemory>
+    requires { GoesOn from items.now }
     ensures { OnOk result (AreItems items.now groups.old groups.new) }
 {
+    let mut trail = from;
     for item in items {
-        push_statement(groups, item.path(), item.value(), item.inside() == 0)?;
+        trail = trail.gone_to(item.path())?;
+        push_statement(groups, &trail, item.value(), item.inside() == 0)?;
     }
     Ok(())
 }
@@ -54,18 +59,19 @@ fn print_level(
 {
     let levels = MAX_STEPS - below.steps().len();
     let items = items_below(alloc, tree, below, levels)?;
-    print_items(groups, &items)
+    print_items(groups, Trail::of(alloc, below)?, &items)
 }
 
 /// Puts the lines of the statement of a path at the end of each group, where it is there.
-fn print_alone(groups: &mut Groups, tree: &Tree, path: &Path) -> Result<(), NoMemory>
+fn print_alone(alloc: Global, groups: &mut Groups, tree: &Tree, path: &Path) -> Result<(), NoMemory>
     ensures { OnOk result (ArePaths tree.now (path.now ∷ []) groups.old groups.new) }
 {
     match tree.at(path) {
         None => Ok(()),
         Some(value) => {
             let steps = tree.children(path)?;
-            push_statement(groups, path, value, steps.as_slice().is_empty())
+            let at = Trail::of(alloc, path)?;
+            push_statement(groups, &at, value, steps.as_slice().is_empty())
         }
     }
 }
@@ -81,7 +87,7 @@ fn print_shown(
     if opens(below) {
         print_level(alloc, groups, tree, below)
     } else {
-        print_alone(groups, tree, below)
+        print_alone(alloc, groups, tree, below)
     }
 }
 
