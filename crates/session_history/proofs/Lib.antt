@@ -1,3 +1,4 @@
 pub mod EventLemmas
+pub mod KeptLemmas
 mod AcceptedLemmas
 mod OutcomeLemmas
