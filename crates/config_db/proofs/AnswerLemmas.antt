@@ -16,6 +16,7 @@ use Rattle.config_db.specs.declared.answer.Answered.{Answered}
 use Rattle.config_db.specs.declared.answer.Answered.TheVariants.{Kept, NoMemory}
 use Rattle.config_db.specs.declared.answer.Ticked.{Ticked}
 use Rattle.config_db.specs.declared.answer.Ticked.TheVariants.{Nothing, Settled, Reverted, DiskFault, NoMemory as TickedNoMemory}
+use Rattle.active_snapshot.specs.States.{WriterState}
 use Rattle.config_db.specs.View.{DatabaseView}
 use Rattle.config_db.specs.Numbers.{calls_of}
 use Rattle.config_db.specs.Disks.{FaultRose, GoesOn}
@@ -25,6 +26,10 @@ use Rattle.config_db.proofs.DiskLemmas.{rose_first, rose_last}
 use Rattle.config_db.proofs.FaultLemmas.{counted_command}
 use Rattle.config_db.proofs.MachineLemmas.{after_failed, after_revert, flying, settling_moves}
 use Rattle.config_db.proofs.MoveLemmas.{extends_event, extends_more, extends_none, extends_one, extends_unsettled}
+
+-- the database with another writer
+abbrev pub published : {D : Type 0} → DatabaseView D → WriterState → DatabaseView D
+published v w = record { journal = v.journal; opening = v.opening; users = v.users; events = v.events; state = v.state; shown = w; readers = v.readers }
 
 module _ {D : Type 0} (tells : D → Bool) (faults : D → ℕ) (caller moment : ℕ) where
   -- nothing is needed
@@ -84,6 +89,32 @@ module _ {D : Type 0} (tells : D → Bool) (faults : D → ℕ) (caller moment :
   pub way_reverts : (ticked : Ticked) (v w : DatabaseView D) → v.state.greatest ≤ moment → waiting_of v.state moment ≡ Missed → Reverts tells faults caller moment ticked v w
       → MakesWay tells faults caller moment ticked v w
   way_reverts ticked v w no_earlier missed reverts = way_of ticked v w reverts (catches_reverts ticked v w no_earlier missed reverts)
+
+  clears_published : (ticked : Ticked) (own : List Happened) (v w : DatabaseView D) (shown : WriterState) → Clears faults moment ticked own (published v shown) w → Clears faults moment ticked own v w
+  clears_published Nothing own v w shown clears = clears
+  clears_published Settled own v w shown clears = clears
+  clears_published Reverted own v w shown clears = clears
+  clears_published DiskFault own v w shown clears = clears
+  clears_published TickedNoMemory own v w shown clears = clears
+
+  -- what was kept was published first
+  pub way_published : (ticked : Ticked) (v w : DatabaseView D) (shown : WriterState) → MakesWay tells faults caller moment ticked (published v shown) w → MakesWay tells faults caller moment ticked v w
+  way_published ticked v w shown way = record {
+    own = way.own;
+    extends = record {
+      leads = way.extends.leads;
+      grown = way.extends.grown;
+      made = way.extends.made;
+      causes = way.extends.causes;
+      counted = way.extends.counted;
+      same = record { opening = way.extends.same.opening; users = way.extends.same.users };
+      goes = way.extends.goes;
+    };
+    no_command = way.no_command;
+    clears = clears_published ticked way.own v w shown way.clears;
+    since = way.since;
+    no_later = way.no_later;
+  }
 
   -- a settling that failed
   pub way_unsettled : (v w : DatabaseView D) → v.state.greatest ≤ moment → IsSome v.state.flight → IsUnsettled tells faults v w → MakesWay tells faults caller moment DiskFault v w

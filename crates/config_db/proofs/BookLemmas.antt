@@ -24,16 +24,19 @@ use Rattle.config_core.proofs.SoundLemmas.{steps_keep}
 use Rattle.session_history.specs.declared.history.Happened.{Happened}
 use Rattle.session_history.specs.Events.{Leads}
 use Rattle.session_history.proofs.EventLemmas.{Leads-append}
+use Rattle.active_snapshot.specs.States.{ReaderState, WriterState, first_written}
 use Rattle.config_db.specs.View.{DatabaseView, IsSameRun, opened}
 use Rattle.config_db.specs.Numbers.{AreAtMost, AreRising, calls_of, no_calls}
 use Rattle.config_db.specs.Writing.{IsFound, IsWritten, flight_after, kept_after, record_in}
 use Rattle.config_db.specs.Crash.{AreSpansSafe, InSpan, IsSafeWhile, Spelt, last_calls}
 use Rattle.config_db.specs.Disks.{Holds}
+use Rattle.config_db.specs.Shown.{Shows}
 use Rattle.config_db.specs.Closing.{Spell}
 use Rattle.config_db.specs.Book.{IsBook, IsOpening, Stands}
 use Rattle.config_db.specs.Moves.{Turns, noted}
 use Rattle.config_db.proofs.NumberLemmas.{at_most_same, rising_more, rising_push}
 use Rattle.config_db.proofs.MachineLemmas.{Leaves, kept_settled, made_follows}
+use Rattle.config_db.proofs.ShownLemmas.{shows_begin}
 use Rattle.config_db.proofs.SpanLemmas.{span_now}
 use Rattle.config_db.proofs.CrashLemmas.{last_push}
 
@@ -102,8 +105,10 @@ module _ {D : Type 0} (tells : D → Bool) (history : D → History) (faults : D
       → (Leads (opened v) (v.events ++ noted caller moment event outcome (calls_of v'.journal) ∷ []) v'.state
       → ((c d : List ℕ) → Tell tells v'.journal → IsImage (state_of (a_of history v'.journal)) c → IsImage (state_of (b_of history v'.journal)) d → Spelt v'.state None c d)
       → Tell tells v'.journal → IsSafeWhile (opened v) (v.events ++ noted caller moment event outcome (calls_of v'.journal) ∷ []) (calls_of v'.journal) (a_of history v'.journal) (b_of history v'.journal))
+      → (Leads (opened v) (v.events ++ noted caller moment event outcome (calls_of v'.journal) ∷ []) v'.state
+      → Shows (opened v) (v.events ++ noted caller moment event outcome (calls_of v'.journal) ∷ []) v'.state v'.shown)
       → IsBook tells history v'
-  book_after v v' caller moment event outcome reply kept flight book turns leaves grown same later stands safe = record {
+  book_after v v' caller moment event outcome reply kept flight book turns leaves grown same later stands safe shows = record {
     began = subst IsSoundKept (sym same.opening) book.began;
     leads = subst (λ s. Leads s v'.events v'.state) (sym (same_opened v v' same)) (subst (λ es. Leads (opened v) es v'.state) (sym grown) leads);
     at_rest = λ free. subst (λ es. last_calls no_calls es ≡ calls_of v'.journal) (sym grown) (last_push no_calls v.events (noted caller moment event outcome (calls_of v'.journal)));
@@ -117,6 +122,7 @@ module _ {D : Type 0} (tells : D → Bool) (history : D → History) (faults : D
     sound = sound;
     callers = leaves.callers ∙ book.callers ∙ ap length (sym same.users);
     stands = stands';
+    shows = subst (λ s. Shows s v'.events v'.state v'.shown) (sym (same_opened v v' same)) (subst (λ es. Shows (opened v) es v'.state v'.shown) (sym grown) (shows leads));
   }
     where
       leads : Leads (opened v) (v.events ++ noted caller moment event outcome (calls_of v'.journal) ∷ []) v'.state
@@ -133,7 +139,7 @@ module _ {D : Type 0} (tells : D → Bool) (history : D → History) (faults : D
   -- calls that found nothing out
   pub book_unsettled : (v : DatabaseView D) (j' : JournalView D) → IsBook tells history v → IsSome v.state.flight → AreAtMost (calls_of v.journal) (calls_of j') → Stands tells history j' v.state.kept v.state.flight
       → (Tell tells j' → IsSafeWhile (opened v) v.events (calls_of j') (a_of history j') (b_of history j'))
-      → IsBook tells history (record { journal = j'; opening = v.opening; users = v.users; events = v.events; state = v.state })
+      → IsBook tells history (record { journal = j'; opening = v.opening; users = v.users; events = v.events; state = v.state; shown = v.shown; readers = v.readers })
   book_unsettled v j' book some later stands safe = record {
     began = book.began;
     leads = book.leads;
@@ -143,14 +149,32 @@ module _ {D : Type 0} (tells : D → Bool) (history : D → History) (faults : D
     sound = book.sound;
     callers = book.callers;
     stands = stands;
+    shows = book.shows;
+  }
+
+  -- another writer that shows the same, and other readers
+  pub book_shown : (v : DatabaseView D) (w : WriterState) (rs : List ReaderState) → IsBook tells history v → Shows (opened v) v.events v.state w
+      → IsBook tells history (record { journal = v.journal; opening = v.opening; users = v.users; events = v.events; state = v.state; shown = w; readers = rs })
+  book_shown v w rs book shows = record {
+    began = book.began;
+    leads = book.leads;
+    rising = book.rising;
+    at_rest = book.at_rest;
+    safe = book.safe;
+    sound = book.sound;
+    callers = book.callers;
+    stands = book.stands;
+    shows = shows;
   }
 
   -- how a database begins
-  pub book_begins : (j : JournalView D) (opening : Kept) (users : List (List ℕ)) (state : State) (events : List Happened) → IsOpening tells history j opening → state ≡ opening_of opening users → events ≡ []
-      → IsBook tells history (record { journal = j; opening = opening; users = users; events = events; state = state })
-  book_begins j opening users state events begins start none =
-      subst (λ es. IsBook tells history (record { journal = j; opening = opening; users = users; events = es; state = state })) (sym none)
-      (subst (λ s. IsBook tells history (record { journal = j; opening = opening; users = users; events = []; state = s })) (sym start) (record {
+  pub book_begins : (j : JournalView D) (opening : Kept) (users : List (List ℕ)) (state : State) (events : List Happened) (w : WriterState) (rs : List ReaderState)
+      → IsOpening tells history j opening → state ≡ opening_of opening users → events ≡ [] → w ≡ first_written opening
+      → IsBook tells history (record { journal = j; opening = opening; users = users; events = events; state = state; shown = w; readers = rs })
+  book_begins j opening users state events w rs begins start none shown =
+      subst (λ es. IsBook tells history (record { journal = j; opening = opening; users = users; events = es; state = state; shown = w; readers = rs })) (sym none)
+      (subst (λ s. IsBook tells history (record { journal = j; opening = opening; users = users; events = []; state = s; shown = w; readers = rs })) (sym start)
+      (subst (λ x. IsBook tells history (record { journal = j; opening = opening; users = users; events = []; state = opening_of opening users; shown = x; readers = rs })) (sym shown) (record {
         began = begins.sound;
         leads = refl;
         at_rest = λ free. sym begins.calls;
@@ -159,7 +183,8 @@ module _ {D : Type 0} (tells : D → Bool) (history : D → History) (faults : D
         sound = begins_sound;
         callers = length-map users _;
         stands = stands;
-      }))
+        shows = shows_begin opening users;
+      })))
     where
       begins_sound : IsSoundState (opening_of opening users)
       begins_sound = record { kept = begins.sound; no_later = omega arith; flight = tt }

@@ -14,17 +14,10 @@ use Rattle.config_db.specs.Numbers.{calls_of}
 use Rattle.config_db.specs.Disks.{FaultRose, GoesOn}
 use Rattle.config_db.specs.Faults.{AreCounted}
 use Rattle.config_db.specs.Moves.{Extends, Happens, HasCause, IsOf, IsUnsettled, noted}
+use Rattle.config_db.proofs.AllLemmas.{All-append, All-map}
 use Rattle.config_db.proofs.DiskLemmas.{goes_further, goes_nowhere, rose_first, rose_last}
 use Rattle.config_db.proofs.BookLemmas.{turn_leads}
 use Rattle.config_db.proofs.FaultLemmas.{counted_more, counted_none, counted_one}
-
-pub All-append : {A : Type 0} → (P : A → Type 0) (xs ys : List A) → AllByRecursion P xs → AllByRecursion P ys → AllByRecursion P (xs ++ ys)
-All-append P [] ys front back = back
-All-append P (x ∷ xs) ys front back = (front.0, All-append P xs ys front.1 back)
-
-All-map : {A : Type 0} → (P Q : A → Type 0) (xs : List A) → ((x : A) → P x → Q x) → AllByRecursion P xs → AllByRecursion Q xs
-All-map P Q [] to all = tt
-All-map P Q (x ∷ xs) to all = (to x all.0, All-map P Q xs to all.1)
 
 module _ {D : Type 0} (tells : D → Bool) (faults : D → ℕ) (caller moment : ℕ) where
   same_run : (u v w : DatabaseView D) → IsSameRun u v → IsSameRun v w → IsSameRun u w

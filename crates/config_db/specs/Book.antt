@@ -15,6 +15,7 @@ use Rattle.config_db.specs.Numbers.{AreRising, calls_of, no_calls}
 use Rattle.config_db.specs.Crash.{IsSafeWhile, last_calls}
 use Rattle.config_db.specs.Disks.{Holds}
 use Rattle.config_db.specs.Writing.{record_in}
+use Rattle.config_db.specs.Shown.{Shows}
 
 -- the journal holds records that are read as what is kept, and the entry in flight is its record in flight
 pub record Stands {D : Type 0} (tells : D → Bool) (history : D → History) (j : JournalView D) (kept : Kept) (flight : Option Made) : Type 0 where
@@ -38,6 +39,8 @@ pub record IsBook {D : Type 0} (tells : D → Bool) (history : D → History) (v
   -- there is a caller for each user
   pub callers : length v.state.callers ≡ length v.users
   pub stands : Stands tells history v.journal v.state.kept v.state.flight
+  -- readers are shown what is kept, and the view after the entry in flight waits
+  pub shows : Shows (opened v) v.events v.state v.shown
 
 -- a journal that was just opened holds the list of this ledger
 pub record IsOpening {D : Type 0} (tells : D → Bool) (history : D → History) (j : JournalView D) (kept : Kept) : Type 0 where

@@ -3,6 +3,7 @@ pub mod Numbers
 pub mod Disks
 pub mod Crash
 pub mod Writing
+pub mod Shown
 pub mod Book
 pub mod Starting
 pub mod Faults

@@ -4,6 +4,7 @@ use Rattle.commit_journal.specs.Journal.{JournalView}
 use Rattle.commit_ledger.specs.Kept.{Kept}
 use Rattle.config_core.specs.State.{State, opening_of}
 use Rattle.session_history.specs.declared.history.Happened.{Happened}
+use Rattle.active_snapshot.specs.States.{ReaderState, WriterState}
 
 pub record DatabaseView (D : Type 0) : Type 0 where
   pub journal : JournalView D
@@ -13,10 +14,19 @@ pub record DatabaseView (D : Type 0) : Type 0 where
   -- what happened, and the state that it led to
   pub events : List Happened
   pub state : State
+  -- what readers are shown, and the readers that nobody has taken yet
+  pub shown : WriterState
+  pub readers : List ReaderState
 
 -- the state in which it began
 abbrev pub opened : {D : Type 0} → DatabaseView D → State
 opened v = opening_of v.opening v.users
+
+-- a database's journal, the list over which it began, and its users
+pub record AreParts {D : Type 0} (v : DatabaseView D) (held : JournalView D) (list : Kept) (names : List (List ℕ)) : Type 0 where
+  pub journal : held ≡ v.journal
+  pub opening : list ≡ v.opening
+  pub users : names ≡ v.users
 
 -- the list and the users over which a database began are what they were
 pub record IsSameRun {D : Type 0} (v v' : DatabaseView D) : Type 0 where

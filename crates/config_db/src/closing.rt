@@ -5,18 +5,20 @@ ghost use Rattle.std.specs.Prelude.{◌≡◌};
 
 use crate::answer::ClosedBook;
 use crate::database::Database;
+use active_snapshot::Naming;
 use config_core::{Need, Outcome};
 use disk_model::Disk;
 use session_history::{History, histories_stay_accepted};
+use std::sync::Wait;
 
-impl<D: Disk> Database<D> {
+impl<D: Disk, J: Naming> Database<D, J> {
     /// Settles what is in flight, and tells whether an entry is in flight still.
-    pub(crate) fn settle_last(&mut self) -> bool
+    pub(crate) fn settle_last<R: Wait>(&mut self, rt: &R) -> bool
         ensures { SettlesLast D.tells D.faults result self.old self.new }
     {
         let moment = self.core.greatest();
         match self.core.next(moment) {
-            Need::Settle => match self.settle(0, moment) {
+            Need::Settle => match self.settle(rt, 0, moment) {
                 Outcome::Done => false,
                 Outcome::Fault => true,
             },
@@ -24,8 +26,8 @@ impl<D: Disk> Database<D> {
         }
     }
 
-    /// What happened, and the disks.
-    pub(crate) fn hand_back(self, fault: bool) -> ClosedBook<D>
+    /// What happened, and the disks. The writer ends, and with it the readers that nobody took.
+    pub(crate) fn hand_back<R: Wait>(self, rt: &R, fault: bool) -> ClosedBook<D>
         ensures fault { result.fault ≡ fault }
         ensures back { IsHandedBack D.tells D.history self result.history result.a result.b }
     {
@@ -37,7 +39,10 @@ impl<D: Disk> Database<D> {
             users,
             events,
             core: _,
+            shown,
+            readers: _,
         } = self;
+        shown.end(rt);
         let made = journal.calls();
         let (a, b) = journal.into_disks();
         ClosedBook {

@@ -1,11 +1,15 @@
-ghost use Rattle.std.specs.Prelude.{◌≡◌, ◌<◌, ◌≤◌, length};
+ghost use Rattle.std.specs.Prelude.{◌≡◌, ◌<◌, ◌≤◌, [], length};
+ghost use Rattle.std.specs.Arc.{arc_value};
 ghost use Rattle.commands.specs.Sound.{IsSound};
 ghost use Rattle.session_history.specs.Events.{IsLegal, StaysAccepted};
-ghost use Rattle.config_db.specs.View.{opened};
+ghost use Rattle.active_snapshot.specs.Views.{AreViews};
+ghost use Rattle.config_db.specs.View.{AreParts, opened};
+ghost use Rattle.config_db.specs.Shown.{Shows};
 ghost use Rattle.config_db.specs.Answers.{Answers, MakesWay, moment_at};
 ghost use Rattle.config_db.specs.Closing.{IsClosed};
 
 use crate::answer::{Answered, ClosedBook, Ticked};
+use active_snapshot::{Naming, Shown, SnapNote, SnapReaders, SnapWriter};
 use cfg_base::{Moment, Users};
 use commands::Command;
 use commit_journal::Journal;
@@ -15,19 +19,23 @@ use disk_model::Disk;
 use session_history::{Happened, histories_stay_accepted};
 use std::alloc::Global;
 use std::marker::Model;
+use std::mem;
+use std::sync::{Arc, Wait};
 
-/// The machine with its journal: the list over which it began, the users of its callers, and what happened.
-#[derive(Drop)]
-pub struct Database<D: Disk> {
+/// The machine with its journal and with what readers are shown: the list over which it began, the users of its callers, and what
+/// happened. It is not `Drop`: end it by `close`.
+pub struct Database<D: Disk, J: Naming> {
     pub(crate) alloc: Global,
     pub(crate) journal: Journal<D>,
     pub(crate) opening: Ledger,
     pub(crate) users: Users,
     pub(crate) events: Vec<Happened>,
     pub(crate) core: Core,
+    pub(crate) shown: SnapWriter<J>,
+    pub(crate) readers: SnapReaders<J>,
 }
 
-impl<D: Disk> Model for Database<D> {
+impl<D: Disk, J: Naming> Model for Database<D, J> {
     ghost use Rattle.std.specs.Prelude.{◌<◌, vec_len, vec_capacity, IsSome};
     ghost use Rattle.std.specs.Coded.{codes};
     ghost use Rattle.cfg_tree.specs.Statements.{statements_code};
@@ -44,6 +52,8 @@ impl<D: Disk> Model for Database<D> {
       users = d.users;
       events = d.events.items;
       state = d.core;
+      shown = d.shown;
+      readers = d.readers;
     } };
 
     // Behind an entry in flight there is room for its settling.
@@ -53,10 +63,12 @@ impl<D: Disk> Model for Database<D> {
       users = d.users;
       events = d.events.items;
       state = d.core;
+      shown = d.shown;
+      readers = d.readers;
     }) × (IsSome d.core.flight → vec_len d.events < vec_capacity d.events) };
 }
 
-impl<D: Disk> Database<D> {
+impl<D: Disk, J: Naming> Database<D, J> {
     /// How many events there are. They are a legal history, in which the active configuration stays accepted.
     pub fn count(&self) -> u64
         ensures count { result ≡ length self.now.events }
@@ -69,35 +81,73 @@ impl<D: Disk> Database<D> {
 
     /// Asks a command of a caller, at that moment or at the greatest one so far. A settling and a revert come first, where they
     /// are needed.
-    pub fn step(&mut self, caller: u32, moment: Moment, command: Command) -> Answered
+    pub fn step<R: Wait>(
+        &mut self,
+        rt: &R,
+        caller: u32,
+        moment: Moment,
+        command: Command,
+    ) -> Answered
         requires caller { (0 < caller) × (caller ≤ length self.old.users) }
         requires sound { IsSound command }
         ensures { Answers D.tells D.faults caller (moment_at moment self.old) command result self.old self.new }
     {
         let moment = moment.later(self.core.greatest());
-        match self.make_way(caller, moment) {
+        match self.make_way(rt, caller, moment) {
             Ticked::NoMemory => Answered::NoMemory,
             Ticked::DiskFault => self.put_off(caller, moment, command),
             Ticked::Nothing | Ticked::Settled | Ticked::Reverted => {
-                self.command(caller, moment, command)
+                self.command(rt, caller, moment, command)
             }
         }
     }
 
     /// Looks at the time: settles and reverts where that is needed, as nobody's command.
-    pub fn tick(&mut self, moment: Moment) -> Ticked
+    pub fn tick<R: Wait>(&mut self, rt: &R, moment: Moment) -> Ticked
         ensures { MakesWay D.tells D.faults 0 (moment_at moment self.old) result self.old self.new }
     {
         let moment = moment.later(self.core.greatest());
-        self.make_way(0, moment)
+        self.make_way(rt, 0, moment)
     }
 
-    /// Ends: what is in flight is settled, and what happened is handed back with the disks. It takes no memory.
-    pub fn close(self) -> ClosedBook<D>
+    /// Takes the readers: one for each user, and one where there is no user. The second time there are none.
+    pub fn readers(&mut self) -> SnapReaders<J>
+        ensures taken { result ≡ self.old.readers }
+        ensures rest { self.new ≡ record self.old { readers = [] } }
+    {
+        mem::replace(&mut self.readers, SnapReaders::none(self.alloc))
+    }
+
+    /// How far the list of views goes: from the opening's to that of what is kept now.
+    pub fn note(&self) -> SnapNote<J>
+        ensures list { result.list ≡ self.now.shown.list }
+        ensures published { result.published ≡ self.now.shown.published }
+        ensures views { AreViews self.now.shown.list }
+        ensures shows { Shows (opened self.now) self.now.events self.now.state self.now.shown }
+    {
+        self.shown.note()
+    }
+
+    /// The view of what is kept now.
+    pub fn view(&self) -> &Arc<Shown, Global>
+        ensures { arc_value result.now ≡ self.now.state.kept }
+    {
+        self.shown.view()
+    }
+
+    /// The journal, the list over which the database began, and the users of its callers.
+    pub fn parts(&self) -> (&Journal<D>, &Ledger, &Users)
+        ensures { AreParts self.now result.0.now result.1.now result.2.now }
+    {
+        (&self.journal, &self.opening, &self.users)
+    }
+
+    /// Ends: what is in flight is settled, and what happened is handed back with the disks. It needs no memory.
+    pub fn close<R: Wait>(self, rt: &R) -> ClosedBook<D>
         ensures { IsClosed D.tells D.history D.faults self result.history result.fault result.a result.b }
     {
         let mut book = self;
-        let fault = book.settle_last();
-        book.hand_back(fault)
+        let fault = book.settle_last(rt);
+        book.hand_back(rt, fault)
     }
 }

@@ -11,13 +11,16 @@ ghost use Rattle.session_history.specs.Events.{is_command};
 
 use crate::answer::{Answered, Ticked};
 use crate::database::Database;
+use crate::showing::{publish_late, show_settled, write_shown};
 use crate::turning::{let_go, note, settling, unwritten};
-use crate::writing::{find_out, write};
+use crate::writing::find_out;
+use active_snapshot::Naming;
 use cfg_base::{Moment, NoMemory};
 use commands::Command;
 use config_core::{Event, Need, Outcome, Reply};
 use disk_model::Disk;
 use session_history::{Happened, histories_have_one_outcome};
+use std::sync::Wait;
 
 /// What came of an event.
 #[derive(Debug, Drop)]
@@ -26,9 +29,15 @@ pub(crate) struct Ended {
     pub(crate) reply: Reply,
 }
 
-impl<D: Disk> Database<D> {
+impl<D: Disk, J: Naming> Database<D, J> {
     // An event with nothing in flight: the entry that it makes is written, and then it is carried out.
-    fn carry_out(&mut self, caller: u32, moment: Moment, event: Event) -> Result<Ended, NoMemory>
+    fn carry_out<R: Wait>(
+        &mut self,
+        rt: &R,
+        caller: u32,
+        moment: Moment,
+        event: Event,
+    ) -> Result<Ended, NoMemory>
         requires fits { Fits self.old.state caller moment event }
         requires free { self.old.state.flight ≡ None }
         ensures ok { IfOk result
@@ -42,7 +51,13 @@ impl<D: Disk> Database<D> {
         self.events.reserve(2)?;
         match self.core.prepare(caller, moment, &event) {
             Err(NoMemory) => Err(NoMemory),
-            Ok(prepared) => match write(self.alloc, &mut self.journal, &prepared) {
+            Ok(prepared) => match write_shown(
+                rt,
+                self.alloc,
+                &mut self.journal,
+                &mut self.shown,
+                &prepared,
+            ) {
                 Err(NoMemory) => Err(unwritten(event, prepared)),
                 Ok(outcome) => {
                     let happened = Happened {
@@ -60,7 +75,7 @@ impl<D: Disk> Database<D> {
     }
 
     // Settles the entry in flight. Where a disk fails it stays in flight.
-    pub(crate) fn settle(&mut self, caller: u32, moment: Moment) -> Outcome
+    pub(crate) fn settle<R: Wait>(&mut self, rt: &R, caller: u32, moment: Moment) -> Outcome
         requires flying { IsSome self.old.state.flight }
         requires no_earlier { self.old.state.greatest ≤ moment }
         ensures { Settles D.tells D.faults caller moment result self.old self.new }
@@ -69,6 +84,7 @@ impl<D: Disk> Database<D> {
         match find_out(&mut self.journal) {
             None => Outcome::Fault,
             Some(is_kept) => {
+                show_settled(rt, &mut self.shown, is_kept);
                 let event = Event::Settle(is_kept);
                 let prepared = settling(&self.core, caller, moment, &event);
                 let happened = Happened {
@@ -85,55 +101,70 @@ impl<D: Disk> Database<D> {
     }
 
     // Reverts a missed deadline.
-    fn revert(&mut self, caller: u32, moment: Moment) -> Ticked
+    fn revert<R: Wait>(&mut self, rt: &R, caller: u32, moment: Moment) -> Ticked
         requires missed { waiting_of self.old.state moment ≡ Missed }
         requires no_earlier { self.old.state.greatest ≤ moment }
         ensures { Reverts D.tells D.faults caller moment result self.old self.new }
     {
-        match self.carry_out(caller, moment, Event::Revert) {
+        match self.carry_out(rt, caller, moment, Event::Revert) {
             Err(NoMemory) => Ticked::NoMemory,
             Ok(ended) => reverted(ended.outcome),
         }
     }
 
     // Behind a settling: a missed deadline is reverted.
-    fn catch_up(&mut self, caller: u32, moment: Moment) -> Ticked
+    fn catch_up<R: Wait>(&mut self, rt: &R, caller: u32, moment: Moment) -> Ticked
         requires free { self.old.state.flight ≡ None }
         requires no_earlier { self.old.state.greatest ≤ moment }
         ensures { CatchesUp D.tells D.faults caller moment result self.old self.new }
     {
         match self.core.next(moment) {
-            Need::Revert => self.revert(caller, moment),
+            Need::Revert => self.revert(rt, caller, moment),
             Need::Settle | Need::Nothing => Ticked::Settled,
         }
     }
 
     // Settles the entry in flight, and then reverts a missed deadline.
-    fn settle_first(&mut self, caller: u32, moment: Moment) -> Ticked
+    fn settle_first<R: Wait>(&mut self, rt: &R, caller: u32, moment: Moment) -> Ticked
         requires flying { IsSome self.old.state.flight }
         requires no_earlier { self.old.state.greatest ≤ moment }
         ensures { MakesWay D.tells D.faults caller moment result self.old self.new }
     {
-        match self.settle(caller, moment) {
+        match self.settle(rt, caller, moment) {
             Outcome::Fault => Ticked::DiskFault,
-            Outcome::Done => self.catch_up(caller, moment),
+            Outcome::Done => self.catch_up(rt, caller, moment),
         }
     }
 
-    /// Does what comes before a command at a moment.
-    pub(crate) fn make_way(&mut self, caller: u32, moment: Moment) -> Ticked
+    // Settles and reverts, where that is needed.
+    fn clear<R: Wait>(&mut self, rt: &R, caller: u32, moment: Moment) -> Ticked
         requires { self.old.state.greatest ≤ moment }
         ensures { MakesWay D.tells D.faults caller moment result self.old self.new }
     {
         match self.core.next(moment) {
             Need::Nothing => Ticked::Nothing,
-            Need::Revert => self.revert(caller, moment),
-            Need::Settle => self.settle_first(caller, moment),
+            Need::Revert => self.revert(rt, caller, moment),
+            Need::Settle => self.settle_first(rt, caller, moment),
         }
     }
 
+    /// Does what comes before a command at a moment. What could not be published before is published first.
+    pub(crate) fn make_way<R: Wait>(&mut self, rt: &R, caller: u32, moment: Moment) -> Ticked
+        requires { self.old.state.greatest ≤ moment }
+        ensures { MakesWay D.tells D.faults caller moment result self.old self.new }
+    {
+        publish_late(rt, &mut self.shown);
+        self.clear(rt, caller, moment)
+    }
+
     /// Does a command that nothing comes before.
-    pub(crate) fn command(&mut self, caller: u32, moment: Moment, command: Command) -> Answered
+    pub(crate) fn command<R: Wait>(
+        &mut self,
+        rt: &R,
+        caller: u32,
+        moment: Moment,
+        command: Command,
+    ) -> Answered
         requires caller { (0 < caller) × (caller ≤ length self.old.users) }
         requires sound { IsSound command }
         requires clear { IsClear moment self.old }
@@ -142,7 +173,7 @@ impl<D: Disk> Database<D> {
             (FaultRose D.faults self.old.journal self.new.journal) self.old self.new }
     {
         let place = self.events.len() as u64;
-        match self.carry_out(caller, moment, Event::Command(command)) {
+        match self.carry_out(rt, caller, moment, Event::Command(command)) {
             Err(NoMemory) => Answered::NoMemory,
             Ok(ended) => Answered::Kept {
                 place,

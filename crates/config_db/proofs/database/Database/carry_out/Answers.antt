@@ -4,36 +4,51 @@ use Rattle.config_core.specs.Plan.{made_in}
 use Rattle.config_db.specs.Moves.{Happens, noted}
 use Rattle.config_db.proofs.NumberLemmas.{calls_is}
 use Rattle.config_db.proofs.MachineLemmas.{made_is_sound, made_writable}
+use Rattle.config_db.proofs.ShownLemmas.{can_follow, follows_last, nothing_proposed}
 use Rattle.config_db.proofs.EventLemmas.{carried, next, next_same}
 use Rattle.config_db.proofs.database.Database.carry_out.Goals as goal
 
-pub write-requires-clause-writable : goal.write-requires-clause-writable
-write-requires-clause-writable g c =
+pub write_shown-requires-clause-writable : goal.write_shown-requires-clause-writable
+write_shown-requires-clause-writable g c =
     let i = c.self.inside in
     made_writable i.core.kept c.args.moment (made_in c.in-Ok.prepared.effect)
     (made_is_sound i.core c.args.caller c.args.moment c.args.event c.in-Ok.prepared c.self.invariant.0.sound (subst (λ v. v.state.flight ≡ None) (sym c.self.view_is) c.requires.free)
     (subst (λ v. Fits v.state c.args.caller c.args.moment c.args.event) (sym c.self.view_is) c.requires.fits) c.in-Ok.ensures.ok)
 
-pub invariant_of-self-in-Ok-write : goal.invariant_of-self-in-Ok-write
-invariant_of-self-in-Ok-write g c =
+pub write_shown-requires-clause-follows : goal.write_shown-requires-clause-follows
+write_shown-requires-clause-follows g c =
     let i = c.self.inside in
-    let comes = carried g.D.Disk.tells g.D.Disk.history g.D.Disk.faults (record { journal = i.journal; opening = i.opening; users = i.users; events = i.events.items; state = i.core }) c.self.invariant.0 (λ events s t. c.histories_have_one_outcome.ensures.state i.opening i.users events s t) c.write.new.journal c.note-reply.new.events.items c.note-reply.new.core c.args.caller c.args.moment c.args.event c.in-Ok-write.outcome
+    let plan = c.in-Ok.prepared in
+    follows_last (made_in plan.effect) i.shown.list i.core.kept c.self.invariant.0.shows.last
+    (can_follow plan.effect plan.caller c.args.moment i.core c.in-Ok.ensures.ok.follows
+    (made_is_sound i.core c.args.caller c.args.moment c.args.event plan c.self.invariant.0.sound (subst (λ v. v.state.flight ≡ None) (sym c.self.view_is) c.requires.free)
+    (subst (λ v. Fits v.state c.args.caller c.args.moment c.args.event) (sym c.self.view_is) c.requires.fits) c.in-Ok.ensures.ok))
+
+pub write_shown-requires-clause-nothing_waits : goal.write_shown-requires-clause-nothing_waits
+write_shown-requires-clause-nothing_waits g c =
+    let i = c.self.inside in
+    nothing_proposed _ i.events.items i.core i.shown c.self.invariant.0.shows (subst (λ v. v.state.flight ≡ None) (sym c.self.view_is) c.requires.free)
+
+pub invariant_of-self-in-Ok-write_shown : goal.invariant_of-self-in-Ok-write_shown
+invariant_of-self-in-Ok-write_shown g c =
+    let i = c.self.inside in
+    let comes = carried g.D.Disk.tells g.D.Disk.history g.D.Disk.faults (record { journal = i.journal; opening = i.opening; users = i.users; events = i.events.items; state = i.core; shown = i.shown; readers = i.readers }) c.self.invariant.0 (λ events s t. c.histories_have_one_outcome.ensures.state i.opening i.users events s t) c.write_shown.new.journal c.note-reply.new.events.items c.note-reply.new.core c.write_shown.new.shown c.args.caller c.args.moment c.args.event c.in-Ok-write_shown.outcome
     c.note-reply.result c.calls.result c.in-Ok.prepared (subst (λ v. v.state.flight ≡ None) (sym c.self.view_is) c.requires.free) (subst (λ v. Fits v.state c.args.caller c.args.moment c.args.event) (sym c.self.view_is) c.requires.fits)
-    c.in-Ok.ensures.ok c.in-Ok-write.ensures.ok (calls_is c.write.new.journal c.calls.result c.calls.ensures.a c.calls.ensures.b) c.note-reply.ensures.state c.note-reply.ensures.reply
-    (c.note-reply.ensures.events ∙ ap (λ l. l ++ noted c.args.caller c.args.moment c.args.event c.in-Ok-write.outcome c.calls.result ∷ []) c.in_ok-reserve.ensures.items) in
+    c.in-Ok.ensures.ok c.in-Ok-write_shown.ensures.written c.in-Ok-write_shown.ensures.shown (calls_is c.write_shown.new.journal c.calls.result c.calls.ensures.a c.calls.ensures.b) c.note-reply.ensures.state c.note-reply.ensures.reply
+    (c.note-reply.ensures.events ∙ ap (λ l. l ++ noted c.args.caller c.args.moment c.args.event c.in-Ok-write_shown.outcome c.calls.result ∷ []) c.in_ok-reserve.ensures.items) in
     (comes.book, λ some. omega (arith, c.note-reply.ensures.len, c.note-reply.ensures.capacity, c.in_ok-reserve.ensures.ok, c.in_ok-reserve.ensures.len))
 
-pub returns-in-Err-write-clause-err : goal.returns-in-Err-write-clause-err
-returns-in-Err-write-clause-err g c =
+pub returns-in-Err-write_shown-clause-err : goal.returns-in-Err-write_shown-clause-err
+returns-in-Err-write_shown-clause-err g c =
     let i = c.self.inside in
-    next_same (record { journal = i.journal; opening = i.opening; users = i.users; events = i.events.items; state = i.core }) c.write.new.journal c.reserve.new.self.items c.in-Err-write.ensures.err c.in_ok-reserve.ensures.items ∙ c.self.view_is
+    next_same (record { journal = i.journal; opening = i.opening; users = i.users; events = i.events.items; state = i.core; shown = i.shown; readers = i.readers }) c.write_shown.new.journal c.reserve.new.self.items c.write_shown.new.shown c.in-Err-write_shown.ensures.err c.in_ok-reserve.ensures.items c.in-Err-write_shown.ensures.withdrawn ∙ c.self.view_is
 
-pub returns-in-Ok-write-clause-ok : goal.returns-in-Ok-write-clause-ok
-returns-in-Ok-write-clause-ok g c =
+pub returns-in-Ok-write_shown-clause-ok : goal.returns-in-Ok-write_shown-clause-ok
+returns-in-Ok-write_shown-clause-ok g c =
     let i = c.self.inside in
-    let comes = carried g.D.Disk.tells g.D.Disk.history g.D.Disk.faults (record { journal = i.journal; opening = i.opening; users = i.users; events = i.events.items; state = i.core }) c.self.invariant.0 (λ events s t. c.histories_have_one_outcome.ensures.state i.opening i.users events s t) c.write.new.journal c.note-reply.new.events.items c.note-reply.new.core c.args.caller c.args.moment c.args.event c.in-Ok-write.outcome
+    let comes = carried g.D.Disk.tells g.D.Disk.history g.D.Disk.faults (record { journal = i.journal; opening = i.opening; users = i.users; events = i.events.items; state = i.core; shown = i.shown; readers = i.readers }) c.self.invariant.0 (λ events s t. c.histories_have_one_outcome.ensures.state i.opening i.users events s t) c.write_shown.new.journal c.note-reply.new.events.items c.note-reply.new.core c.write_shown.new.shown c.args.caller c.args.moment c.args.event c.in-Ok-write_shown.outcome
     c.note-reply.result c.calls.result c.in-Ok.prepared (subst (λ v. v.state.flight ≡ None) (sym c.self.view_is) c.requires.free) (subst (λ v. Fits v.state c.args.caller c.args.moment c.args.event) (sym c.self.view_is) c.requires.fits)
-    c.in-Ok.ensures.ok c.in-Ok-write.ensures.ok (calls_is c.write.new.journal c.calls.result c.calls.ensures.a c.calls.ensures.b) c.note-reply.ensures.state c.note-reply.ensures.reply
-    (c.note-reply.ensures.events ∙ ap (λ l. l ++ noted c.args.caller c.args.moment c.args.event c.in-Ok-write.outcome c.calls.result ∷ []) c.in_ok-reserve.ensures.items) in
-    subst (λ v. Happens g.D.Disk.tells g.D.Disk.faults c.args.caller c.args.moment c.args.event c.in-Ok-write.outcome c.note-reply.result v (next (record { journal = i.journal; opening = i.opening; users = i.users; events = i.events.items; state = i.core }) c.write.new.journal c.note-reply.new.events.items c.note-reply.new.core))
+    c.in-Ok.ensures.ok c.in-Ok-write_shown.ensures.written c.in-Ok-write_shown.ensures.shown (calls_is c.write_shown.new.journal c.calls.result c.calls.ensures.a c.calls.ensures.b) c.note-reply.ensures.state c.note-reply.ensures.reply
+    (c.note-reply.ensures.events ∙ ap (λ l. l ++ noted c.args.caller c.args.moment c.args.event c.in-Ok-write_shown.outcome c.calls.result ∷ []) c.in_ok-reserve.ensures.items) in
+    subst (λ v. Happens g.D.Disk.tells g.D.Disk.faults c.args.caller c.args.moment c.args.event c.in-Ok-write_shown.outcome c.note-reply.result v (next (record { journal = i.journal; opening = i.opening; users = i.users; events = i.events.items; state = i.core; shown = i.shown; readers = i.readers }) c.write_shown.new.journal c.note-reply.new.events.items c.note-reply.new.core c.write_shown.new.shown))
     c.self.view_is comes.happens

@@ -9,5 +9,5 @@ returns-clause-back g c =
     let i = c.self.inside in
     let happened : History = record { opening = Some i.opening; users = i.users; made = c.calls-made.result; events = i.events } in
     subst (λ v. IsHandedBack g.D.Disk.tells g.D.Disk.history v happened c.into_disks-a.result.0 c.into_disks-a.result.1) c.self.view_is
-    (handed_back g.D.Disk.tells g.D.Disk.history g.D.Disk.faults (record { journal = i.journal; opening = i.opening; users = i.users; events = i.events.items; state = i.core }) happened c.into_disks-a.result.0 c.into_disks-a.result.1
+    (handed_back g.D.Disk.tells g.D.Disk.history g.D.Disk.faults (record { journal = i.journal; opening = i.opening; users = i.users; events = i.events.items; state = i.core; shown = i.shown; readers = i.readers }) happened c.into_disks-a.result.0 c.into_disks-a.result.1
     c.histories_stay_accepted.ensures c.self.invariant.0 refl refl refl c.calls-made.ensures.a c.calls-made.ensures.b c.into_disks-a.ensures.a c.into_disks-a.ensures.b)
