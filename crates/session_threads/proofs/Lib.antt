@@ -1,3 +1,5 @@
+mod GateLemmas
+pub mod LaterLemmas
 pub mod ListLemmas
 pub mod LogLemmas
 mod PassLemmas
@@ -5,4 +7,5 @@ mod RowLemmas
 mod SeatLemmas
 mod SendLemmas
 mod TickLemmas
+mod TraceLemmas
 mod WholeLemmas

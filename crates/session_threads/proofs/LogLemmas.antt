@@ -1,37 +1,42 @@
 -- What one turn of the database makes of its history.
 use Rattle.std.proofs.Common.{◌≡◌, ◌≤◌, ⊎_elim, inl, inr, ℕ, ◌+◌, Bool, List, [], ◌∷◌, ◌++◌, length, take, max}
-use Rattle.std.proofs.Common.{slice_get, refl, sym, ap, subst, ◌∙◌, append_assoc, arith}
+use Rattle.std.proofs.Common.{Option, None, Some, IfSome, slice_get, refl, sym, ap, subst, ◌∙◌, append_assoc, arith}
 use Rattle.std.specs.List.{AllByRecursion}
 use Rattle.std.proofs.lemmas.Bool.{cases_lt}
 use Rattle.std.proofs.lemmas.List.{append-nil, length-append}
 use Rattle.std.proofs.Math.Seq.{take-append_seam}
+use Rattle.active_snapshot.specs.Views.{AreViews, IsLast}
 use Rattle.cfg_base.specs.Counts.{Rose}
 use Rattle.commands.specs.declared.command.Command.{Command}
 use Rattle.commit_journal.specs.Journal.{JournalView, disk_a, disk_b}
+use Rattle.commit_ledger.specs.Kept.{Kept as KeptList}
 use Rattle.config_core.specs.declared.event.Event.{Event}
 use Rattle.config_core.specs.declared.event.Event.TheVariants.{Command as CommandOf}
 use Rattle.config_core.specs.declared.reply.Reply.{Reply}
 use Rattle.config_core.specs.Machine.{Steps}
 use Rattle.config_core.specs.Serving.{Turned}
-use Rattle.config_core.specs.State.{State}
+use Rattle.config_core.specs.State.{State, opening_of}
 use Rattle.config_db.specs.declared.answer.Answered.{Answered}
 use Rattle.config_db.specs.declared.answer.Answered.TheVariants.{Kept, NoMemory}
 use Rattle.config_db.specs.declared.answer.Ticked.{Ticked}
 use Rattle.config_db.specs.Answers.{Answers, IsAnswer, IsAnswered, MakesWay, moment_at}
 use Rattle.config_db.specs.Disks.{FaultRose, GoesOn}
 use Rattle.config_db.specs.Moves.{Extends, HasCause, IsOf}
+use Rattle.config_db.specs.Shown.{Shows}
 use Rattle.config_db.specs.View.{DatabaseView, opened}
 use Rattle.config_db.proofs.FaultLemmas.{counted_more, counted_none}
 use Rattle.session_history.specs.declared.history.Happened.{Happened}
 use Rattle.session_history.specs.Events.{IsAsked, IsAt, Leads, is_command, places_from, places_of}
+use Rattle.session_history.specs.Kept.{WasKept}
 use Rattle.session_history.proofs.EventLemmas.{Leads-append, at_seam, no_places, one_place, places_from-append, places_of-append}
-use Rattle.session_shell.specs.declared.door.Given0.{Given0}
 use Rattle.turn_lock.specs.Histories.{AddsOwn}
-use Rattle.session_threads.specs.Adding.{AddsUp, given_of}
-use Rattle.session_threads.specs.History.{IsTurn, Names, places_given}
+use Rattle.session_threads.specs.Adding.{AddsUp}
+use Rattle.session_threads.specs.Begun.{start_of}
+use Rattle.session_threads.specs.Gates.{TellsKept}
+use Rattle.session_threads.specs.History.{HasEvent, IsTurn, places_answered}
 use Rattle.session_threads.specs.Looks.{LooksAlone}
 use Rattle.session_threads.specs.Served.{IsUnderway}
-use Rattle.session_threads.specs.Sessions.{FollowsAlone, caller_in}
+use Rattle.session_threads.specs.Passes.{FollowsAlone, caller_in}
 use Rattle.session_threads.proofs.ListLemmas.{All-append, All-weaker, all_back}
 
 -- a step of the machine is one of the event that it has become
@@ -81,7 +86,7 @@ module _ {D : Type 0} where
   named : (opening : State) (caller answer moment : ℕ) (command : Command) (answered : Answered) (own : List Happened)
       (v v' : DatabaseView D) → Leads opening v.events v.state → moment ≡ max answer v.state.greatest
       → AllByRecursion (IsOf caller moment) own → IsAnswer caller moment command answered own v v'
-      → Names opening caller (v.events ++ own) command answer (given_of answered)
+      → HasEvent opening caller (v.events ++ own) command answer answered
   named opening caller answer moment command (Kept place reply) own v v' leads is_moment made given =
       is_asked opening caller answer moment command place reply own v v' leads is_moment made given
   named opening caller answer moment command NoMemory own v v' leads is_moment made given = tt
@@ -89,7 +94,7 @@ module _ {D : Type 0} where
   -- the places of a caller's own events
   places : (caller moment : ℕ) (command : Command) (answered : Answered) (own : List Happened) (v v' : DatabaseView D)
       → AllByRecursion (IsOf caller moment) own → IsAnswer caller moment command answered own v v'
-      → places_of caller (v.events ++ own) ≡ places_of caller v.events ++ places_given (given_of answered)
+      → places_of caller (v.events ++ own) ≡ places_of caller v.events ++ places_answered answered
   places caller moment command (Kept place reply) own v v' made given =
       let at_end : length v.events + length given.front ≡ place = omega (arith, given.at_end, length-append v.events given.front) in
       let last : IsOf caller moment given.last = last_of caller moment given.front own given.last given.is_own made in
@@ -106,7 +111,7 @@ module _ {D : Type 0} where
 
   -- what a turn's own events are
   turned : (caller moment : ℕ) (command : Command) (answered : Answered) (own : List Happened) (v v' : DatabaseView D)
-      → v'.events ≡ v.events ++ own → IsAnswer caller moment command answered own v v' → IsTurn (given_of answered) own v'.events
+      → v'.events ≡ v.events ++ own → IsAnswer caller moment command answered own v v' → IsTurn answered own v'.events
   turned caller moment command (Kept place reply) own v v' grown given = record {
     front = given.front;
     last = given.last;
@@ -123,6 +128,12 @@ module _ {D : Type 0} where
     );
   }
   turned caller moment command NoMemory own v v' grown given = given
+
+-- a copy of what is kept is the last of a list whose last one that is
+pub IsLast-again : {V : Type 0} (value : V → KeptList) (list : List KeptList) (view : Option V) (last kept : KeptList)
+    → IfSome view (λ v. value v ≡ last) → last ≡ kept → IsLast list kept → IfSome view (λ v. IsLast list (value v))
+IsLast-again value list None last kept same is is_last = tt
+IsLast-again value list (Some v) last kept same is is_last = subst (IsLast list) (sym (same ∙ is)) is_last
 
 -- a count that rose in a part of the calls rose in all
 rose_more : (a b c : ℕ) → Rose a b → b ≤ c → Rose a c
@@ -186,14 +197,34 @@ module _ {D : Type 0} (tells : D → Bool) (faults : D → ℕ) where
         (disk_a w.journal) (disk_b w.journal) next.goes.faults_a next.goes.faults_b first.counted next.counted;
   }
 
+  -- what adds up from a database on adds up from how it began on
+  AddsUp-begins : (events : List Happened) (v w : DatabaseView D) → AddsUp tells faults events v w
+      → AddsUp tells faults events (start_of v) w
+  AddsUp-begins events v w adds = record {
+    same = record { opening = adds.same.opening; users = adds.same.users };
+    goes = adds.goes;
+    causes = adds.causes;
+    counted = adds.counted;
+  }
+
+  -- and the other way
+  pub AddsUp-begun : (events : List Happened) (v w : DatabaseView D) → AddsUp tells faults events (start_of v) w
+      → AddsUp tells faults events v w
+  AddsUp-begun events v w adds = record {
+    same = record { opening = adds.same.opening; users = adds.same.users };
+    goes = adds.goes;
+    causes = adds.causes;
+    counted = adds.counted;
+  }
+
   -- before the first turn
-  pub IsUnderway-none : (first v : DatabaseView D) → first ≡ v → v.events ≡ [] → v.state ≡ opened v
+  pub IsUnderway-none : (first v : DatabaseView D) → first ≡ start_of v → v.events ≡ [] → v.state ≡ opened v
       → IsUnderway tells faults (record { first = first; database = v })
   IsUnderway-none first v same fresh starts =
       subst (λ (u : DatabaseView D). IsUnderway tells faults (record { first = u; database = v })) (sym same) (record {
-        fresh = fresh;
+        fresh = refl;
         leads = subst (λ l. Leads (opened v) l v.state) (sym fresh) starts;
-        adds = subst (λ l. AddsUp tells faults l v v) (sym fresh) (AddsUp-none v);
+        adds = subst (λ l. AddsUp tells faults l (start_of v) v) (sym fresh) (AddsUp-begins [] v v (AddsUp-none v));
       })
 
   module _ (caller moment : ℕ) (own : List Happened) (first v v' : DatabaseView D) (extends : Extends tells faults caller moment own v v')
@@ -217,31 +248,43 @@ module _ {D : Type 0} (tells : D → Bool) (faults : D → ℕ) where
         All-weaker (IsOf caller moment) (λ event. event.caller ≡ caller) own (λ event is. is.0) extends.made,
       )
 
-  -- the history after one ask
-  pub FollowsAlone-of : (first v v' : DatabaseView D) (caller answer : ℕ) (command : Command) (answered : Answered) (given : Given0)
+  -- the history after the turn of a command
+  pub FollowsAlone-of : (first v v' : DatabaseView D) (caller answer : ℕ) (command : Command) (answered : Answered)
       → Leads (opened first) v.events v.state → Answers tells faults caller (moment_at answer v) command answered v v'
-      → given ≡ given_of answered → FollowsAlone first caller v.events command answer given v'.events
-  FollowsAlone-of first v v' caller answer command answered given leads asks gives =
-      subst (λ g. FollowsAlone first caller v.events command answer g v'.events) (sym gives) (record {
-        follows = record {
-          grows = record {
-            others = [];
-            own = asks.own;
-            grown = asks.extends.grown;
-            not_own = tt;
-            before = v.state;
-            leads = subst (λ l. Leads (opened first) l v.state) (sym (append-nil v.events)) leads;
-            made = asks.extends.made;
-          };
-          named = subst (λ l. Names (opened first) caller l command answer (given_of answered)) (sym asks.extends.grown)
-              (named (opened first) caller answer (moment_at answer v) command answered asks.own v v' leads refl asks.extends.made
-              asks.answer);
-          turn = turned caller (moment_at answer v) command answered asks.own v v' asks.extends.grown asks.answer;
-          places = ap (places_of caller) asks.extends.grown
-              ∙ places caller (moment_at answer v) command answered asks.own v v' asks.extends.made asks.answer;
-        };
-        alone = refl;
-      })
+      → FollowsAlone first caller v.events command answer answered v'.events
+  FollowsAlone-of first v v' caller answer command answered leads asks = record {
+    follows = record {
+      grows = record {
+        others = [];
+        own = asks.own;
+        grown = asks.extends.grown;
+        not_own = tt;
+        before = v.state;
+        leads = subst (λ l. Leads (opened first) l v.state) (sym (append-nil v.events)) leads;
+        made = asks.extends.made;
+      };
+      named = subst (λ l. HasEvent (opened first) caller l command answer answered) (sym asks.extends.grown)
+          (named (opened first) caller answer (moment_at answer v) command answered asks.own v v' leads refl asks.extends.made
+          asks.answer);
+      turn = turned caller (moment_at answer v) command answered asks.own v v' asks.extends.grown asks.answer;
+      places = ap (places_of caller) asks.extends.grown
+          ∙ places caller (moment_at answer v) command answered asks.own v v' asks.extends.made asks.answer;
+    };
+    alone = refl;
+  }
+
+  -- what a database tells of the lists that it kept
+  pub TellsKept-of : (first v : DatabaseView D) → IsUnderway tells faults (record { first = first; database = v })
+      → AreViews v.shown.list → Shows (opened v) v.events v.state v.shown → TellsKept (opened first) v.events v.shown.list
+  TellsKept-of first v underway views shows =
+      let same : opened v ≡ opened first = λ i. opening_of (underway.adds.same.opening i) (underway.adds.same.users i) in
+      record {
+        after = v.state;
+        leads = underway.leads;
+        views = views;
+        each = subst (λ s. AllByRecursion (WasKept s v.events) v.shown.list) same shows.all;
+        is_last = shows.last;
+      }
 
   -- the history after one look at the time
   pub LooksAlone-of : (first v v' : DatabaseView D) (answer : ℕ) (ticked : Ticked) → Leads (opened first) v.events v.state

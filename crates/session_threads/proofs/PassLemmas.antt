@@ -1,25 +1,24 @@
 -- What a turn makes of a pass.
-use Rattle.std.proofs.Common.{◌≡◌, ◌≢◌, ◌<◌, ◌≤◌, ◌&&◌, ℕ, ◌+◌, Bool, true, false, List, [], ◌∷◌, ◌++◌, length, cond}
+use Rattle.std.proofs.Common.{◌≡◌, ◌≢◌, ◌<◌, ◌≤◌, ◌&&◌, ℕ, ◌+◌, Bool, true, false, List, [], ◌∷◌, ◌++◌, length, cond, Some}
 use Rattle.std.proofs.Common.{eqb, eq-eqb, ne_eqb, refl, sym, ap, subst, ◌∙◌, append_assoc}
 use Rattle.std.specs.List.{AllByRecursion}
 use Rattle.std.proofs.lemmas.List.{append-nil, append_cancel_left}
 use Rattle.atomic_table.specs.Seated.{TableId}
 use Rattle.commands.specs.declared.command.Command.{Command}
 use Rattle.config_core.specs.State.{State}
+use Rattle.config_db.specs.declared.answer.Answered.{Answered}
+use Rattle.config_db.specs.declared.answer.Answered.TheVariants.{NoMemory}
 use Rattle.config_db.specs.View.{DatabaseView, opened}
 use Rattle.session_history.specs.declared.history.Happened.{Happened}
-use Rattle.session_history.specs.Events.{Leads, is_command, places_from, places_of}
+use Rattle.session_history.specs.Events.{IsLegal, Leads, is_command, places_from, places_of}
 use Rattle.session_history.proofs.EventLemmas.{places_of-append}
-use Rattle.session_shell.specs.declared.door.Given0.{Given0}
-use Rattle.session_shell.specs.declared.door.Given0.TheVariants.{Kept, Seen, NoMemory}
-use Rattle.session_shell.specs.Shows.{SeesShow}
 use Rattle.turn_lock.specs.Histories.{entries_by}
 use Rattle.turn_lock.specs.Passes.{TookTurn}
 use Rattle.turn_lock.proofs.AccountLemmas.{grows}
 use Rattle.turn_lock.proofs.EntryLemmas.{entries_by-append}
-use Rattle.session_threads.specs.History.{Follows, Grows, Names, places_given}
+use Rattle.session_threads.specs.History.{FollowsTurn, Grows, places_answered}
 use Rattle.session_threads.specs.Looks.{LooksAlone, LooksOnce}
-use Rattle.session_threads.specs.Sessions.{CallerPass, FollowsAlone, FollowsIn, IsReady, KnowsOwn, WentOn, caller_in}
+use Rattle.session_threads.specs.Passes.{CallerPass, FollowsAlone, IsReady, KnowsOwn, WentOn, caller_in}
 use Rattle.session_threads.proofs.ListLemmas.{some_is}
 
 pub not_kept : {A : Type 0} (b : Bool) (x : A) (xs : List A) → cond b (x ∷ xs) xs ≡ [] → (b ≡ false) × (xs ≡ [])
@@ -72,14 +71,14 @@ module _ (opening : State) (caller answer : ℕ) (seen others before events' : L
     made = grew.made;
   }
 
-  Follows-behind : (command : Command) (given : Given0) (follows : Follows opening caller before command answer given events')
-      → follows.grows.others ≡ [] → Follows opening caller seen command answer given events'
+  Follows-behind : (command : Command) (answered : Answered) (follows : FollowsTurn opening caller before command answer answered events')
+      → follows.grows.others ≡ [] → FollowsTurn opening caller seen command answer answered events'
   unfolding Grows-behind
-  Follows-behind command given follows alone = record {
+  Follows-behind command answered follows alone = record {
     grows = Grows-behind follows.grows alone;
     named = follows.named;
     turn = follows.turn;
-    places = follows.places ∙ ap (λ l. l ++ places_given given) (ap (places_of caller) is ∙ places_of-append caller seen others
+    places = follows.places ∙ ap (λ l. l ++ places_answered answered) (ap (places_of caller) is ∙ places_of-append caller seen others
         ∙ ap (λ l. places_of caller seen ++ l) (no_places_of (length seen) caller others not_own) ∙ append-nil (places_of caller seen));
   }
 
@@ -93,12 +92,23 @@ LooksOnce-behind opening answer seen others before events' is not_own looked = r
   no_command = looked.looks.no_command;
 }
 
--- what a history names was read from no snapshot
-shows_named : (opening : State) (caller : ℕ) (events : List Happened) (command : Command) (answer : ℕ) (given : Given0)
-    → Names opening caller events command answer given → SeesShow command given
-shows_named opening caller events command answer (Kept place reply) named = tt
-shows_named opening caller events command answer (Seen front reply) named = absurd named
-shows_named opening caller events command answer NoMemory named = tt
+-- nothing happened, and memory was wanting
+pub FollowsTurn-none : (opening : State) (caller answer : ℕ) (events : List Happened) (command : Command) → IsLegal opening events
+    → FollowsTurn opening caller events command answer NoMemory events
+FollowsTurn-none opening caller answer events command legal = record {
+  grows = record {
+    others = [];
+    own = [];
+    grown = sym (append-nil events);
+    not_own = tt;
+    before = legal.0;
+    leads = subst (λ l. Leads opening l legal.0) (sym (append-nil events)) legal.1;
+    made = tt;
+  };
+  named = tt;
+  turn = tt;
+  places = sym (append-nil (places_of caller events));
+}
 
 module _ {D : Type 0} where
   pub WentOn-same : (pass : CallerPass D) → KnowsOwn pass → WentOn pass pass
@@ -154,29 +164,32 @@ module _ {D : Type 0} where
     own-took = ap (λ (p : CallerPass D). p.own) took.is_new
 
   -- how a pass follows after a turn that asked a command
-  pub FollowsIn-took : (old new : CallerPass D) (command : Command) (answer : ℕ) (given : Given0) → KnowsOwn old
-      → TookTurn caller_in (λ first before after. FollowsAlone first old.caller before command answer given after) old new
-      → FollowsIn old command answer given new
-  FollowsIn-took old new command answer given own took =
+  pub FollowsTurn-took : (old new : CallerPass D) (command : Command) (answer : ℕ) (answered : Answered)
+      (More : DatabaseView D → List Happened → Type 0) → KnowsOwn old
+      → TookTurn caller_in (λ first before after.
+      FollowsAlone first old.caller before command answer answered after × More first after) old new
+      → WentOn old new × ((first : DatabaseView D) → old.fixed ≡ Some first
+      → FollowsTurn (opened first) old.caller old.seen command answer answered new.seen × More first new.seen)
+  FollowsTurn-took old new command answer answered More own took =
       let says : DatabaseView D → List Happened → List Happened → Type 0 =
-      λ first before after. FollowsAlone first old.caller before command answer given after in
-      let behind : Follows (opened took.fixed) old.caller old.seen command answer given (took.before ++ took.added) =
+      λ first before after. FollowsAlone first old.caller before command answer answered after × More first after in
+      let behind : FollowsTurn (opened took.fixed) old.caller old.seen command answer answered (took.before ++ took.added) =
       Follows-behind (opened took.fixed) old.caller answer old.seen took.begins.0 took.before (took.before ++ took.added)
-      (sym took.begins.1) (not_own-took says old new took own) command given took.said.follows took.said.alone in
-      record {
-        goes = WentOn-took says old new took;
-        follows = λ first fixed.
-            subst (λ events'. Follows (opened first) old.caller old.seen command answer given events') (sym (seen-took says old new took))
-            (subst (λ f. Follows (opened f) old.caller old.seen command answer given (took.before ++ took.added))
-            (some_is (sym took.is_fixed ∙ fixed)) behind);
-        shows = shows_named (opened took.fixed) old.caller (took.before ++ took.added) command answer given behind.named;
-      }
+      (sym took.begins.1) (not_own-took says old new took own) command answered took.said.0.follows took.said.0.alone in (
+        WentOn-took says old new took,
+        λ first fixed.
+            subst (λ f. FollowsTurn (opened f) old.caller old.seen command answer answered new.seen × More f new.seen)
+            (some_is (sym took.is_fixed ∙ fixed))
+            (subst (λ events'. FollowsTurn (opened took.fixed) old.caller old.seen command answer answered events'
+            × More took.fixed events') (sym (seen-took says old new took)) (behind, took.said.1)),
+      )
 
   pub IsReady-then : (lock : TableId) (first : DatabaseView D) (old new : CallerPass D) → IsReady lock first old → WentOn old new
-      → IsReady lock first new
-  IsReady-then lock first old new ready goes = record {
+      → IsLegal (opened first) new.seen → IsReady lock first new
+  IsReady-then lock first old new ready goes legal = record {
     here = goes.lock ∙ ready.here;
     fixed = goes.fixed ∙ ready.fixed;
     within = subst (λ c. (0 < c) × (c ≤ length first.users)) (sym goes.caller) ready.within;
     own = goes.own;
+    legal = legal;
   }

@@ -1,109 +1,89 @@
 -- The session of a pass's caller, from the turns that it took.
-use Rattle.std.proofs.Common.{◌≡◌, ◌≢◌, ◌⊎◌, ℕ, List, [], ◌∷◌, ◌++◌, Option, Some, inl, inr}
-use Rattle.std.proofs.Common.{sym, ap, subst, ◌∙◌, append_assoc}
+use Rattle.std.proofs.Common.{◌≡◌, ◌≢◌, ◌⊎◌, ◌≤◌, ℕ, List, [], ◌++◌, Option, Some, inl, inr}
+use Rattle.std.proofs.Common.{sym, ap, subst, ◌∙◌, refl}
+use mathlib.Core.List.{IsPrefix}
 use Rattle.std.specs.List.{AllByRecursion}
 use Rattle.std.proofs.lemmas.List.{append-nil, append_cancel_left}
+use Rattle.active_snapshot.specs.States.{ReaderState}
+use Rattle.active_snapshot.specs.Views.{AreViews, IsLast}
 use Rattle.cfg_base.specs.Counts.{Rose}
-use Rattle.commands.specs.declared.command.Command.{Command}
+use Rattle.commit_ledger.specs.Kept.{Kept}
 use Rattle.config_db.specs.View.{DatabaseView, opened}
 use Rattle.session_history.specs.declared.history.Happened.{Happened}
-use Rattle.session_shell.specs.declared.door.Given0.{Given0}
 use Rattle.session_shell.specs.declared.end.End.{End}
 use Rattle.session_shell.specs.declared.turn.How.{How}
 use Rattle.session_shell.specs.declared.turn.How.TheVariants.{SourceFault, SinkFault}
 use Rattle.session_shell.specs.declared.turn.Turn.{Turn}
-use Rattle.session_shell.specs.Exchange.{Exchange, Asked as AskedOf, Refused}
 use Rattle.session_shell.specs.Opened.{Opened, end_view}
-use Rattle.session_shell.specs.Transcript.{Following, GoesBy, IsSession, SessionView}
+use Rattle.session_shell.specs.Transcript.{IsSession, SessionView}
+use Rattle.turn_lock.specs.Histories.{entries_by}
 use Rattle.turn_lock.specs.Passes.{TookTurn}
-use Rattle.session_threads.specs.History.{Follows}
+use Rattle.session_threads.specs.Gates.{FollowsIn, GateView, StartsReading, TellsKept}
+use Rattle.session_threads.specs.Passes.{CallerPass, KnowsOwn, Waited, caller_in}
 use Rattle.session_threads.specs.Results.{SessionResult}
-use Rattle.session_threads.specs.Sessions.{CallerPass, FollowsIn, HasRun, KnowsOwn, ServesOne, StaysOut, WentOn, caller_in}
-use Rattle.session_threads.proofs.ListLemmas.{All-append}
-use Rattle.session_threads.proofs.PassLemmas.{WentOn-same, WentOn-then, WentOn-took, not_own-took, own-took, seen-took}
+use Rattle.session_threads.specs.Sessions.{HasLeft, HasRun, IsWithin, RunsOne, RunsOver, ServesOne, StaysOut}
+use Rattle.session_threads.proofs.ListLemmas.{some_is}
+use Rattle.session_threads.proofs.PassLemmas.{WentOn-same, WentOn-then, WentOn-took, others_behind, own-took, seen-took}
+use Rattle.session_threads.proofs.TraceLemmas.{IsSession-known, WentOn-asked}
 
-module _ {P H : Type 0} (follows : Following P) (of : Following H) (shown : P → H) (Is : P → Type 0)
-    (each : (d e : P) (command : Command) (moment : ℕ) (given : Given0) → Is d → follows d command moment given e
-    → Is e × of (shown d) command moment given (shown e)) where
-  -- a door went on as what it shows did
-  GoesBy-shown : (exchanges : List Exchange) (d e : P) → Is d → GoesBy follows exchanges d e
-      → Is e × GoesBy of exchanges (shown d) (shown e)
-  GoesBy-shown [] d e is goes = (subst Is (sym goes) is, ap shown goes)
-  GoesBy-shown (AskedOf moment command given ∷ exchanges) d e is goes =
-      let step = each d goes.0 command moment given is goes.1 in
-      let more = GoesBy-shown exchanges goes.0 e step.0 goes.2 in
-      (more.0, (shown goes.0, step.1, more.1))
-  GoesBy-shown (Refused moment fault ∷ exchanges) d e is goes = GoesBy-shown exchanges d e is goes
+module _ {D : Type 0} where
+  -- a pass took no turn yet
+  pub Waited-same : (pass : CallerPass D) → KnowsOwn pass → Waited pass pass
+  Waited-same pass own = record { goes = WentOn-same pass own; same_own = refl }
 
-  -- a session over a door is one over what it shows
-  IsSession-shown : (limit : ℕ) (how : How) (source source' : Option (List ℕ)) (d e : P) (old new : SessionView) → Is d
-      → IsSession follows limit how source source' d e old new
-      → Is e × IsSession of limit how source source' (shown d) (shown e) old new
-  IsSession-shown limit how source source' d e old new is s =
-      let went = GoesBy-shown (s.asked ++ s.final) d e is s.turns.asked in (
-        went.0,
-        record {
-          lines = s.lines;
-          asked = s.asked;
-          final = s.final;
-          reading = s.reading;
-          reads = s.reads;
-          input = s.input;
-          logs_out = s.logs_out;
-          turns = record { moments = s.turns.moments; turned = s.turns.turned; asked = went.1 };
-          texts = s.texts;
-        },
-      )
+  module _ (list : List Kept) (old new : CallerPass D)
+      (took : TookTurn caller_in (λ first before after. (after ≡ before) × TellsKept (opened first) after list) old new) where
+    abbrev says : DatabaseView D → List Happened → List Happened → Type 0
+    says first before after = (after ≡ before) × TellsKept (opened first) after list
 
-module _ {D : Type 0} (first : DatabaseView D) (start : CallerPass D) (fixed : start.fixed ≡ Some first) where
-  -- one ask of a session whose pass began so
-  each_ask : (pass pass' : CallerPass D) (command : Command) (answer : ℕ) (given : Given0) → WentOn start pass
-      → FollowsIn pass command answer given pass'
-      → WentOn start pass' × Follows (opened first) start.caller pass.seen command answer given pass'.seen
-  each_ask pass pass' command answer given went follows = (
-    WentOn-then start pass pass' went follows.goes,
-    subst (λ c. Follows (opened first) c pass.seen command answer given pass'.seen) went.caller
-        (follows.follows first (went.fixed ∙ fixed)),
-  )
+    none_added : took.added ≡ []
+    none_added = append_cancel_left took.before took.added [] (took.said.0 ∙ sym (append-nil took.before))
+
+    -- a pass waited, and took one more turn in which its caller made nothing
+    pub Waited-then : (start : CallerPass D) → Waited start old → Waited start new
+    Waited-then start waited = record {
+      goes = WentOn-then start old new waited.goes (WentOn-took says old new took);
+      same_own = own-took says old new took ∙ ap (λ l. old.own ++ l) none_added ∙ append-nil old.own ∙ waited.same_own;
+    }
+
+    -- all that a reader has was kept by then
+    pub IsWithin-took : (reader : ReaderState) → IsPrefix reader.list list → (first : DatabaseView D) → old.fixed ≡ Some first
+        → IsWithin first new reader
+    IsWithin-took reader within first fixed = record {
+      list = list;
+      tells = subst (λ l. TellsKept (opened first) l list) (sym (seen-took says old new took))
+          (subst (λ f. TellsKept (opened f) (took.before ++ took.added) list) (some_is (sym took.is_fixed ∙ fixed)) took.said.1);
+      within = within;
+    }
 
 module _ {S K C D : Type 0} (left : S → Option (List ℕ)) (source_faults : S → ℕ) (held : K → Option (List ℕ))
     (sink_faults : K → ℕ) (coming : C → Option (ℕ → ℕ)) where
-  -- a session ran over its pass
-  pub ServesOne-ran : (number limit : ℕ) (first : DatabaseView D) (old new gate gate' : CallerPass D) (end end' : End S K C) (how : How)
+  -- a session ran over its pass and its reader
+  pub RunsOne-ran : (number limit : ℕ) (old new gate gate' : GateView D) (end end' : End S K C) (how : How)
       (turns : List Turn) (session : Opened S K C) → session ≡ record { number = number; end = end; limit = limit }
-      → gate ≡ old → new ≡ gate' → KnowsOwn old → old.fixed ≡ Some first
+      → gate ≡ old → gate' ≡ new → KnowsOwn old.pass
       → IsSession FollowsIn session.limit how (left session.end.source) (left end'.source) gate gate'
       (end_view coming held sink_faults session.end []) (end_view coming held sink_faults end' turns)
       → end'.user ≡ session.end.user
       → (how ≡ SourceFault → Rose (source_faults session.end.source) (source_faults end'.source))
       → (how ≡ SinkFault → Rose (sink_faults session.end.sink) (sink_faults end'.sink))
-      → ServesOne left source_faults held sink_faults coming limit first old new
+      → RunsOne left source_faults held sink_faults coming limit old new
       (record { how = how; old = end; new = end'; turns = turns })
-  ServesOne-ran number limit first old new gate gate' end end' how turns session is began ended own fixed ran user source_cause
-      sink_cause =
+  RunsOne-ran number limit old new gate gate' end end' how turns session is began ended own ran user source_cause sink_cause =
       let after : SessionView = end_view coming held sink_faults end' turns in
       let of_end : IsSession FollowsIn limit how (left end.source) (left end'.source) gate gate'
       (end_view coming held sink_faults end []) after =
       subst (λ (s : Opened S K C). IsSession FollowsIn s.limit how (left s.end.source) (left end'.source) gate gate'
       (end_view coming held sink_faults s.end []) after) is ran in
-      let of_pass : IsSession FollowsIn limit how (left end.source) (left end'.source) old new
+      let of_gate : IsSession FollowsIn limit how (left end.source) (left end'.source) old new
       (end_view coming held sink_faults end []) after =
-      subst (λ p. IsSession FollowsIn limit how (left end.source) (left end'.source) p new
+      subst (λ (g : GateView D). IsSession FollowsIn limit how (left end.source) (left end'.source) g new
       (end_view coming held sink_faults end []) after) began
-      (subst (λ p. IsSession FollowsIn limit how (left end.source) (left end'.source) gate p
-      (end_view coming held sink_faults end []) after) (sym ended) of_end) in
-      let shown = IsSession-shown FollowsIn (Follows (opened first) old.caller) (λ (p : CallerPass D). p.seen) (WentOn old)
-      (each_ask first old fixed) limit how (left end.source) (left end'.source) old new
-      (end_view coming held sink_faults end []) after (WentOn-same old own) of_pass in
+      (subst (λ (g : GateView D). IsSession FollowsIn limit how (left end.source) (left end'.source) gate g
+      (end_view coming held sink_faults end []) after) ended of_end) in
       record {
-        goes = shown.0;
-        session = inl (record {
-          after = new.seen;
-          later = [];
-          begins = sym (append-nil new.seen);
-          none_later = tt;
-          session = shown.1;
-        });
+        goes = WentOn-asked (of_gate.asked ++ of_gate.final) old.pass old new (WentOn-same old.pass own) of_gate.turns.asked;
+        session = inl of_gate;
         user = user ∙ ap (λ (s : Opened S K C). s.end.user) is;
         source_cause = λ faulty. subst (λ (s : Opened S K C). Rose (source_faults s.end.source) (source_faults end'.source)) is
             (source_cause faulty);
@@ -111,43 +91,52 @@ module _ {S K C D : Type 0} (left : S → Option (List ℕ)) (source_faults : S 
             (sink_cause faulty);
       }
 
-  module _ (limit : ℕ) (first : DatabaseView D) (old mid new : CallerPass D) (result : SessionResult S K C)
-      (serves : ServesOne left source_faults held sink_faults coming limit first old mid result)
-      (took : TookTurn caller_in (λ _ before after. after ≡ before) mid new) where
-    abbrev says : DatabaseView D → List Happened → List Happened → Type 0
-    says _ before after = after ≡ before
+  module _ (never_fall : (one two : List Kept) (view later : Kept) → AreViews two → IsPrefix one two → IsLast one view
+      → IsLast two later → view.count ≤ later.count) (limit : ℕ) (first : DatabaseView D) (old mid : GateView D)
+      (new : CallerPass D) (result : SessionResult S K C) (own : KnowsOwn old.pass) (fixed : old.pass.fixed ≡ Some first)
+      (starts : StartsReading first old.reader)
+      (runs : RunsOne left source_faults held sink_faults coming limit old mid result) (gone : HasLeft first mid.pass new mid.reader)
+    where
+      later : IsPrefix mid.pass.seen new.seen
+      later = gone.waited.goes.later
 
-    none_added : took.added ≡ []
-    none_added = append_cancel_left took.before took.added [] (took.said ∙ sym (append-nil took.before))
+      none_later : AllByRecursion (λ event. event.caller ≢ old.pass.caller) later.0
+      none_later = others_behind old.pass.caller mid.pass.seen later.0 mid.pass.own
+          (subst (λ c. entries_by caller_in c mid.pass.seen ≡ mid.pass.own) runs.goes.caller runs.goes.own)
+          (ap (entries_by caller_in old.pass.caller) later.1
+          ∙ subst (λ c. entries_by caller_in c new.seen ≡ new.own) (gone.waited.goes.caller ∙ runs.goes.caller) gone.waited.goes.own
+          ∙ gone.waited.same_own)
 
-    -- the pass has seen others' events since
-    seen : new.seen ≡ mid.seen ++ took.begins.0
-    seen = seen-took says mid new took ∙ took.said ∙ sym took.begins.1
+      has_run : RunsOver left held sink_faults coming limit old mid result
+          → HasRun left held sink_faults coming limit first old.pass new result
+      has_run ran =
+          let known = IsSession-known never_fall first new.seen gone.within.list gone.within.tells limit result.how
+          (left result.old.source) (left result.new.source) old mid (end_view coming held sink_faults result.old [])
+          (end_view coming held sink_faults result.new result.turns) fixed (WentOn-same old.pass own) starts gone.within.within ran in
+          record {
+            after = record { events = mid.pass.seen; front = known.0 };
+            later = later.0;
+            begins = sym later.1;
+            none_later = none_later;
+            session = known.1;
+          }
 
-    session_then : HasRun left held sink_faults coming limit first old mid result ⊎ StaysOut old mid result
-        → HasRun left held sink_faults coming limit first old new result ⊎ StaysOut old new result
-    session_then (inl run) = inl (record {
-      after = run.after;
-      later = run.later ++ took.begins.0;
-      begins = seen ∙ ap (λ l. l ++ took.begins.0) run.begins ∙ append_assoc run.after run.later took.begins.0;
-      none_later = All-append (λ (event : Happened). event.caller ≢ old.caller) run.later took.begins.0 run.none_later
-          (subst (λ c. AllByRecursion (λ event. event.caller ≢ c) took.begins.0) serves.goes.caller
-          (not_own-took says mid new took serves.goes.own));
-      session = run.session;
-    })
-    session_then (inr out) = inr (record {
-      how = out.how;
-      same = out.same;
-      no_turns = out.no_turns;
-      no_events = own-took says mid new took ∙ ap (λ l. mid.own ++ l) none_added ∙ append-nil mid.own ∙ out.no_events;
-    })
+      session_left : RunsOver left held sink_faults coming limit old mid result ⊎ StaysOut old.pass mid.pass result
+          → HasRun left held sink_faults coming limit first old.pass new result ⊎ StaysOut old.pass new result
+      session_left (inl ran) = inl (has_run ran)
+      session_left (inr out) = inr (record {
+        how = out.how;
+        same = out.same;
+        no_turns = out.no_turns;
+        no_events = gone.waited.same_own ∙ out.no_events;
+      })
 
-    -- a session was served, and then its caller took a turn that made nothing
-    pub ServesOne-then : ServesOne left source_faults held sink_faults coming limit first old new result
-    ServesOne-then = record {
-      goes = WentOn-then old mid new serves.goes (WentOn-took says mid new took);
-      session = session_then serves.session;
-      user = serves.user;
-      source_cause = serves.source_cause;
-      sink_cause = serves.sink_cause;
-    }
+      -- a session was run, and then its caller took turns that made nothing, until all that its reader has was kept
+      pub ServesOne-left : ServesOne left source_faults held sink_faults coming limit first old.pass new result
+      ServesOne-left = record {
+        goes = WentOn-then old.pass mid.pass new runs.goes gone.waited.goes;
+        session = session_left runs.session;
+        user = runs.user;
+        source_cause = runs.source_cause;
+        sink_cause = runs.sink_cause;
+      }

@@ -1,22 +1,101 @@
 -- What may go to a thread.
-use denote.Param.Send.{IsSend, sendable}
+use denote.Param.Send.{IsSend, IsSync, sendable, view_send}
+use denote.Param.SendFields.{declared_send}
 use denote.RattleType.{RattleType}
 use Rattle.std.proofs.Crossing.{crosses}
-use Rattle.config_db.proofs.database.Database.TheSendSync as database
+use Rattle.std.specs.contracts.alloc.Global as Global
+use Rattle.std.specs.contracts.impls.GlobalAllocator.TheImpl as heap
+use Rattle.std.specs.contracts.vec.Vec as Vec
+use Rattle.active_snapshot.specs.declared.book.Naming as naming
+use Rattle.active_snapshot.proofs.SendLemmas.{readers_send, writer_send}
+use Rattle.active_snapshot.specs.contracts.reader.SnapReaders as SnapReaders
+use Rattle.active_snapshot.specs.contracts.writer.SnapWriter as SnapWriter
+use Rattle.cfg_base.proofs.user.Users.TheSendSync as users
+use Rattle.cfg_base.specs.contracts.user.Users as Users
+use Rattle.commit_journal.proofs.journal.Journal.TheSendSync as journal
+use Rattle.commit_journal.specs.contracts.journal.Journal as Journal
+use Rattle.commit_ledger.proofs.ledger.Ledger.TheSendSync as ledger
+use Rattle.commit_ledger.specs.contracts.ledger.Ledger as Ledger
+use Rattle.config_core.proofs.core_state.Core.TheSendSync as core
+use Rattle.config_core.specs.contracts.core_state.Core as Core
 use Rattle.config_db.specs.contracts.database.Database as Database
+use Rattle.config_db.specs.contracts.database.Database.TheInside as DatabaseInside
 use Rattle.disk_model.specs.declared.disk.Disk as disk
-use Rattle.session_shell.proofs.turn.TurnList.TheSendSync as turns
+use Rattle.session_history.proofs.history.Happened.TheSendSync as happened
+use Rattle.session_history.specs.contracts.history.Happened as Happened
+use Rattle.turn_lock.proofs.lock.Turns.TheSendSync as lock
 use Rattle.turn_lock.proofs.pass.Pass.TheSendSync as pass
-use Rattle.session_threads.specs.contracts.seat.Seat as Seat
+use Rattle.turn_lock.specs.contracts.lock.Turns as Turns
+use Rattle.turn_lock.specs.contracts.pass.Pass as Pass
+use Rattle.session_threads.specs.contracts.begun.Begun as Begun
 use Rattle.session_threads.specs.contracts.served.Served as Served
+use Rattle.session_threads.specs.contracts.served.Served.TheInside as ServedInside
+use Rattle.session_threads.specs.contracts.served.ServedBook.TheImpl as book
+
+users_send : IsSend Users.the_row
+users_send = search (sendable, crosses, users.the_send) depth 150 fits 40000
+
+ledger_send : IsSend Ledger.the_row
+ledger_send = search (sendable, crosses, ledger.the_send) depth 150 fits 40000
+
+events_send : IsSend (Vec.the_row Happened.the_row Global.the_row heap.ghosts)
+events_send = search (sendable, crosses, happened.the_send) depth 150 fits 40000
+
+core_send : IsSend Core.the_row
+core_send = search (sendable, crosses, core.the_send) depth 150 fits 40000
 
 module _ (D : RattleType) (d : disk.Ghosts D.Denot) where
-  database_send : IsSend D → IsSend (Database.the_row D d)
-  database_send sent = search (sendable, crosses, database.the_send) depth 150 fits 40000
+  journal_send : IsSend D → IsSend (Journal.the_row D d)
+  journal_send sent = search (sendable, crosses, journal.the_send) depth 150 fits 40000
 
-  -- so threads may share the lock over it
-  pub served_send : IsSend D → IsSend (Served.the_row D d)
-  served_send sent = search (sendable, crosses, database_send) depth 150 fits 40000
+  begun_send : IsSend (Begun.the_row D d)
+  begun_send = search (sendable, crosses) depth 150 fits 40000
 
-  pub seat_send : (S K C : RattleType) → IsSend S → IsSend K → IsSend C → IsSend (Seat.the_row S K C (Database.the_row D d))
-  seat_send S K C s k c = search (sendable, crosses, turns.the_send, pass.the_send) depth 150 fits 40000
+  -- the passes of a lock over a database
+  abbrev pub pass_row : RattleType
+  pass_row = Pass.the_row Happened.the_row (Begun.the_row D d)
+
+  pub pass_send : IsSend pass_row
+  pass_send = search (sendable, pass.the_send) depth 150 fits 40000
+
+module _ (D J : RattleType) (d : disk.Ghosts D.Denot) (j : naming.Ghosts J.Denot) where
+  -- each of its fields may
+  database_send : IsSend D → IsSend J → IsSync J → IsSend (Database.the_row D J d j)
+  database_send sent name shared =
+      let journals : IsSend (Journal.the_row D d) = journal_send D d sent in
+      let writers : IsSend (SnapWriter.the_row J j) = writer_send J j name shared in
+      let readers : IsSend (SnapReaders.the_row J j) = readers_send J j name shared in
+      view_send (DatabaseInside.the_row D J d j) _ _ _ _ (declared_send (DatabaseInside.the_type D J d j) (
+        search (sendable, crosses) depth 20,
+        (
+          search sendable depth 20,
+          (
+            search (sendable, ledger_send) depth 20,
+            (
+              search (sendable, users_send) depth 20,
+              (
+                search (sendable, events_send) depth 20,
+                (search (sendable, core_send) depth 20, (search sendable depth 20, (search sendable depth 20, tt))),
+              ),
+            ),
+          ),
+        ),
+      ))
+
+  served_send : IsSend D → IsSend J → IsSync J → IsSend (Served.the_row D J d j)
+  served_send sent name shared =
+      let databases : IsSend (Database.the_row D J d j) = database_send sent name shared in
+      view_send (ServedInside.the_row D J d j) _ _ _ _ (declared_send (ServedInside.the_type D J d j) (
+        search sendable depth 20,
+        (search (sendable, begun_send) depth 20, (search sendable depth 20, tt)),
+      ))
+
+  -- the lock over a database
+  abbrev pub lock_row : RattleType
+  lock_row = Turns.the_row (Served.the_row D J d j) Happened.the_row (Begun.the_row D d) (book.ghosts D J d book.no_dict j book.no_dict)
+
+  -- threads may share it
+  pub lock_sync : IsSend D → IsSend J → IsSync J → IsSync lock_row
+  lock_sync sent name shared =
+      let served : IsSend (Served.the_row D J d j) = served_send sent name shared in
+      search (sendable, lock.the_sync) depth 150 fits 40000

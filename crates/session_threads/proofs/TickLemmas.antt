@@ -10,7 +10,7 @@ use Rattle.session_history.specs.declared.history.Happened.{Happened}
 use Rattle.turn_lock.specs.Passes.{TookTurn}
 use Rattle.session_threads.specs.declared.ticking.Ticker.{Ticker}
 use Rattle.session_threads.specs.Looks.{AreLooks, Looks, LooksAlone, LooksOnce, Takes}
-use Rattle.session_threads.specs.Sessions.{CallerPass, KnowsOwn, WentOn, caller_in}
+use Rattle.session_threads.specs.Passes.{CallerPass, KnowsOwn, WentOn, caller_in}
 use Rattle.session_threads.specs.Ticks.{IsFirst, IsLook, IsRound, Ticks, TicksOn}
 use Rattle.session_threads.proofs.ListLemmas.{some_is}
 use Rattle.session_threads.proofs.PassLemmas.{LooksOnce-behind, WentOn-same, WentOn-then, WentOn-took, not_own-took, seen-took}

@@ -7,10 +7,11 @@ use Rattle.std.specs.List.{AllByRecursion}
 use Rattle.std.proofs.lemmas.List.{length-map}
 use Rattle.std.proofs.Math.Seq.{take-append_seam}
 use Rattle.std.proofs.lemmas.List.Elements.{All-cons, All-nil, All-same}
+use Rattle.active_snapshot.specs.States.{ReaderState}
 use Rattle.atomic_table.specs.Seated.{TableId}
 use Rattle.config_db.specs.View.{DatabaseView, opened}
 use Rattle.session_history.specs.declared.history.Happened.{Happened}
-use Rattle.session_history.specs.Events.{Leads}
+use Rattle.session_history.specs.Events.{IsLegal, Leads}
 use Rattle.session_shell.specs.declared.end.End.{End}
 use Rattle.session_shell.specs.declared.turn.How.TheVariants.{SourceFault, SinkFault, NoMemory}
 use Rattle.session_shell.specs.declared.turn.Turn.{Turn}
@@ -22,16 +23,19 @@ use Rattle.turn_lock.specs.Passes.{IsClosed, ended_of, first_pass}
 use Rattle.session_threads.specs.declared.seat.Seat.{Seat}
 use Rattle.session_threads.specs.declared.ticking.Ticker.{Ticker}
 use Rattle.session_threads.specs.Adding.{AddsUp}
-use Rattle.session_threads.specs.History.{Follows, HasSession}
+use Rattle.session_threads.specs.Begun.{start_of}
+use Rattle.session_threads.specs.History.{Follows, HasSession, known_first}
 use Rattle.session_threads.specs.Looks.{HasLooked, HasTicked}
 use Rattle.session_threads.specs.Results.{IsResult, IsUnbegun, SessionResult, status_of_all, users_of}
 use Rattle.session_threads.specs.Rows.{AreLeft, IsSeatOf, NoneServed, Pairs, PairsFrom, SitsIn, pass_for, taken, with_all_ended}
-use Rattle.session_threads.specs.Served.{AreServed, EachFrom, IsUnderway, ServedView}
-use Rattle.session_threads.specs.Sessions.{CallerPass, HasRun, IsReady, IsSeated, KnowsOwn, ServesOne, ServesSeat, StaysOut}
-use Rattle.session_threads.specs.Sessions.{WentOn, caller_in}
+use Rattle.session_threads.specs.Served.{AreServed, EachFrom, HasReaders, IsUnderway, ServedView}
+use Rattle.session_threads.specs.Passes.{CallerPass, IsReady, KnowsOwn}
+use Rattle.session_threads.specs.Sessions.{HasRun, IsSeated, ServesOne, ServesSeat, StaysOut}
+use Rattle.session_threads.specs.Passes.{WentOn, caller_in}
 use Rattle.session_threads.specs.Ticks.{IsFirst, TicksOn}
+use Rattle.session_threads.proofs.LaterLemmas.{IsSession-later}
 use Rattle.session_threads.proofs.ListLemmas.{All-append, some_is}
-use Rattle.session_threads.proofs.LogLemmas.{IsUnderway-none}
+use Rattle.session_threads.proofs.LogLemmas.{AddsUp-begun, AddsUp-none}
 use Rattle.session_threads.proofs.PassLemmas.{none_by, not_kept, others_behind}
 use Rattle.session_threads.proofs.RowLemmas.{PairsFrom-length, caller-with_all_ended, ended-with_all_ended, fixed-with_all_ended}
 use Rattle.session_threads.proofs.RowLemmas.{lock-with_all_ended, own-with_all_ended, seen-with_all_ended, splits-with_all_ended}
@@ -73,7 +77,7 @@ others_after pass caller history begins is own all = others_behind caller pass.s
     (ap (entries_by caller_in caller) begins.1 ∙ all)
 
 -- what holds of all that is kept of ended passes
-each_ended : {S K C D : Type 0} (Is : Ended Happened → Type 0) (seats : List (Seat S K C (DatabaseView D)))
+each_ended : {S K C D J : Type 0} (Is : Ended Happened → Type 0) (seats : List (Seat S K C (DatabaseView D) J))
     → ((pass : Ended Happened) → Contains (map (λ seat. ended_of seat.pass) seats) pass → Is pass)
     → AllByRecursion (λ seat. Is (ended_of seat.pass)) seats
 each_ended Is [] all = tt
@@ -89,11 +93,11 @@ IsFirst-begun {D} lock first callers count start pass begun split = subst (IsFir
     (sym (split ∙ ap (λ (p : CallerPass D). record p { splits = count }) begun))
     (record { here = refl; fixed = refl; nobodys = refl; own = refl })
 
-module _ {S K C D : Type 0} (left : S → Option (List ℕ)) (source_faults : S → ℕ) (held : K → Option (List ℕ))
+module _ (J : Type 0) {S K C D : Type 0} (left : S → Option (List ℕ)) (source_faults : S → ℕ) (held : K → Option (List ℕ))
     (sink_faults : K → ℕ) (coming : C → Option (ℕ → ℕ)) (limit : ℕ) (first : DatabaseView D) (lock : TableId)
     (start : CallerPass D) (here : start.lock ≡ lock) (fixed : start.fixed ≡ Some first) (fresh : start.seen ≡ []) where
   abbrev Taken : Type 0
-  Taken = Seat S K C (DatabaseView D)
+  Taken = Seat S K C (DatabaseView D) J
 
   abbrev result_for : End S K C → Taken → SessionResult S K C
   result_for end seat = record { how = seat.how; old = end; new = seat.end; turns = seat.turns }
@@ -111,21 +115,25 @@ module _ {S K C D : Type 0} (left : S → Option (List ℕ)) (source_faults : S 
     fixed = fixed;
     within = (some, few);
     own = ap (entries_by caller_in caller) fresh;
+    legal = subst (λ l. IsLegal (opened first) l) (sym fresh) (opened first, refl);
   }
 
   seated_from : (number : ℕ) (ends : List (End S K C)) (seats : List (Option Taken)) → 0 < number
-      → number + length ends ≤ length first.users + 1 → PairsFrom (SitsIn start) number ends seats → All (IsSeated lock first) seats
+      → number + length ends ≤ length first.users + 1 → PairsFrom (SitsIn first.opening start) number ends seats → All (IsSeated lock first) seats
   seated_from number [] [] some few pairs = All-nil (IsSeated lock first)
   seated_from number [] (seat ∷ seats) some few pairs = absurd pairs
   seated_from number (end ∷ ends) [] some few pairs = absurd pairs
   seated_from number (end ∷ ends) (None ∷ seats) some few pairs = absurd pairs.0
   seated_from number (end ∷ ends) (Some seat ∷ seats) some few pairs =
       All-cons (IsSeated lock first) (Some seat) seats
-      (subst (IsReady lock first) (sym pairs.0.0) (ready number some (omega (arith, few))))
+      (record {
+        ready = subst (IsReady lock first) (sym pairs.0.0) (ready number some (omega (arith, few)));
+        starts = pairs.0.2;
+      })
       (seated_from (number + 1) ends seats (omega arith) (omega (arith, few)) pairs.1)
 
   -- each end's session was served, and its seat is of the lock
-  served_from : (number : ℕ) (ends : List (End S K C)) (seats seats' : List (Option Taken)) → PairsFrom (SitsIn start) number ends seats
+  served_from : (number : ℕ) (ends : List (End S K C)) (seats seats' : List (Option Taken)) → PairsFrom (SitsIn first.opening start) number ends seats
       → Pairs (ServesSeat left source_faults held sink_faults coming limit first) seats seats'
       → PairsFrom IsServed number ends (taken seats') × All (IsSeatOf lock) seats'
   served_from number [] [] [] sits pairs = (tt, All-nil (IsSeatOf lock))
@@ -180,13 +188,20 @@ module _ {S K C D : Type 0} (left : S → Option (List ℕ)) (source_faults : S 
       before = [];
       after = run.after;
       later = run.later ++ known.1.0;
-      begins = sym known.1.1 ∙ ap (λ l. l ++ known.1.0) run.begins ∙ append_assoc run.after run.later known.1.0;
+      begins = sym known.1.1 ∙ ap (λ l. l ++ known.1.0) run.begins ∙ append_assoc run.after.events run.later known.1.0;
       others_first = tt;
       none_later = All-append (λ (event : Happened). event.caller ≢ caller) run.later known.1.0 run.none_later
           (others_after seat.pass caller history known.1 goes.caller goes.own
           (subst (λ k. entries_by caller_in k history ≡ seat.pass.own) goes.caller known.0));
-      session = subst (λ l. IsSession (Follows (opened first) caller) limit seat.how (left end.source) (left seat.end.source) l
-          run.after (end_view coming held sink_faults end []) (end_view coming held sink_faults seat.end seat.turns)) fresh run.session;
+      session = subst (λ l. IsSession (Follows (opened first) caller history) limit seat.how (left end.source) (left seat.end.source)
+          (known_first (opened first) l) run.after (end_view coming held sink_faults end [])
+          (end_view coming held sink_faults seat.end seat.turns)) fresh
+          (subst (λ l. IsSession (Follows (opened first) caller l) limit seat.how (left end.source) (left seat.end.source)
+          (known_first (opened first) start.seen) run.after (end_view coming held sink_faults end [])
+          (end_view coming held sink_faults seat.end seat.turns)) known.1.1
+          (IsSession-later (opened first) caller seat.pass.seen known.1.0 limit seat.how (left end.source) (left seat.end.source)
+          (known_first (opened first) start.seen) run.after (end_view coming held sink_faults end [])
+          (end_view coming held sink_faults seat.end seat.turns) run.session));
     })
     session_in caller end seat goes known (inr out) = inr (record {
       how = out.how;
@@ -211,19 +226,30 @@ module _ {S K C D : Type 0} (left : S → Option (List ℕ)) (source_faults : S 
       results_from (number + 1) ends seats pairs.1 known.1,
     )
 
+-- a database whose readers were handed out began as it did
+pub made_of : {D : Type 0} (first given : DatabaseView D) (made : ServedView D) → given ≡ record first { readers = [] }
+    → made ≡ record { first = start_of given; database = given } → made ≡ record { first = start_of first; database = given }
+made_of {D} first given made is is_made =
+    subst (λ (f : DatabaseView D). made ≡ record { first = f; database = given }) (ap start_of is) is_made
+
+-- the readers that were handed out
+pub handed : {D : Type 0} (first : DatabaseView D) (readers : List ReaderState) (count : ℕ)
+    → HasReaders first.opening count first.readers → readers ≡ first.readers → HasReaders first.opening count readers
+handed first readers count has is = subst (HasReaders first.opening count) (sym is) has
+
 not_source : NoMemory ≡ SourceFault → ⊥
 not_source is = cc
 
 not_sink : NoMemory ≡ SinkFault → ⊥
 not_sink is = cc
 
-module _ {S K C B D : Type 0} (left : S → Option (List ℕ)) (source_faults : S → ℕ) (held : K → Option (List ℕ))
+module _ (J : Type 0) {S K C B D : Type 0} (left : S → Option (List ℕ)) (source_faults : S → ℕ) (held : K → Option (List ℕ))
     (sink_faults : K → ℕ) (coming : C → Option (ℕ → ℕ)) (due : B → Option (ℕ → Bool)) (tells : D → Bool) (faults : D → ℕ)
     (limit : ℕ) (first : DatabaseView D) where
-  module _ (lock : TableId) (callers : ℕ) (start split : CallerPass D) (made : ServedView D)
-      (is_made : made ≡ record { first = first; database = first }) (begins_so : start ≡ first_pass lock made.first callers)
+  module _ (lock : TableId) (callers : ℕ) (start split : CallerPass D) (database : DatabaseView D) (made : ServedView D)
+      (is_made : made ≡ record { first = first; database = database }) (begins_so : start ≡ first_pass lock made.first callers)
       (ends : List (End S K C)) (is_split : split ≡ record start { splits = length ends })
-      (row seats : List (Option (Seat S K C (DatabaseView D)))) (sits : PairsFrom (SitsIn start) 1 ends row) (lent : seats ≡ row)
+      (row seats : List (Option (Seat S K C (DatabaseView D) J))) (sits : PairsFrom (SitsIn first.opening start) 1 ends row) (lent : seats ≡ row)
       (users : first.users ≡ users_of ends) where
     begun : start ≡ first_pass lock first callers
     begun = begins_so ∙ ap (λ (v : ServedView D). first_pass lock v.first callers) is_made
@@ -237,22 +263,22 @@ module _ {S K C B D : Type 0} (left : S → Option (List ℕ)) (source_faults : 
     fresh : start.seen ≡ []
     fresh = ap (λ (p : CallerPass D). p.seen) begun
 
-    sit : PairsFrom (SitsIn start) 1 ends seats
-    sit = subst (λ l. PairsFrom (SitsIn start) 1 ends l) (sym lent) sits
+    sit : PairsFrom (SitsIn first.opening start) 1 ends seats
+    sit = subst (λ l. PairsFrom (SitsIn first.opening start) 1 ends l) (sym lent) sits
 
     is_first : IsFirst lock first split
     is_first = IsFirst-begun lock first callers (length ends) start split begun is_split
 
     all_seated : All (IsSeated lock first) seats
     all_seated = let count : length first.users ≡ length ends = ap length users ∙ length-map ends (λ end. end.user) in
-        seated_from left source_faults held sink_faults coming limit first lock start here fixed fresh 1 ends seats
+        seated_from J left source_faults held sink_faults coming limit first lock start here fixed fresh 1 ends seats
         (omega arith) (omega (arith, count)) sit
 
     -- the sessions can be served, and the ticker can run
     pub can_serve : (x : DatabaseView D) × IsFirst lock x split × All (IsSeated lock x) seats
     can_serve = (first, is_first, all_seated)
 
-    module _ (gone : CallerPass D) (seats' : List (Option (Seat S K C (DatabaseView D)))) (size : ℕ) (sized : length seats ≡ size)
+    module _ (gone : CallerPass D) (seats' : List (Option (Seat S K C (DatabaseView D) J))) (size : ℕ) (sized : length seats ≡ size)
         (serves : (x : DatabaseView D) → IsFirst lock x split → All (IsSeated lock x) seats
         → Pairs (ServesSeat left source_faults held sink_faults coming limit x) seats seats')
         (ticker ticker' : Ticker B C)
@@ -264,7 +290,7 @@ module _ {S K C B D : Type 0} (left : S → Option (List ℕ)) (source_faults : 
       ticks = ticking first is_first
 
       -- the row, once its seats are given back
-      abbrev back : List (Option (Seat S K C (DatabaseView D)))
+      abbrev back : List (Option (Seat S K C (DatabaseView D) J))
       back = take size (seats' ++ drop (length seats') row)
 
       are_back : back ≡ seats'
@@ -272,17 +298,17 @@ module _ {S K C B D : Type 0} (left : S → Option (List ℕ)) (source_faults : 
           sym (Pairs-length (ServesSeat left source_faults held sink_faults coming limit first) seats seats' pairs ∙ sized) in
           ap (λ n. take n (seats' ++ drop (length seats') row)) whole ∙ take-append_seam seats' (drop (length seats') row)
 
-      served : PairsFrom (IsServed left source_faults held sink_faults coming limit first lock start here fixed fresh) 1 ends (taken seats')
-      served = (served_from left source_faults held sink_faults coming limit first lock start here fixed fresh 1 ends seats seats' sit
+      served : PairsFrom (IsServed J left source_faults held sink_faults coming limit first lock start here fixed fresh) 1 ends (taken seats')
+      served = (served_from J left source_faults held sink_faults coming limit first lock start here fixed fresh 1 ends seats seats' sit
           pairs).0
 
       pub all_here : All (IsSeatOf lock) back
       all_here = All-same (IsSeatOf lock) back seats' are_back
-          (served_from left source_faults held sink_faults coming limit first lock start here fixed fresh 1 ends seats seats' sit pairs).1
+          (served_from J left source_faults held sink_faults coming limit first lock start here fixed fresh 1 ends seats seats' sit pairs).1
 
       pub as_many : length back ≡ length ends
       as_many = ap length are_back ∙ Pairs-length (ServesSeat left source_faults held sink_faults coming limit first) seats seats' pairs
-          ∙ PairsFrom-length (SitsIn start) 1 ends seats sit
+          ∙ PairsFrom-length (SitsIn first.opening start) 1 ends seats sit
 
       pub gone_here : (gone.lock ≡ lock) × (gone.caller ≡ 0)
       gone_here = (
@@ -319,7 +345,7 @@ module _ {S K C B D : Type 0} (left : S → Option (List ℕ)) (source_faults : 
           ap (λ (p : CallerPass D). p.lock) passes ∙ lock-with_all_ended gone (taken seats') ∙ gone_here.0,
           ap (λ (p : CallerPass D). p.caller) passes ∙ caller-with_all_ended gone (taken seats') ∙ gone_here.1,
           ap length ended ∙ length-map (taken seats') (λ seat. ended_of seat.pass)
-              ∙ PairsFrom-length (IsServed left source_faults held sink_faults coming limit first lock start here fixed fresh) 1 ends
+              ∙ PairsFrom-length (IsServed J left source_faults held sink_faults coming limit first lock start here fixed fresh) 1 ends
               (taken seats') served ∙ sym splits,
         )
 
@@ -346,20 +372,20 @@ module _ {S K C B D : Type 0} (left : S → Option (List ℕ)) (source_faults : 
                 (ap (λ (p : CallerPass D). p.seen) is_split ∙ fresh) ticks.looked;
           }
 
-          known : AllByRecursion (λ seat. IsKnown left source_faults held sink_faults coming limit first lock start here fixed fresh
+          known : AllByRecursion (λ seat. IsKnown J left source_faults held sink_faults coming limit first lock start here fixed fresh
               history (ended_of seat.pass)) (taken seats')
-          known = each_ended (IsKnown left source_faults held sink_faults coming limit first lock start here fixed fresh history)
+          known = each_ended (IsKnown J left source_faults held sink_faults coming limit first lock start here fixed fresh history)
               (taken seats') (λ pass inside.
               let among = subst (λ l. Contains l pass) (sym ended) inside in (closed.own pass among, closed.seen pass among))
 
           abbrev results : List (SessionResult S K C)
-          results = results_of left source_faults held sink_faults coming limit first lock start here fixed fresh ends (taken seats')
+          results = results_of J left source_faults held sink_faults coming limit first lock start here fixed fresh ends (taken seats')
 
-          told : {A : Type 0} (of_result : SessionResult S K C → A) (of_seat : Seat S K C (DatabaseView D) → A)
-              → ((end : End S K C) (seat : Seat S K C (DatabaseView D))
-              → of_result (result_for left source_faults held sink_faults coming limit first lock start here fixed fresh end seat)
+          told : {A : Type 0} (of_result : SessionResult S K C → A) (of_seat : Seat S K C (DatabaseView D) J → A)
+              → ((end : End S K C) (seat : Seat S K C (DatabaseView D) J)
+              → of_result (result_for J left source_faults held sink_faults coming limit first lock start here fixed fresh end seat)
               ≡ of_seat seat) → map of_result results ≡ map of_seat (taken seats')
-          told of_result of_seat same = seats_of_results left source_faults held sink_faults coming limit first lock start here fixed
+          told of_result of_seat same = seats_of_results J left source_faults held sink_faults coming limit first lock start here fixed
               fresh of_result of_seat same 1 ends (taken seats') served
 
           pub AreServed-of : AreServed left source_faults held sink_faults coming due tells faults limit first ends ends' ticker ticker'
@@ -369,11 +395,11 @@ module _ {S K C B D : Type 0} (left : S → Option (List ℕ)) (source_faults : 
                 leads = subst (λ v. Leads (opened v) history value.database.state) same_first underway.leads;
                 adds = subst (λ v. AddsUp tells faults history v value.database) same_first underway.adds;
                 results = results;
-                old = ends_of_results left source_faults held sink_faults coming limit first lock start here fixed fresh 1 ends
+                old = ends_of_results J left source_faults held sink_faults coming limit first lock start here fixed fresh 1 ends
                     (taken seats') served;
                 new = told (λ result. result.new) (λ seat. seat.end) (λ end seat. refl) ∙ sym are_left.ends_are;
                 turned = told (λ result. result.turns) (λ seat. seat.turns) (λ end seat. refl) ∙ sym are_left.turns_are;
-                each = results_from left source_faults held sink_faults coming limit first lock start here fixed fresh history 1 ends
+                each = results_from J left source_faults held sink_faults coming limit first lock start here fixed fresh history 1 ends
                     (taken seats') served known;
                 ticked = looked;
                 callers = subst (λ n. AllByRecursion (λ event. event.caller ≤ n) history) splits
@@ -381,6 +407,53 @@ module _ {S K C B D : Type 0} (left : S → Option (List ℕ)) (source_faults : 
                 is_status = are_left.status_is
                     ∙ ap status_of_all (sym (told (λ result. result.how) (λ seat. seat.how) (λ end seat. refl)));
               })
+
+  -- what came of all sessions over how a database began came of them over the database
+  pub AreServed-begun : (ends ends' : List (End S K C)) (ticker ticker' : Ticker B C) (turns : List (List Turn)) (v : DatabaseView D)
+      (status : ℕ)
+      → AreServed left source_faults held sink_faults coming due tells faults limit (start_of first) ends ends' ticker ticker' turns v
+      status
+      → AreServed left source_faults held sink_faults coming due tells faults limit first ends ends' ticker ticker' turns v status
+  AreServed-begun ends ends' ticker ticker' turns v status served = record {
+    leads = served.leads;
+    adds = AddsUp-begun tells faults v.events first v served.adds;
+    results = served.results;
+    old = served.old;
+    new = served.new;
+    turned = served.turned;
+    each = served.each;
+    ticked = served.ticked;
+    callers = served.callers;
+    is_status = served.is_status;
+  }
+
+  -- what came of all sessions over a database whose readers were handed out came of them over the database
+  pub AreServed-handed : (given : DatabaseView D) → given ≡ record first { readers = [] } → (ends ends' : List (End S K C))
+      (ticker ticker' : Ticker B C) (turns : List (List Turn)) (v : DatabaseView D) (status : ℕ)
+      → AreServed left source_faults held sink_faults coming due tells faults limit given ends ends' ticker ticker' turns v status
+      → AreServed left source_faults held sink_faults coming due tells faults limit first ends ends' ticker ticker' turns v status
+  AreServed-handed given is ends ends' ticker ticker' turns v status all =
+      let served : AreServed left source_faults held sink_faults coming due tells faults limit (record first { readers = [] }) ends ends'
+      ticker ticker' turns v status =
+      subst (λ f. AreServed left source_faults held sink_faults coming due tells faults limit f ends ends' ticker ticker' turns v status) is
+      all in
+      record {
+        leads = served.leads;
+        adds = record {
+          same = record { opening = served.adds.same.opening; users = served.adds.same.users };
+          goes = served.adds.goes;
+          causes = served.adds.causes;
+          counted = served.adds.counted;
+        };
+        results = served.results;
+        old = served.old;
+        new = served.new;
+        turned = served.turned;
+        each = served.each;
+        ticked = served.ticked;
+        callers = served.callers;
+        is_status = served.is_status;
+      }
 
   -- no session began
   abbrev none_for : End S K C → SessionResult S K C
@@ -425,13 +498,14 @@ module _ {S K C B D : Type 0} (left : S → Option (List ℕ)) (source_faults : 
       → v ≡ first
       → AreServed left source_faults held sink_faults coming due tells faults limit first ends ends' ticker ticker' turns v status
   AreServed-none ends ends' ticker ticker' turns v status none starts unserved same_ends same_ticker same =
-      let underway : IsUnderway tells faults (record { first = first; database = v }) =
-      subst (λ (w : DatabaseView D). IsUnderway tells faults (record { first = first; database = w })) (sym same)
-      (IsUnderway-none tells faults first first refl none starts) in
+      let adds : AddsUp tells faults v.events first v =
+      subst (λ (w : DatabaseView D). AddsUp tells faults w.events first w) (sym same)
+      (subst (λ l. AddsUp tells faults l first first) (sym none) (AddsUp-none tells faults first)) in
       let empty : v.events ≡ [] = ap (λ (w : DatabaseView D). w.events) same ∙ none in
       record {
-        leads = underway.leads;
-        adds = underway.adds;
+        leads = subst (λ (w : DatabaseView D). Leads (opened first) w.events w.state) (sym same)
+            (subst (λ l. Leads (opened first) l first.state) (sym none) starts);
+        adds = adds;
         results = map none_for ends;
         old = ends_of_none ends;
         new = ends_left ends ∙ sym same_ends;

@@ -1,17 +1,37 @@
--- How a history grows by what a caller asks, and one session over a part of it. This project's own.
-use Rattle.std.specs.Prelude.{◌≡◌, ◌≢◌, ℕ, ◌+◌, List, [], ◌∷◌, ◌++◌, length, max, false, Option}
+-- How what is known of a run grows by what a caller asks, and one session over a part of a run. This project's own.
+use Rattle.std.specs.Prelude.{◌≡◌, ◌≢◌, ◌≤◌, ℕ, ◌+◌, List, [], ◌∷◌, ◌++◌, length, max, true, false, Option}
 use Rattle.std.specs.List.{AllByRecursion}
 use Rattle.commands.specs.declared.command.Command.{Command}
+use Rattle.commands.specs.declared.command.Command.TheVariants.{ShowActive, ShowCommits}
+use Rattle.commit_ledger.specs.Kept.{Kept, active_of, is_revert_due}
+use Rattle.commit_ledger.specs.Listing.{IsListing}
+use Rattle.config_core.specs.declared.reply.Reply.{Reply}
+use Rattle.config_core.specs.declared.reply.Reply.TheVariants.{Text}
+use Rattle.config_core.specs.Showing.{IsShow}
 use Rattle.config_core.specs.State.{State}
+use Rattle.config_db.specs.declared.answer.Answered.{Answered}
+use Rattle.config_db.specs.declared.answer.Answered.TheVariants.{Kept as Done, NoMemory as Wanting}
 use Rattle.session_history.specs.declared.history.Happened.{Happened}
 use Rattle.session_history.specs.Events.{IsAsked, Leads, is_command, places_of}
+use Rattle.session_history.specs.Kept.{WasKept}
 use Rattle.session_shell.specs.declared.door.Given0.{Given0}
-use Rattle.session_shell.specs.declared.door.Given0.TheVariants.{Kept, Seen, NoMemory}
+use Rattle.session_shell.specs.declared.door.Given0.TheVariants.{Kept as KeptAt, Seen, NoMemory}
 use Rattle.session_shell.specs.declared.end.End.{End}
 use Rattle.session_shell.specs.declared.turn.How.{How}
 use Rattle.session_shell.specs.declared.turn.Turn.{Turn}
 use Rattle.session_shell.specs.Opened.{end_view}
+use Rattle.session_shell.specs.Shows.{IsActiveShow}
 use Rattle.session_shell.specs.Transcript.{IsSession}
+
+-- what a caller knows of a run: the events up to its last turn, and how many entries the newest list of commits had that it was
+-- answered from
+pub record Known : Type 0 where
+  pub events : List Happened
+  pub front : ℕ
+
+-- what is known before the first answer
+abbrev pub known_first : State → List Happened → Known
+known_first opening events = record { events = events; front = opening.kept.count }
 
 -- an event is a caller's, at that moment
 abbrev pub IsMade : ℕ → ℕ → Happened → Type 0
@@ -27,18 +47,16 @@ pub record Grows (opening : State) (caller answer : ℕ) (events events' : List 
   pub leads : Leads opening (events ++ others) before
   pub made : AllByRecursion (IsMade caller (max answer before.greatest)) own
 
--- what belongs to a caller's command at a clock's answer: its event at a place of the history, with the machine's reply;
--- nothing is answered from a snapshot
-abbrev pub Names : State → ℕ → List Happened → Command → ℕ → Given0 → Type 0
-Names opening caller events command answer (Kept place reply) = IsAsked opening events place caller answer command reply
-Names opening caller events command answer (Seen front reply) = ⊥
-Names opening caller events command answer NoMemory = Unit {0}
+-- what belongs to a caller's command at a clock's answer: its event at a place of the history, with the machine's reply
+abbrev pub HasEvent : State → ℕ → List Happened → Command → ℕ → Answered → Type 0
+HasEvent opening caller events command answer (Done place reply) = IsAsked opening events place caller answer command reply
+HasEvent opening caller events command answer Wanting = Unit {0}
 
 -- no event is a command
 abbrev pub NoCommand : List Happened → Type 0
 NoCommand events = AllByRecursion (λ event. is_command event.event ≡ false) events
 
--- a turn's own events are a settling or a revert, and then, where it was given, the command, which is the last event
+-- a turn's own events are a settling or a revert, and then, where it was answered, the command, which is the last event
 pub record EndsAt (place : ℕ) (own events : List Happened) : Type 0 where
   pub front : List Happened
   pub last : Happened
@@ -46,34 +64,95 @@ pub record EndsAt (place : ℕ) (own events : List Happened) : Type 0 where
   pub no_command : NoCommand front
   pub at_end : length events ≡ place + 1
 
-abbrev pub IsTurn : Given0 → List Happened → List Happened → Type 0
-IsTurn (Kept place reply) own events = EndsAt place own events
-IsTurn (Seen front reply) own events = ⊥
-IsTurn NoMemory own events = NoCommand own
+abbrev pub IsTurn : Answered → List Happened → List Happened → Type 0
+IsTurn (Done place reply) own events = EndsAt place own events
+IsTurn Wanting own events = NoCommand own
 
--- the places of the events that were given
-abbrev pub places_given : Given0 → List ℕ
-places_given (Kept place reply) = place ∷ []
-places_given (Seen front reply) = []
-places_given NoMemory = []
+-- the places of the events that were answered
+abbrev pub places_answered : Answered → List ℕ
+places_answered (Done place reply) = place ∷ []
+places_answered Wanting = []
 
--- how a history follows after one ask of a caller
-pub record Follows (opening : State) (caller : ℕ) (events : List Happened) (command : Command) (answer : ℕ)
-    (given : Given0) (events' : List Happened) : Type 0 where
+-- how a history follows after one turn of a caller
+pub record FollowsTurn (opening : State) (caller : ℕ) (events : List Happened) (command : Command) (answer : ℕ)
+    (answered : Answered) (events' : List Happened) : Type 0 where
   pub grows : Grows opening caller answer events events'
-  pub named : Names opening caller events' command answer given
-  pub turn : IsTurn given grows.own events'
-  pub places : places_of caller events' ≡ places_of caller events ++ places_given given
+  pub named : HasEvent opening caller events' command answer answered
+  pub turn : IsTurn answered grows.own events'
+  pub places : places_of caller events' ≡ places_of caller events ++ places_answered answered
+
+-- what is shown of a list of commits that is kept
+abbrev pub ShowsKept : Kept → Command → Reply → Type 0
+ShowsKept kept (ShowActive words form) reply = IsShow (active_of kept) [] words form reply
+ShowsKept kept ShowCommits reply = (text : List ℕ) × (reply ≡ Text text) × IsListing kept text
+ShowsKept kept command reply = ⊥
+
+-- a list of so many entries was kept at some moment of the run
+abbrev pub IsKeptThen : State → List Happened → ℕ → Kept → Type 0
+IsKeptThen opening final front kept = WasKept opening final kept × (kept.count ≡ front)
+
+-- what belongs to a show that was answered without an event: a list of so many entries that was kept at some moment of the run
+pub record HasView (opening : State) (final : List Happened) (command : Command) (front : ℕ) (reply : Reply) : Type 0 where
+  pub kept : Kept
+  pub was_kept : IsKeptThen opening final front kept
+  pub shows : ShowsKept kept command reply
+
+-- at some moment of the run, no earlier than what had been answered from, a list was kept whose deadline has come at the answer
+-- of the clock
+pub record HasMissed (opening : State) (final : List Happened) (least answer : ℕ) : Type 0 where
+  pub kept : Kept
+  pub was_kept : WasKept opening final kept
+  pub reached : least ≤ kept.count
+  pub due : is_revert_due kept answer ≡ true
+
+-- a command was answered by an event, and what is kept behind it was answered from; a show takes a turn only for a missed deadline
+pub record FollowsKept (opening : State) (caller : ℕ) (final : List Happened) (d : Known) (command : Command) (answer place : ℕ)
+    (reply : Reply) (e : Known) : Type 0 where
+  pub turn : FollowsTurn opening caller d.events command answer (Done place reply) e.events
+  pub after : State
+  pub leads : Leads opening e.events after
+  pub front : e.front ≡ max d.front after.kept.count
+  pub missed : IsActiveShow command → HasMissed opening final d.front answer
+
+-- a show was answered from a list that was kept at some moment of the run, no earlier than what had been answered from; it had
+-- no deadline that has come at the answer of the clock
+pub record FollowsSeen (opening : State) (final : List Happened) (d : Known) (command : Command) (answer front : ℕ)
+    (reply : Reply) (e : Known) : Type 0 where
+  pub same : e.events ≡ d.events
+  pub reached : d.front ≤ front
+  pub is_front : e.front ≡ front
+  pub kept : Kept
+  pub was_kept : IsKeptThen opening final front kept
+  pub shows : ShowsKept kept command reply
+  pub not_due : is_revert_due kept answer ≡ false
+
+-- memory was wanting for an answer
+pub record FollowsWanting (opening : State) (caller : ℕ) (d : Known) (command : Command) (answer : ℕ) (e : Known) : Type 0 where
+  pub turn : FollowsTurn opening caller d.events command answer Wanting e.events
+  pub front : e.front ≡ d.front
+
+-- what a caller knows of a run after one ask, where all the run's events are these
+abbrev pub Follows : State → ℕ → List Happened → Known → Command → ℕ → Given0 → Known → Type 0
+Follows opening caller final d command answer (KeptAt place reply) e = FollowsKept opening caller final d command answer place reply e
+Follows opening caller final d command answer (Seen front reply) e = FollowsSeen opening final d command answer front reply e
+Follows opening caller final d command answer NoMemory e = FollowsWanting opening caller d command answer e
+
+-- what belongs to a command: its event, or a list that was kept at some moment of the run
+abbrev pub Names : State → ℕ → List Happened → Known → Command → ℕ → Given0 → Type 0
+Names opening caller final d command answer (KeptAt place reply) =
+    HasEvent opening caller d.events command answer (Done place reply)
+Names opening caller final d command answer (Seen front reply) = HasView opening final command front reply
+Names opening caller final d command answer NoMemory = Unit {0}
 
 -- a session of a caller over a part of the events of a run, which has all events of that caller: its ends and its turns
 pub record HasSession {S K C : Type 0} (left : S → Option (List ℕ)) (held : K → Option (List ℕ)) (faults : K → ℕ)
     (coming : C → Option (ℕ → ℕ)) (opening : State) (caller limit : ℕ) (events : List Happened) (how : How)
     (turns : List Turn) (old new : End S K C) : Type 0 where
   pub before : List Happened
-  pub after : List Happened
+  pub after : Known
   pub later : List Happened
-  pub begins : events ≡ after ++ later
+  pub begins : events ≡ after.events ++ later
   pub others_first : AllByRecursion (λ event. event.caller ≢ caller) before
   pub none_later : AllByRecursion (λ event. event.caller ≢ caller) later
-  pub session : IsSession (Follows opening caller) limit how (left old.source) (left new.source) before after
-      (end_view coming held faults old []) (end_view coming held faults new turns)
+  pub session : IsSession (Follows opening caller events) limit how (left old.source) (left new.source)
+      (known_first opening before) after (end_view coming held faults old []) (end_view coming held faults new turns)

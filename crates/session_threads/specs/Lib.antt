@@ -1,7 +1,10 @@
 pub mod Adding
+pub mod Begun
+pub mod Gates
 pub mod History
 pub mod Looks
 pub mod Naming
+pub mod Passes
 pub mod Results
 pub mod Rows
 pub mod Served

@@ -1,41 +1,65 @@
--- What a pass names stays named as it goes on, and what was given for a command is what a door may give.
-use Rattle.std.specs.Prelude.{◌≡◌, ℕ, List, ◌++◌, Some}
-use Rattle.std.proofs.Common.{sym, subst, ◌∙◌}
+-- What a pass and its reader name stays named as they go on, and what was given for a command is what a door may give.
+use Rattle.std.specs.Prelude.{ℕ, List, [], ◌++◌}
+use Rattle.std.proofs.Common.{sym, ap, subst, ◌∙◌, append_assoc}
+use Rattle.std.proofs.lemmas.List.{append-nil}
+use mathlib.Core.List.{IsPrefix}
 use Rattle.commands.specs.declared.command.Command.{Command}
-use Rattle.config_core.specs.State.{State}
+use Rattle.config_db.specs.declared.answer.Answered.TheVariants.{Kept as Done}
 use Rattle.config_db.specs.View.{opened}
-use Rattle.session_history.specs.declared.history.Happened.{Happened}
 use Rattle.session_history.proofs.EventLemmas.{IsAsked-append}
 use Rattle.session_shell.specs.declared.door.Given0.{Given0}
 use Rattle.session_shell.specs.declared.door.Given0.TheVariants.{Kept as KeptAt, Seen, NoMemory}
 use Rattle.session_shell.specs.Shows.{SeesShow}
-use Rattle.session_threads.specs.History.{Names}
-use Rattle.session_threads.specs.Sessions.{CallerPass, FollowsIn, NamesIn}
+use Rattle.session_threads.specs.Gates.{FollowsIn, GateView, NamesIn}
+use Rattle.session_threads.specs.History.{HasEvent}
 
-names_longer : (opening : State) (caller : ℕ) (events more : List Happened) (command : Command) (answer : ℕ) (given : Given0)
-    → Names opening caller events command answer given → Names opening caller (events ++ more) command answer given
-names_longer opening caller events more command answer (KeptAt place reply) named =
-    IsAsked-append opening events more place caller answer command reply named
-names_longer opening caller events more command answer (Seen front reply) named = absurd named
-names_longer opening caller events more command answer NoMemory named = tt
+-- a list begins with itself
+pub IsPrefix-same : {A : Type 0} (xs : List A) → IsPrefix xs xs
+IsPrefix-same xs = ([], append-nil xs)
+
+-- what begins a beginning of a list begins it
+pub IsPrefix-then : {A : Type 0} (xs ys zs : List A) → IsPrefix xs ys → IsPrefix ys zs → IsPrefix xs zs
+IsPrefix-then xs ys zs front back = (
+  front.0 ++ back.0,
+  sym (append_assoc xs front.0 back.0) ∙ ap (λ l. l ++ back.0) front.1 ∙ back.1,
+)
 
 module _ {D : Type 0} where
-  pub names_given : (pass pass' : CallerPass D) (command : Command) (answer : ℕ) (given : Given0)
-      → FollowsIn pass command answer given pass' → NamesIn pass' command answer given
-  names_given pass pass' command answer given goes = λ first fixed.
-      subst (λ c. Names (opened first) c pass'.seen command answer given) (sym goes.goes.caller)
-      (goes.follows first (sym goes.goes.fixed ∙ fixed)).named
+  pub names_given : (d e : GateView D) (command : Command) (answer : ℕ) (given : Given0)
+      → FollowsIn d command answer given e → NamesIn e command answer given
+  names_given d e command answer (KeptAt place reply) goes = λ first fixed.
+      subst (λ c. HasEvent (opened first) c e.pass.seen command answer (Done place reply)) (sym goes.goes.caller)
+      (goes.comes.turns first (sym goes.goes.fixed ∙ fixed)).turn.named
+  names_given d e command answer (Seen front reply) goes = record {
+    list = e.reader.list;
+    view = goes.comes.answers.read.view;
+    begins = IsPrefix-same e.reader.list;
+    is_last = goes.comes.answers.read.is_last;
+    is_front = goes.comes.answers.is_front;
+    shows = goes.comes.answers.shows;
+  }
+  names_given d e command answer NoMemory goes = tt
 
-  pub keeps_names : (pass pass' : CallerPass D) (command : Command) (answer : ℕ) (given : Given0)
-      → FollowsIn pass command answer given pass' → (asked : Command) (when : ℕ) (was : Given0)
-      → NamesIn pass asked when was → NamesIn pass' asked when was
-  keeps_names pass pass' command answer given goes asked when was named = λ first fixed.
-      let before : pass.fixed ≡ Some first = sym goes.goes.fixed ∙ fixed in
-      let grows = (goes.follows first before).grows in
-      subst (λ c. Names (opened first) c pass'.seen asked when was) (sym goes.goes.caller)
-      (subst (λ events. Names (opened first) pass.caller events asked when was) (sym grows.grown)
-      (names_longer (opened first) pass.caller pass.seen (grows.others ++ grows.own) asked when was (named first before)))
+  pub keeps_names : (d e : GateView D) (command : Command) (answer : ℕ) (given : Given0)
+      → FollowsIn d command answer given e → (asked : Command) (when : ℕ) (was : Given0)
+      → NamesIn d asked when was → NamesIn e asked when was
+  keeps_names d e command answer given goes asked when (KeptAt place reply) named = λ first fixed.
+      subst (λ c. HasEvent (opened first) c e.pass.seen asked when (Done place reply)) (sym goes.goes.caller)
+      (subst (λ events. HasEvent (opened first) d.pass.caller events asked when (Done place reply)) goes.goes.later.1
+      (IsAsked-append (opened first) d.pass.seen goes.goes.later.0 place d.pass.caller when asked reply
+      (named first (sym goes.goes.fixed ∙ fixed))))
+  keeps_names d e command answer given goes asked when (Seen front reply) named = record {
+    list = named.list;
+    view = named.view;
+    begins = IsPrefix-then named.list d.reader.list e.reader.list named.begins goes.reads.later;
+    is_last = named.is_last;
+    is_front = named.is_front;
+    shows = named.shows;
+  }
+  keeps_names d e command answer given goes asked when NoMemory named = tt
 
-  pub shows_given : (pass pass' : CallerPass D) (command : Command) (answer : ℕ) (given : Given0)
-      → FollowsIn pass command answer given pass' → SeesShow command given
-  shows_given pass pass' command answer given goes = goes.shows
+  pub shows_given : (d e : GateView D) (command : Command) (answer : ℕ) (given : Given0)
+      → FollowsIn d command answer given e → SeesShow command given
+  shows_given d e command answer (KeptAt place reply) goes = tt
+  shows_given d e command answer (Seen front reply) goes = goes.comes.is_show
+  shows_given d e command answer NoMemory goes = tt

@@ -1,6 +1,8 @@
 -- The database under the lock, and what comes of all sessions over it. This project's own.
 use Rattle.std.specs.Prelude.{◌≡◌, ◌≤◌, ◌+◌, ℕ, Bool, List, [], ◌∷◌, length, map, Option}
 use Rattle.std.specs.List.{AllByRecursion}
+use Rattle.active_snapshot.specs.States.{ReaderState, first_read}
+use Rattle.commit_ledger.specs.Kept.{Kept}
 use Rattle.config_db.specs.View.{DatabaseView, opened}
 use Rattle.session_history.specs.Events.{Leads}
 use Rattle.session_shell.specs.declared.end.End.{End}
@@ -20,6 +22,10 @@ pub record IsUnderway {D : Type 0} (tells : D → Bool) (faults : D → ℕ) (v 
   pub fresh : v.first.events ≡ []
   pub leads : Leads (opened v.first) v.database.events v.database.state
   pub adds : AddsUp tells faults v.database.events v.first v.database
+
+-- there is a reader for each of so many sessions, and each was told of the opening's list alone
+abbrev pub HasReaders : Kept → ℕ → List ReaderState → Type 0
+HasReaders opening count readers = (count ≤ length readers) × AllByRecursion (λ reader. reader ≡ first_read opening) readers
 
 -- what holds of each of a list, by its number, from a number on
 abbrev pub EachFrom : {A : Type 0} → (ℕ → A → Type 0) → ℕ → List A → Type 0

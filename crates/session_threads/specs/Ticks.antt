@@ -6,7 +6,7 @@ use Rattle.config_db.specs.View.{DatabaseView, opened}
 use Rattle.session_history.specs.declared.history.Happened.{Happened}
 use Rattle.session_threads.specs.declared.ticking.Ticker.{Ticker}
 use Rattle.session_threads.specs.Looks.{AreLooks, HasLooked}
-use Rattle.session_threads.specs.Sessions.{CallerPass, KnowsOwn, WentOn}
+use Rattle.session_threads.specs.Passes.{CallerPass, KnowsOwn, WentOn}
 
 -- the pass of the ticker, which is caller 0
 pub record IsFirst {D : Type 0} (lock : TableId) (first : DatabaseView D) (pass : CallerPass D) : Type 0 where

@@ -1,19 +1,22 @@
 //! What is done in one turn: a command is asked, the time is looked at, a session ends.
 
-ghost use Rattle.std.specs.Prelude.{◌≡◌, ◌<◌, ◌≤◌, length};
+ghost use Rattle.std.specs.Prelude.{◌≡◌, ◌<◌, ◌≤◌, length, IfSome};
+ghost use Rattle.std.specs.Arc.{arc_value};
+ghost use Rattle.active_snapshot.specs.Views.{IsLast};
 ghost use Rattle.commands.specs.Sound.{IsSound};
 ghost use Rattle.config_db.specs.View.{opened};
-ghost use Rattle.session_threads.specs.Adding.{given_of};
+ghost use Rattle.session_threads.specs.Gates.{TellsKept};
 ghost use Rattle.session_threads.specs.Looks.{LooksAlone};
-ghost use Rattle.session_threads.specs.Sessions.{FollowsAlone};
+ghost use Rattle.session_threads.specs.Passes.{FollowsAlone};
 
 use crate::served::Served;
+use active_snapshot::{Naming, Shown, SnapNote};
 use cfg_base::Moment;
 use commands::Command;
 use config_db::Answered;
 use disk_model::Disk;
-use session_shell::Given0;
-use std::sync::Wait;
+use std::alloc::Global;
+use std::sync::{Arc, Wait};
 use turn_lock::Deed;
 
 /// Asks a command, at an answer of the caller's clock.
@@ -23,27 +26,42 @@ pub(crate) struct Ask {
     pub command: Command,
 }
 
-/// What the database answered, as a door gives it.
-fn given(answered: Answered) -> Given0
-    ensures { result ≡ given_of answered }
-{
-    match answered {
-        Answered::Kept { place, reply } => Given0::Kept { place, reply },
-        Answered::NoMemory => Given0::NoMemory,
-    }
+/// What the database answered, how far its list of commits goes behind that, and the last view of it.
+#[derive(Drop)]
+pub(crate) struct Asked<J: Naming> {
+    pub answered: Answered,
+    pub note: SnapNote<J>,
+    /// None where there was no memory to count it once more.
+    pub view: Option<Arc<Shown, Global>>,
 }
 
-impl<D: Disk> Deed<Served<D>> for Ask {
-    type Answer = Given0;
+/// Counts a view once more, where there is memory for it.
+fn again(view: &Arc<Shown, Global>) -> Option<Arc<Shown, Global>>
+    ensures { IfSome result (λ copy. arc_value copy ≡ arc_value view.now) }
+{
+    Arc::try_clone(view).ok()
+}
+
+impl<D: Disk, J: Naming> Deed<Served<D, J>> for Ask {
+    type Answer = Asked<J>;
 
     ghost may = { λ deed caller first. IsSound deed.command × (0 < caller) × (caller ≤ length first.users) };
 
-    ghost says = { λ deed caller first before after given.
-        FollowsAlone first caller before deed.command deed.moment given after };
+    ghost says = { λ deed caller first before after asked.
+        FollowsAlone first caller before deed.command deed.moment asked.answered after
+        × (TellsKept (opened first) after asked.note.list
+        × IfSome asked.view (λ view. IsLast asked.note.list (arc_value view))) };
 
-    fn act<R: Wait>(self, _rt: &R, caller: u32, served: &mut Served<D>) -> Given0 {
+    fn act<R: Wait>(self, rt: &R, caller: u32, served: &mut Served<D, J>) -> Asked<J> {
         let Ask { moment, command } = self;
-        given(served.database.step(caller, moment, command))
+        let answered = served.database.step(rt, caller, moment, command);
+        let note = served.database.note();
+        let view = again(served.database.view());
+        Asked {
+            answered,
+            note,
+            view,
+        }
     }
 }
 
@@ -53,31 +71,44 @@ pub(crate) struct Look {
     pub moment: Moment,
 }
 
-impl<D: Disk> Deed<Served<D>> for Look {
+impl<D: Disk, J: Naming> Deed<Served<D, J>> for Look {
     type Answer = bool;
 
     ghost may = { λ deed caller first. caller ≡ 0 };
 
     ghost says = { λ deed caller first before after serves. LooksAlone (opened first) deed.moment before after };
 
-    fn act<R: Wait>(self, _rt: &R, _caller: u32, served: &mut Served<D>) -> bool {
-        let _looked = served.database.tick(self.moment);
+    fn act<R: Wait>(self, rt: &R, _caller: u32, served: &mut Served<D, J>) -> bool {
+        let _looked = served.database.tick(rt, self.moment);
         served.waiting > 0
     }
 }
 
-/// A session has ended.
+/// A session has ended; the first such turn of a session tells the ticker.
 #[derive(Drop)]
-pub(crate) struct Leave;
+pub(crate) struct Leave {
+    pub is_first: bool,
+}
 
-impl<D: Disk> Deed<Served<D>> for Leave {
-    type Answer = ();
+/// How many sessions have not ended, behind a turn of one that has.
+fn waiting_after(waiting: u32, is_first: bool) -> u32 {
+    if is_first {
+        waiting.saturating_sub(1)
+    } else {
+        waiting
+    }
+}
+
+impl<D: Disk, J: Naming> Deed<Served<D, J>> for Leave {
+    type Answer = SnapNote<J>;
 
     ghost may = { λ deed caller first. Unit {0} };
 
-    ghost says = { λ deed caller first before after nothing. after ≡ before };
+    ghost says = { λ deed caller first before after note.
+        (after ≡ before) × TellsKept (opened first) after note.list };
 
-    fn act<R: Wait>(self, _rt: &R, _caller: u32, served: &mut Served<D>) {
-        served.waiting = served.waiting.saturating_sub(1);
+    fn act<R: Wait>(self, _rt: &R, _caller: u32, served: &mut Served<D, J>) -> SnapNote<J> {
+        served.waiting = waiting_after(served.waiting, self.is_first);
+        served.database.note()
     }
 }

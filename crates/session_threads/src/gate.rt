@@ -1,68 +1,209 @@
-//! The lock with the pass of the caller that asks: the door of that caller's session.
+//! The lock with the pass and the reader of the caller that asks: the door of that caller's session. A show of the active
+//! configuration or of the commits is answered from the reader, without a turn.
 
-ghost use Rattle.std.specs.Prelude.{◌≡◌};
+ghost use Rattle.std.specs.Prelude.{◌≡◌, false, true, IfOk, IfSome};
+ghost use Rattle.std.specs.Arc.{arc_value};
+ghost use Rattle.active_snapshot.specs.Views.{IsLast};
+ghost use Rattle.commands.specs.Sound.{IsSound};
 ghost use Rattle.config_db.specs.View.{DatabaseView};
+ghost use Rattle.session_shell.specs.Shows.{IsActiveShow};
+ghost use Rattle.session_threads.specs.Adding.{given_of};
+ghost use Rattle.session_threads.specs.Gates.{FollowsIn, GivesView, Learns, LooksIn, NamesIn, ReadsShow, TookIn};
+ghost use Rattle.session_threads.specs.History.{ShowsKept};
 ghost use Rattle.session_threads.specs.Naming.{keeps_names, names_given, shows_given};
-ghost use Rattle.session_threads.specs.Sessions.{FollowsIn, IsReady, NamesIn};
+ghost use Rattle.session_threads.specs.Passes.{IsReady};
 
-use crate::deeds::Ask;
+use crate::begun::Begun;
+use crate::deeds::{Ask, Asked};
 use crate::served::Served;
-use cfg_base::Moment;
+use active_snapshot::{Naming, Read, Shown, SnapNote, SnapReader};
+use cfg_base::{Moment, NoMemory};
 use commands::Command;
-use config_db::Database;
+use config_core::{Reply, show_active};
+use config_db::Answered;
 use disk_model::Disk;
 use session_history::Happened;
 use session_shell::{Door, Given0};
+use std::alloc::Global;
 use std::marker::Model;
-use std::sync::Wait;
+use std::sync::{Arc, Wait};
 use turn_lock::{Pass, Turns};
 
-/// The lock, and the pass of the caller that asks.
-pub(crate) struct Gate<'a, D: Disk> {
-    lock: &'a Turns<Served<D>>,
-    pass: Pass<Happened, Database<D>>,
+/// The lock, and the pass and the reader of the caller that asks.
+pub(crate) struct Gate<'a, D: Disk, J: Naming> {
+    alloc: Global,
+    lock: &'a Turns<Served<D, J>>,
+    pass: Pass<Happened, Begun<D>>,
+    reader: SnapReader<J>,
 }
 
-impl<'a, D: Disk> Model for Gate<'a, D> {
+impl<'a, D: Disk, J: Naming> Model for Gate<'a, D, J> {
     ghost use Rattle.std.specs.Coded.{codes};
     ghost use Rattle.cfg_tree.specs.Statements.{statements_code};
     ghost use Rattle.config_db.specs.View.{DatabaseView};
-    ghost use Rattle.session_threads.specs.Sessions.{CallerPass, IsReady};
+    ghost use Rattle.session_threads.specs.Gates.{GateView};
+    ghost use Rattle.session_threads.specs.Passes.{IsReady};
 
-    ghost Value = { CallerPass D };
+    ghost Value = { GateView D };
 
     ghost coded = { Prim.hlevel (codes, statements_code) };
 
-    ghost view = { λ g. g.pass };
+    ghost view = { λ g. record { pass = g.pass; reader = g.reader } };
 
     ghost invariant = { λ g. (first : DatabaseView D) × IsReady g.lock.now first g.pass };
 }
 
-impl<'a, D: Disk> Gate<'a, D> {
-    /// The door of the caller whose pass it is.
-    pub(crate) fn of(lock: &'a Turns<Served<D>>, pass: Pass<Happened, Database<D>>) -> Gate<'a, D>
-        requires { (first : DatabaseView D) × IsReady lock.now first pass }
-        ensures { result ≡ pass }
-    {
-        Gate { lock, pass }
-    }
-
-    /// The pass.
-    pub(crate) fn into_pass(self) -> Pass<Happened, Database<D>>
-        ensures { result ≡ self.entry }
-    {
-        let Gate { lock: _, pass } = self;
-        pass
+/// Whether a command shows the active configuration or the commits.
+fn is_active_show(command: &Command) -> bool
+    ensures shows { result ≡ true → IsActiveShow command.now }
+    ensures other { result ≡ false → IsActiveShow command.now → ⊥ }
+{
+    match command {
+        Command::ShowActive { .. } | Command::ShowCommits => true,
+        _ => false,
     }
 }
 
-impl<'a, D: Disk> Door for Gate<'a, D> {
+/// What a view says to a show.
+fn shown_in(alloc: Global, view: &Shown, command: &Command) -> Result<Reply, NoMemory>
+    requires { IsActiveShow command.now }
+    ensures { IfOk result (λ reply. ShowsKept view.now command.now reply) }
+{
+    match command {
+        Command::ShowActive { .. } => show_active(alloc, view.active(), view.full(), command),
+        Command::ShowCommits => Ok(Reply::Text(view.history_lines(alloc)?)),
+        _ => unreachable!(),
+    }
+}
+
+/// The same, as a door gives it.
+fn given_in(alloc: Global, front: u64, view: &Shown, command: &Command) -> Given0
+    requires { IsActiveShow command.now }
+    ensures { GivesView command.now front view.now result }
+{
+    match shown_in(alloc, view, command) {
+        Ok(reply) => Given0::Seen { front, reply },
+        Err(NoMemory) => Given0::NoMemory,
+    }
+}
+
+/// Asks a reader for a show. It has no answer where a deadline has come.
+fn read_show<J: Naming>(
+    alloc: Global,
+    reader: &mut SnapReader<J>,
+    moment: Moment,
+    command: &Command,
+) -> Option<Given0>
+    requires { IsActiveShow command.now }
+    ensures { ReadsShow command.now moment result reader.old reader.new }
+{
+    match reader.read(moment) {
+        Ok(Read::At { front, view }) => Some(given_in(alloc, front, &view, command)),
+        Ok(Read::Due { .. }) => None,
+        Err(NoMemory) => Some(Given0::NoMemory),
+    }
+}
+
+/// Tells a reader what a command's turn told, where the command became an event.
+fn learn<J: Naming>(
+    reader: &mut SnapReader<J>,
+    answered: &Answered,
+    note: &SnapNote<J>,
+    view: Option<Arc<Shown, Global>>,
+)
+    requires { IfSome view (λ view. IsLast note.now.list (arc_value view)) }
+    ensures { Learns answered.now note.now.list reader.old reader.new }
+{
+    match answered {
+        Answered::Kept { .. } => reader.learn(note, view),
+        Answered::NoMemory => {}
+    }
+}
+
+/// What the database answered, as a door gives it.
+fn given(answered: Answered) -> Given0
+    ensures { result ≡ given_of answered }
+{
+    match answered {
+        Answered::Kept { place, reply } => Given0::Kept { place, reply },
+        Answered::NoMemory => Given0::NoMemory,
+    }
+}
+
+/// Lets go of a command that was answered without a turn.
+fn let_go(_command: Command) {}
+
+impl<'a, D: Disk, J: Naming> Gate<'a, D, J> {
+    /// The door of the caller whose pass it is.
+    pub(crate) fn of(
+        alloc: Global,
+        lock: &'a Turns<Served<D, J>>,
+        pass: Pass<Happened, Begun<D>>,
+        reader: SnapReader<J>,
+    ) -> Gate<'a, D, J>
+        requires { (first : DatabaseView D) × IsReady lock.now first pass }
+        ensures { result ≡ record { pass = pass; reader = reader } }
+    {
+        Gate {
+            alloc,
+            lock,
+            pass,
+            reader,
+        }
+    }
+
+    /// The pass and the reader.
+    pub(crate) fn into_parts(self) -> (Pass<Happened, Begun<D>>, SnapReader<J>)
+        ensures { self.entry ≡ record { pass = result.0; reader = result.1 } }
+    {
+        let Gate {
+            alloc: _,
+            lock: _,
+            pass,
+            reader,
+        } = self;
+        (pass, reader)
+    }
+
+    // Looks whether a command is answered without a turn.
+    fn look(&mut self, moment: Moment, command: &Command) -> Option<Given0>
+        ensures { LooksIn self.old command.now moment result self.new }
+    {
+        if is_active_show(command) {
+            read_show(self.alloc, &mut self.reader, moment, command)
+        } else {
+            None
+        }
+    }
+
+    // The turn of a command.
+    fn take_turn<R: Wait>(&mut self, rt: &R, moment: Moment, command: Command) -> Answered
+        requires { IsSound command }
+        ensures { TookIn self.old command moment result self.new }
+    {
+        let Asked {
+            answered,
+            note,
+            view,
+        } = self.lock.turn(rt, &mut self.pass, Ask { moment, command });
+        learn(&mut self.reader, &answered, &note, view);
+        answered
+    }
+}
+
+impl<'a, D: Disk, J: Naming> Door for Gate<'a, D, J> {
     ghost names = { NamesIn };
 
     ghost follows = { FollowsIn };
 
     fn ask<R: Wait>(&mut self, rt: &R, moment: Moment, command: Command) -> Given0 {
-        self.lock.turn(rt, &mut self.pass, Ask { moment, command })
+        match self.look(moment, &command) {
+            Some(given) => {
+                let_go(command);
+                given
+            }
+            None => given(self.take_turn(rt, moment, command)),
+        }
     }
 
     ghost named = { names_given };

@@ -7,6 +7,7 @@
 //! are taken (`turn_lock`).
 #![tactic(auto)]
 
+mod begun;
 mod deeds;
 mod gate;
 mod seat;

@@ -1,14 +1,16 @@
 //! One session, from its seat back to it.
 
-ghost use Rattle.std.specs.Prelude.{◌≡◌, Some};
+ghost use Rattle.std.specs.Prelude.{◌≡◌, true, Some};
 ghost use Rattle.config_db.specs.View.{DatabaseView};
-ghost use Rattle.session_threads.specs.Sessions.{IsReady, IsSeated, ServesOne, ServesSeat, result_of};
+ghost use Rattle.session_threads.specs.Passes.{CallerPass, IsReady, KnowsOwn, Waited};
+ghost use Rattle.session_threads.specs.Sessions.{CanServe, HasLeft, IsSeated, IsWithin, RunsOne, ServesOne, ServesSeat, gate_of, result_of};
 
+use crate::begun::Begun;
 use crate::deeds::Leave;
 use crate::gate::Gate;
 use crate::served::Served;
+use active_snapshot::{Naming, SnapReader, fronts_never_fall};
 use cfg_base::Limits;
-use config_db::Database;
 use disk_model::Disk;
 use io_edge::{Clock, Sink, Source};
 use session_history::Happened;
@@ -19,43 +21,46 @@ use std::sync::Wait;
 use turn_lock::{Pass, Turns};
 
 /// What a session is served with, and what came of it.
-pub(crate) struct Seat<S, K, C, F> {
+pub(crate) struct Seat<S, K, C, F, J: Naming> {
     pub pass: Pass<Happened, F>,
+    pub reader: SnapReader<J>,
     pub end: End<S, K, C>,
     pub how: How,
     pub turns: TurnList,
 }
 
 /// Runs the session of a seat. Without memory for it none begins.
-fn run_session<R: Wait, S: Source, K: Sink, C: Clock, D: Disk>(
+fn run_session<R: Wait, S: Source, K: Sink, C: Clock, D: Disk, J: Naming>(
     rt: &R,
     alloc: Global,
-    lock: &Turns<Served<D>>,
-    seat: Seat<S, K, C, Database<D>>,
+    lock: &Turns<Served<D, J>>,
+    seat: Seat<S, K, C, Begun<D>, J>,
     limits: Limits,
-) -> Seat<S, K, C, Database<D>>
+) -> Seat<S, K, C, Begun<D>, J>
     requires { (first : DatabaseView D) × IsReady lock.now first seat.pass }
-    ensures { (first : DatabaseView D) → seat.pass.fixed ≡ Some first
-        → ServesOne S.left S.faults K.held K.faults C.coming limits.input first seat.pass result.pass
+    ensures { RunsOne S.left S.faults K.held K.faults C.coming limits.input (gate_of seat) (gate_of result)
         (result_of seat result) }
 {
     let Seat {
         pass,
+        reader,
         end,
         how: _,
         turns: _,
     } = seat;
     match Session::new(alloc, pass.caller(), end, limits) {
         Ok(session) => {
-            let mut gate = Gate::of(lock, pass);
+            let mut gate = Gate::of(alloc, lock, pass, reader);
             let Ended {
                 number: _,
                 how,
                 end,
                 turns,
             } = session.run(rt, &mut gate);
+            let (pass, reader) = gate.into_parts();
             Seat {
-                pass: gate.into_pass(),
+                pass,
+                reader,
                 end,
                 how,
                 turns,
@@ -63,6 +68,7 @@ fn run_session<R: Wait, S: Source, K: Sink, C: Clock, D: Disk>(
         }
         Err(NoSession { end }) => Seat {
             pass,
+            reader,
             end,
             how: How::NoMemory,
             turns: TurnList::from(Vec::new(alloc)),
@@ -70,30 +76,69 @@ fn run_session<R: Wait, S: Source, K: Sink, C: Clock, D: Disk>(
     }
 }
 
+/// One turn of a session that has ended. It tells whether all that its reader has was kept by then.
+fn ask_leave<R: Wait, D: Disk, J: Naming>(
+    rt: &R,
+    lock: &Turns<Served<D, J>>,
+    pass: &mut Pass<Happened, Begun<D>>,
+    reader: &SnapReader<J>,
+    is_first: bool,
+) -> bool
+    requires { pass.old.lock ≡ lock.now }
+    ensures waited { (start : CallerPass D) → Waited start pass.old → Waited start pass.new }
+    ensures within { (first : DatabaseView D) → pass.old.fixed ≡ Some first → result ≡ true
+        → IsWithin first pass.new reader.now }
+{
+    let note = lock.turn(rt, pass, Leave { is_first });
+    reader.is_within(&note)
+}
+
+/// Takes turns until the database has kept all that a session's reader has: a view may be shown before the turn is passed on
+/// that has kept it.
+fn leave<R: Wait, D: Disk, J: Naming>(
+    rt: &R,
+    lock: &Turns<Served<D, J>>,
+    pass: &mut Pass<Happened, Begun<D>>,
+    reader: &SnapReader<J>,
+)
+    requires { (pass.old.lock ≡ lock.now) × KnowsOwn pass.old }
+    ensures { (first : DatabaseView D) → pass.old.fixed ≡ Some first → HasLeft first pass.old pass.new reader.now }
+{
+    let mut is_first = true;
+    for _ in rt.forever() {
+        if ask_leave(rt, lock, pass, reader, is_first) {
+            return;
+        }
+        is_first = false;
+    }
+    unreachable!()
+}
+
 /// Serves the session of a seat, and tells the ticker that it has ended.
-fn serve_one<R: Wait, S: Source, K: Sink, C: Clock, D: Disk>(
+fn serve_one<R: Wait, S: Source, K: Sink, C: Clock, D: Disk, J: Naming>(
     rt: &R,
     alloc: Global,
-    lock: &Turns<Served<D>>,
-    seat: Seat<S, K, C, Database<D>>,
+    lock: &Turns<Served<D, J>>,
+    seat: Seat<S, K, C, Begun<D>, J>,
     limits: Limits,
-) -> Seat<S, K, C, Database<D>>
-    requires { (first : DatabaseView D) × IsReady lock.now first seat.pass }
-    ensures { (first : DatabaseView D) → seat.pass.fixed ≡ Some first
+) -> Seat<S, K, C, Begun<D>, J>
+    requires { (first : DatabaseView D) × CanServe lock.now first (gate_of seat) }
+    ensures { (first : DatabaseView D) → CanServe lock.now first (gate_of seat)
         → ServesOne S.left S.faults K.held K.faults C.coming limits.input first seat.pass result.pass
         (result_of seat result) }
 {
+    fronts_never_fall();
     let mut seat = run_session(rt, alloc, lock, seat, limits);
-    lock.turn(rt, &mut seat.pass, Leave);
+    leave(rt, lock, &mut seat.pass, &seat.reader);
     seat
 }
 
 /// Serves the session of the seat at a place.
-pub(crate) fn serve_at<R: Wait, S: Source, K: Sink, C: Clock, D: Disk>(
+pub(crate) fn serve_at<R: Wait, S: Source, K: Sink, C: Clock, D: Disk, J: Naming>(
     rt: &R,
     alloc: Global,
-    lock: &Turns<Served<D>>,
-    place: &mut Option<Seat<S, K, C, Database<D>>>,
+    lock: &Turns<Served<D, J>>,
+    place: &mut Option<Seat<S, K, C, Begun<D>, J>>,
     limits: Limits,
 )
     requires { (first : DatabaseView D) × IsSeated lock.now first place.old }

@@ -2,25 +2,27 @@
 
 ghost use Rattle.std.specs.Prelude.{◌≡◌, []};
 ghost use Rattle.config_db.specs.View.{opened};
+ghost use Rattle.session_threads.specs.Begun.{start_of};
 ghost use Rattle.session_threads.specs.Served.{IsUnderway};
 
+use crate::begun::Begun;
+use active_snapshot::Naming;
 use config_db::Database;
 use disk_model::Disk;
 use session_history::Happened;
 use std::marker::Model;
-use std::snapshot::Snapshot;
 use turn_lock::Book;
 
 /// The database under the lock.
-pub(crate) struct Served<D: Disk> {
-    pub(crate) database: Database<D>,
-    /// What it was before its first turn.
-    first: Snapshot<Database<D>>,
+pub(crate) struct Served<D: Disk, J: Naming> {
+    pub(crate) database: Database<D, J>,
+    /// How it began.
+    first: Begun<D>,
     /// How many sessions have not ended.
     pub(crate) waiting: u32,
 }
 
-impl<D: Disk> Model for Served<D> {
+impl<D: Disk, J: Naming> Model for Served<D, J> {
     ghost use Rattle.std.specs.Coded.{codes};
     ghost use Rattle.cfg_tree.specs.Statements.{statements_code};
     ghost use Rattle.session_threads.specs.Served.{IsUnderway, ServedView};
@@ -29,15 +31,15 @@ impl<D: Disk> Model for Served<D> {
 
     ghost coded = { Prim.hlevel (codes, statements_code) };
 
-    ghost view = { λ s. record { first = s.first.value; database = s.database } };
+    ghost view = { λ s. record { first = s.first; database = s.database } };
 
-    ghost invariant = { λ s. IsUnderway D.tells D.faults (record { first = s.first.value; database = s.database }) };
+    ghost invariant = { λ s. IsUnderway D.tells D.faults (record { first = s.first; database = s.database }) };
 }
 
-impl<D: Disk> Book for Served<D> {
+impl<D: Disk, J: Naming> Book for Served<D, J> {
     type Entry = Happened;
 
-    type Fixed = Database<D>;
+    type Fixed = Begun<D>;
 
     ghost history = { λ served. served.database.events };
 
@@ -50,14 +52,14 @@ impl<D: Disk> Book for Served<D> {
     }
 }
 
-impl<D: Disk> Served<D> {
+impl<D: Disk, J: Naming> Served<D, J> {
     /// A database in which nothing happened yet, for so many sessions.
-    pub(crate) fn of(database: Database<D>, sessions: u32) -> Served<D>
+    pub(crate) fn of(database: Database<D, J>, sessions: u32) -> Served<D, J>
         requires fresh { database.events ≡ [] }
         requires starts { database.state ≡ opened database }
-        ensures { result ≡ record { first = database; database = database } }
+        ensures { result ≡ record { first = start_of database; database = database } }
     {
-        let first = Snapshot::of(&database);
+        let first = Begun::of(&database);
         Served {
             database,
             first,
@@ -66,7 +68,7 @@ impl<D: Disk> Served<D> {
     }
 
     /// The database.
-    pub(crate) fn into_database(self) -> Database<D>
+    pub(crate) fn into_database(self) -> Database<D, J>
         ensures is { result ≡ self.database }
         ensures underway { IsUnderway D.tells D.faults self }
     {

@@ -8,11 +8,12 @@ ghost use Rattle.session_threads.specs.Rows.{Pairs};
 ghost use Rattle.session_threads.specs.Sessions.{IsSeated, ServesSeat};
 ghost use Rattle.session_threads.specs.Ticks.{IsFirst, TicksOn};
 
+use crate::begun::Begun;
 use crate::seat::{Seat, serve_at};
 use crate::served::Served;
 use crate::ticking::{Ticker, tick_along};
+use active_snapshot::Naming;
 use cfg_base::Limits;
-use config_db::Database;
 use disk_model::Disk;
 use io_edge::{Beat, Clock, Sink, Source};
 use session_history::Happened;
@@ -23,25 +24,32 @@ use turn_lock::{Pass, Turns};
 
 /// What can be served over a lock. Below, the seats are of a type parameter, since the borrow checker covers no closure
 /// over a row of generic structs.
-pub(crate) trait Serve<D: Disk> {
+pub(crate) trait Serve<D: Disk, J: Naming> {
     /// It can be served over that lock, over a database that began so.
     ghost can_serve: { Self → TableId → DatabaseView D → Type 0 };
 
     /// It was served, with that many bytes of input at most, over a database that began so.
     ghost serves: { ℕ → DatabaseView D → Self → Self → Type 0 };
 
-    fn serve<R: Wait>(&mut self, rt: &R, alloc: Global, lock: &Turns<Served<D>>, limits: Limits)
+    fn serve<R: Wait>(&mut self, rt: &R, alloc: Global, lock: &Turns<Served<D, J>>, limits: Limits)
         requires { (first : DatabaseView D) × can_serve self.old lock.now first }
         ensures { (first : DatabaseView D) → can_serve self.old lock.now first
             → serves limits.input first self.old self.new };
 }
 
-impl<S: Source, K: Sink, C: Clock, D: Disk> Serve<D> for Option<Seat<S, K, C, Database<D>>> {
+impl<S: Source, K: Sink, C: Clock, D: Disk, J: Naming> Serve<D, J>
+    for Option<Seat<S, K, C, Begun<D>, J>> {
     ghost can_serve = { λ seat lock first. IsSeated lock first seat };
 
     ghost serves = { λ limit first old new. ServesSeat S.left S.faults K.held K.faults C.coming limit first old new };
 
-    fn serve<R: Wait>(&mut self, rt: &R, alloc: Global, lock: &Turns<Served<D>>, limits: Limits) {
+    fn serve<R: Wait>(
+        &mut self,
+        rt: &R,
+        alloc: Global,
+        lock: &Turns<Served<D, J>>,
+        limits: Limits,
+    ) {
         serve_at(rt, alloc, lock, self, limits);
     }
 }
@@ -49,21 +57,22 @@ impl<S: Source, K: Sink, C: Clock, D: Disk> Serve<D> for Option<Seat<S, K, C, Da
 /// Serves the sessions of a row of seats, the first one on this thread and the rest on another one, with the ticker
 /// behind the last. Where no thread can be made the sessions are served one after another, and the ticker comes last.
 #[cycle(threads)]
-pub(crate) fn serve_seats<R, T, B, C, D>(
+pub(crate) fn serve_seats<R, T, B, C, D, J>(
     rt: &R,
     alloc: Global,
-    lock: &Turns<Served<D>>,
+    lock: &Turns<Served<D, J>>,
     limits: Limits,
     seats: &mut [T],
-    pass: &mut Pass<Happened, Database<D>>,
+    pass: &mut Pass<Happened, Begun<D>>,
     ticker: &mut Ticker<B, C>,
 )
 where
     R: Threads + Wait + Sync,
-    T: Serve<D> + Send,
+    T: Serve<D, J> + Send,
     B: Beat + Send,
     C: Clock + Send,
     D: Disk + Send,
+    J: Naming + Send + Sync,
     requires { (first : DatabaseView D) × IsFirst lock.now first pass.old
         × All (λ seat. T.can_serve seat lock.now first) seats.old }
     ensures seats { (first : DatabaseView D) → IsFirst lock.now first pass.old
@@ -82,22 +91,23 @@ where
 
 /// Serves the session of a seat on this thread, and the others on another one.
 #[cycle(threads)]
-fn serve_both<R, T, B, C, D>(
+fn serve_both<R, T, B, C, D, J>(
     rt: &R,
     alloc: Global,
-    lock: &Turns<Served<D>>,
+    lock: &Turns<Served<D, J>>,
     limits: Limits,
     seat: &mut T,
     others: &mut [T],
-    pass: &mut Pass<Happened, Database<D>>,
+    pass: &mut Pass<Happened, Begun<D>>,
     ticker: &mut Ticker<B, C>,
 )
 where
     R: Threads + Wait + Sync,
-    T: Serve<D> + Send,
+    T: Serve<D, J> + Send,
     B: Beat + Send,
     C: Clock + Send,
     D: Disk + Send,
+    J: Naming + Send + Sync,
     requires { (first : DatabaseView D) × IsFirst lock.now first pass.old × T.can_serve seat.old lock.now first
         × All (λ seat. T.can_serve seat lock.now first) others.old }
     ensures seat { (first : DatabaseView D) → T.can_serve seat.old lock.now first
@@ -109,7 +119,7 @@ where
         → TicksOn B.coming C.coming first pass.old pass.new ticker.old ticker.new }
 {
     let mut apart = move ||
-        requires { IsSync R.row × IsSend T.row × IsSend B.row × IsSend C.row × IsSend D.row
+        requires { IsSync R.row × IsSend T.row × IsSend B.row × IsSend C.row × IsSend D.row × IsSend J.row × IsSync J.row
             × ((first : DatabaseView D) × IsFirst lock.now first pass.now
             × All (λ seat. T.can_serve seat lock.now first) others.now) }
         ensures { ((first : DatabaseView D) → IsFirst lock.entry.now first pass.entry.now

@@ -4,9 +4,10 @@ ghost use Rattle.std.specs.Prelude.{◌≡◌, Some};
 ghost use Rattle.config_db.specs.View.{DatabaseView};
 ghost use Rattle.session_threads.specs.Ticks.{IsFirst, Ticks, TicksOn};
 
+use crate::begun::Begun;
 use crate::deeds::Look;
 use crate::served::Served;
-use config_db::Database;
+use active_snapshot::Naming;
 use disk_model::Disk;
 use io_edge::{Beat, Clock};
 use session_history::Happened;
@@ -21,10 +22,10 @@ pub struct Ticker<B, C> {
 }
 
 /// Waits for the beat, and looks at the time. It tells whether another look may be due.
-fn look<R: Wait, B: Beat, C: Clock, D: Disk>(
+fn look<R: Wait, B: Beat, C: Clock, D: Disk, J: Naming>(
     rt: &R,
-    lock: &Turns<Served<D>>,
-    pass: &mut Pass<Happened, Database<D>>,
+    lock: &Turns<Served<D, J>>,
+    pass: &mut Pass<Happened, Begun<D>>,
     ticker: &mut Ticker<B, C>,
 ) -> bool
     requires { (first : DatabaseView D) × IsFirst lock.now first pass.old }
@@ -39,10 +40,10 @@ fn look<R: Wait, B: Beat, C: Clock, D: Disk>(
 }
 
 /// Looks at the time at each beat, until the beat says that none is due or all sessions have ended.
-pub(crate) fn tick_along<R: Wait, B: Beat, C: Clock, D: Disk>(
+pub(crate) fn tick_along<R: Wait, B: Beat, C: Clock, D: Disk, J: Naming>(
     rt: &R,
-    lock: &Turns<Served<D>>,
-    pass: &mut Pass<Happened, Database<D>>,
+    lock: &Turns<Served<D, J>>,
+    pass: &mut Pass<Happened, Begun<D>>,
     ticker: &mut Ticker<B, C>,
 )
     requires { (first : DatabaseView D) × IsFirst lock.now first pass.old }

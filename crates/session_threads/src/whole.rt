@@ -1,15 +1,18 @@
 //! All sessions of a run over one database, from the ends to what came of them.
 
 ghost use Rattle.std.specs.Prelude.{◌≡◌, ◌<◌, ◌≤◌, ◌==◌, [], ℕ, length, vec_capacity, All, IfOk, if◌then◌else◌};
+ghost use Rattle.commit_ledger.specs.Kept.{Kept};
 ghost use Rattle.config_db.specs.View.{opened};
 ghost use Rattle.session_threads.specs.Results.{status_of, users_of};
 ghost use Rattle.session_threads.specs.Rows.{AreLeft, HasRoom, IsSeatOf, NoneServed, PairsFrom, SitsIn};
-ghost use Rattle.session_threads.specs.Served.{AreServed};
+ghost use Rattle.session_threads.specs.Served.{AreServed, HasReaders};
 
+use crate::begun::Begun;
 use crate::seat::Seat;
 use crate::served::Served;
 use crate::threads::serve_seats;
 use crate::ticking::Ticker;
+use active_snapshot::{Naming, SnapReaders};
 use cfg_base::{Limits, NoMemory, Users};
 use config_db::Database;
 use disk_model::Disk;
@@ -22,15 +25,15 @@ use std::thread::Threads;
 use turn_lock::{NoTurns, Pass, Turns};
 
 /// Room for the sessions of so many ends.
-pub struct Room<S, K, C, D: Disk> {
-    seats: Vec<Option<Seat<S, K, C, Database<D>>>>,
+pub struct Room<S, K, C, D: Disk, J: Naming> {
+    seats: Vec<Option<Seat<S, K, C, Begun<D>, J>>>,
     lists: Vec<TurnList>,
 }
 
 /// What came of all sessions: the database, the ends and the turns in their order, the ticker, and the status of the
 /// first session that didn't end clean.
-pub struct Sessions<S, K, C, B, D: Disk> {
-    pub database: Database<D>,
+pub struct Sessions<S, K, C, B, D: Disk, J: Naming> {
+    pub database: Database<D, J>,
     pub ends: Vec<End<S, K, C>>,
     pub turns: Vec<TurnList>,
     pub ticker: Ticker<B, C>,
@@ -38,10 +41,10 @@ pub struct Sessions<S, K, C, B, D: Disk> {
 }
 
 /// Room for the sessions of these users.
-pub fn make_room<S, K, C, D: Disk>(
+pub fn make_room<S, K, C, D: Disk, J: Naming>(
     alloc: Global,
     users: &Users,
-) -> Result<Room<S, K, C, D>, NoMemory>
+) -> Result<Room<S, K, C, D, J>, NoMemory>
     ensures { IfOk result (λ room. HasRoom (length users.now) room) }
 {
     let count = users.as_slice().len();
@@ -50,7 +53,7 @@ pub fn make_room<S, K, C, D: Disk>(
     Ok(Room { seats, lists })
 }
 
-impl<S, K, C, D: Disk> Room<S, K, C, D> {
+impl<S, K, C, D: Disk, J: Naming> Room<S, K, C, D, J> {
     /// Ends it, while nobody is in it.
     pub fn destroy_empty(self)
         requires { (count : ℕ) × HasRoom count self }
@@ -86,29 +89,36 @@ fn status_of_none(count: usize) -> u8
     if count == 0 { 0 } else { 9 }
 }
 
-/// Takes the ends out, and seats each with a pass: the k-th end is caller k's.
-fn seat_all<S, K, C, D: Disk>(
+/// Takes the ends out, and seats each with a pass and a reader: the k-th end is caller k's.
+fn seat_all<S, K, C, D: Disk, J: Naming>(
     alloc: Global,
-    lock: &Turns<Served<D>>,
-    pass: &mut Pass<Happened, Database<D>>,
+    lock: &Turns<Served<D, J>>,
+    pass: &mut Pass<Happened, Begun<D>>,
+    readers: &mut SnapReaders<J>,
     ends: &mut Vec<End<S, K, C>>,
-    seats: &mut Vec<Option<Seat<S, K, C, Database<D>>>>,
+    seats: &mut Vec<Option<Seat<S, K, C, Begun<D>, J>>>,
 )
     requires pass { (pass.old.lock ≡ lock.now) × (pass.old.caller ≡ 0) × (pass.old.splits ≡ 0) × (pass.old.ended ≡ []) }
     requires few { length ends.old.items < pass.old.callers }
+    requires readers { (opening : Kept) × HasReaders opening (length ends.old.items) readers.old }
     requires room { (seats.old.items ≡ []) × (length ends.old.items ≤ vec_capacity seats.old) }
     ensures pass { pass.new ≡ record pass.old { splits = length ends.old.items } }
     ensures ends { (ends.new.items ≡ []) × (vec_capacity ends.new ≡ vec_capacity ends.old) }
-    ensures seats { PairsFrom (SitsIn pass.old) 1 ends.old.items seats.new.items }
+    ensures seats { (opening : Kept) → HasReaders opening (length ends.old.items) readers.old
+        → PairsFrom (SitsIn opening pass.old) 1 ends.old.items seats.new.items }
     ensures room { vec_capacity seats.new ≡ vec_capacity seats.old }
 {
     let Some(end) = ends.pop() else {
         return;
     };
-    seat_all(alloc, lock, pass, ends, seats);
+    let Some(reader) = readers.take() else {
+        unreachable!()
+    };
+    seat_all(alloc, lock, pass, readers, ends, seats);
     let own = lock.split(pass);
     seats.push_reserved(Some(Seat {
         pass: own,
+        reader,
         end,
         how: How::NoMemory,
         turns: TurnList::from(Vec::new(alloc)),
@@ -117,10 +127,10 @@ fn seat_all<S, K, C, D: Disk>(
 
 /// Joins the passes of all seats, and puts back the ends, with the turns. It tells the status of the first session that
 /// didn't end clean.
-fn leave_all<S, K, C, D: Disk>(
-    lock: &Turns<Served<D>>,
-    pass: &mut Pass<Happened, Database<D>>,
-    seats: Vec<Option<Seat<S, K, C, Database<D>>>>,
+fn leave_all<S, K, C, D: Disk, J: Naming>(
+    lock: &Turns<Served<D, J>>,
+    pass: &mut Pass<Happened, Begun<D>>,
+    seats: Vec<Option<Seat<S, K, C, Begun<D>, J>>>,
     ends: &mut Vec<End<S, K, C>>,
     turns: &mut Vec<TurnList>,
 ) -> u8
@@ -139,6 +149,7 @@ fn leave_all<S, K, C, D: Disk>(
     let Some(
         Seat {
             pass: own,
+            reader: _,
             end,
             how,
             turns: list,
@@ -155,13 +166,13 @@ fn leave_all<S, K, C, D: Disk>(
 }
 
 /// What comes of sessions for which there was no memory.
-fn none_served<S, K, C, B, D: Disk>(
+fn none_served<S, K, C, B, D: Disk, J: Naming>(
     alloc: Global,
-    database: Database<D>,
+    database: Database<D, J>,
     ends: Vec<End<S, K, C>>,
     turns: Vec<TurnList>,
     ticker: Ticker<B, C>,
-) -> Sessions<S, K, C, B, D>
+) -> Sessions<S, K, C, B, D, J>
     requires turns { (turns.items ≡ []) × (length ends.items ≤ vec_capacity turns) }
     ensures none { NoneServed ends.items result.turns.items result.status }
     ensures same { (result.database ≡ database) × (result.ends ≡ ends) × (result.ticker ≡ ticker) }
@@ -182,16 +193,16 @@ fn none_served<S, K, C, B, D: Disk>(
 }
 
 /// Serves the sessions of all ends, as callers 1, 2 and so on, and runs the ticker beside them, over a database in
-/// which nothing happened yet. Where memory is wanting for the lock no session begins.
-pub fn serve_all<R, S, K, C, B, D>(
+/// which nothing happened yet, and which has a reader for each. Where memory is wanting for the lock no session begins.
+pub fn serve_all<R, S, K, C, B, D, J>(
     rt: &R,
     alloc: Global,
-    database: Database<D>,
-    room: Room<S, K, C, D>,
+    database: Database<D, J>,
+    room: Room<S, K, C, D, J>,
     ends: Vec<End<S, K, C>>,
     limits: Limits,
     ticker: Ticker<B, C>,
-) -> Sessions<S, K, C, B, D>
+) -> Sessions<S, K, C, B, D, J>
 where
     R: Threads + Wait + Sync,
     S: Source + Send,
@@ -199,8 +210,10 @@ where
     C: Clock + Send,
     B: Beat + Send,
     D: Disk + Send,
+    J: Naming + Send + Sync,
     requires fresh { (database.events ≡ []) × (database.state ≡ opened database) }
     requires users { database.users ≡ users_of ends.items }
+    requires readers { HasReaders database.opening (length ends.items) database.readers }
     requires room { HasRoom (length ends.items) room }
     requires few { length ends.items ≤ 64 }
     ensures { AreServed S.left S.faults K.held K.faults C.coming B.coming D.tells D.faults limits.input database
@@ -210,6 +223,8 @@ where
     let mut ends = ends;
     let mut turns = lists;
     let mut ticker = ticker;
+    let mut database = database;
+    let mut readers = database.readers();
     let count = ends.len() as u32;
     let (lock, mut pass) = match Turns::new(alloc, Served::of(database, count), count + 1) {
         Ok(made) => made,
@@ -218,7 +233,7 @@ where
             return none_served(alloc, value.into_database(), ends, turns, ticker);
         }
     };
-    seat_all(alloc, &lock, &mut pass, &mut ends, &mut seats);
+    seat_all(alloc, &lock, &mut pass, &mut readers, &mut ends, &mut seats);
     serve_seats(
         rt,
         alloc,

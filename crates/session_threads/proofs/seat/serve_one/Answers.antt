@@ -1,17 +1,17 @@
 use Rattle.std.proofs.Common.{◌∙◌}
-use Rattle.session_threads.proofs.SeatLemmas.{ServesOne-then}
+use Rattle.session_threads.proofs.SeatLemmas.{ServesOne-left}
+use Rattle.session_threads.specs.Sessions.{gate_of, result_of}
 use Rattle.session_threads.proofs.seat.serve_one.Goals as goal
 
-pub turn-requires-clause-here : goal.turn-requires-clause-here
-turn-requires-clause-here g c =
-    (c.run_session-seat.ensures c.requires.0 c.requires.1.fixed).goes.lock ∙ c.requires.1.here
+pub run_session-seat-requires : goal.run_session-seat-requires
+run_session-seat-requires g c = (c.requires.0, c.requires.1.ready)
+
+pub leave-requires : goal.leave-requires
+leave-requires g c = (c.run_session-seat.ensures.goes.lock ∙ c.requires.1.ready.here, c.run_session-seat.ensures.goes.own)
 
 pub returns : goal.returns
-returns g c = λ first fixed.
-    ServesOne-then g.S.Source.left g.S.Source.faults g.K.Sink.held g.K.Sink.faults g.C.Clock.coming c.args.limits.input first
-    c.args.seat.pass c.run_session-seat.result.pass c.turn.new.pass (record {
-      how = c.run_session-seat.result.how;
-      old = c.args.seat.end;
-      new = c.run_session-seat.result.end;
-      turns = c.run_session-seat.result.turns;
-    }) (c.run_session-seat.ensures first fixed) c.turn.ensures
+returns g c = λ first can.
+    ServesOne-left g.S.Source.left g.S.Source.faults g.K.Sink.held g.K.Sink.faults g.C.Clock.coming c.fronts_never_fall.ensures.last
+    c.args.limits.input first (gate_of c.args.seat) (gate_of c.run_session-seat.result) c.leave.new.pass
+    (result_of c.args.seat c.run_session-seat.result) can.ready.own can.ready.fixed can.starts c.run_session-seat.ensures
+    (c.leave.ensures first (c.run_session-seat.ensures.goes.fixed ∙ can.ready.fixed))

@@ -1,29 +1,60 @@
 use denote.Param.{param}
-use denote.Param.Send.{IsSend, IsSync, sendable}
+use denote.Param.Send.{AllSend, IsSend, IsSync, mut_send, mut_slice_send, sendable, shr_send}
+use denote.Ref.{MutRef, ShrRef}
+use denote.Slice.{MutSlice}
+use mir.Syntax.{named}
 use contract.Lifetimes.{Lfts}
-use Rattle.std.proofs.Common.{◌∷◌, All, rules, sym, subst}
+use Rattle.std.proofs.Common.{[], ◌∷◌, All, rules, sym, subst}
 use Rattle.std.proofs.Crossing.{crosses}
 use Rattle.std.proofs.lemmas.List.Elements.{All-head, All-tail}
 use Rattle.config_db.specs.View.{DatabaseView}
-use Rattle.turn_lock.proofs.lock.Turns.TheSendSync as lock
-use Rattle.turn_lock.proofs.pass.Pass.TheSendSync as pass
+use Rattle.std.specs.contracts.alloc.Global as Global
+use Rattle.cfg_base.specs.contracts.limits.Limits as Limits
+use Rattle.session_threads.specs.contracts.ticking.Ticker as Ticker
 use Rattle.session_threads.specs.Rows.{Pairs}
-use Rattle.session_threads.proofs.SendLemmas.{served_send}
+use Rattle.session_threads.proofs.SendLemmas.{lock_row, lock_sync, pass_row, pass_send}
 use Rattle.session_threads.proofs.threads.+threads.Given as given
 use Rattle.session_threads.proofs.threads.+threads.Lts-serve_both.{arg-0-1}
 use Rattle.session_threads.proofs.threads.+threads.Goals as goal
 
 -- what the thread of the others takes along
 send_others : (g : given.Over) (κs : Lfts 16) → IsSync (param 0 g.row.R) → IsSend (param 1 g.row.T) → IsSend (param 2 g.row.B)
-    → IsSend (param 3 g.row.C) → IsSend (param 4 g.row.D)
-    → IsSend (param 1 (arg-0-1 g.row.R g.row.T g.row.B g.row.C g.row.D g.R.laws g.T.laws g.B.laws g.C.laws g.D.laws g.R.Threads
-    g.R.Threads-dict g.R.Wait g.R.Wait-dict g.T.Serve g.T.Serve-dict g.B.Beat g.B.Beat-dict g.C.Clock g.C.Clock-dict g.D.Disk
-    g.D.Disk-dict κs))
-send_others g κs rt seats beat clock disk = search (sendable, crosses, served_send, lock.the_sync, pass.the_send) depth 150 fits 40000
+    → IsSend (param 3 g.row.C) → IsSend (param 4 g.row.D) → IsSend (param 5 g.row.J) → IsSync (param 5 g.row.J)
+    → IsSend (param 1 (arg-0-1 g.row.R g.row.T g.row.B g.row.C g.row.D g.row.J g.R.laws g.T.laws g.B.laws g.C.laws g.D.laws g.J.laws
+    g.R.Threads g.R.Threads-dict g.R.Wait g.R.Wait-dict g.T.Serve g.T.Serve-dict g.B.Beat g.B.Beat-dict g.C.Clock g.C.Clock-dict
+    g.D.Disk g.D.Disk-dict g.J.Naming g.J.Naming-dict κs))
+send_others g κs rt seats beat clock disk name shared =
+    let tickers : IsSend (Ticker.the_row (param 2 g.row.B) (param 3 g.row.C)) = search sendable depth 20 in
+    let ends : Lfts 8 = κs.1.1.1.1.1.1.1.1 in
+    let all : AllSend (
+    ShrRef (named 8) ends.0 (param 0 g.row.R)
+    ∷ Global.the_row
+    ∷ ShrRef (named 9) ends.1.0 (lock_row (param 4 g.row.D) (param 5 g.row.J) g.D.Disk g.J.Naming)
+    ∷ Limits.the_row
+    ∷ MutSlice (named 10) ends.1.1.0 (param 1 g.row.T)
+    ∷ MutRef (named 11) ends.1.1.1.0 (pass_row (param 4 g.row.D) g.D.Disk)
+    ∷ MutRef (named 12) ends.1.1.1.1.0 (Ticker.the_row (param 2 g.row.B) (param 3 g.row.C))
+    ∷ []
+    ) = (
+      shr_send _ _ _ rt,
+      (
+        search (sendable, crosses) depth 20,
+        (
+          shr_send _ _ _ (lock_sync (param 4 g.row.D) (param 5 g.row.J) g.D.Disk g.J.Naming disk name shared),
+          (
+            search sendable depth 20,
+            (
+              mut_slice_send _ _ _ seats,
+              (mut_send _ _ _ (pass_send (param 4 g.row.D) g.D.Disk), (mut_send _ _ _ tickers, tt)),
+            ),
+          ),
+        ),
+      ),
+    ) in search (sendable, all) depth 20
 
 pub serve_both-join_mut-requires-send-F : goal.serve_both-join_mut-requires-send-F
 serve_both-join_mut-requires-send-F g t c κs within =
-    send_others g κs (search rules) (search rules) (search rules) (search rules) (search rules)
+    send_others g κs (search rules) (search rules) (search rules) (search rules) (search rules) (search rules) (search rules)
 
 pub serve_both-join_mut-requires-after_bounds : goal.serve_both-join_mut-requires-after_bounds
 serve_both-join_mut-requires-after_bounds g t c κs within = (
@@ -40,8 +71,20 @@ serve_both-join_mut-requires-after_bounds g t c κs within = (
             (
               λ a there. there,
               (
-                (search rules, search rules, search rules, search rules, search rules, (c.requires.0, c.requires.1, c.requires.3)),
-                (search rules, search rules, search rules, search rules, search rules),
+                λ a there. there,
+                (
+                  (
+                    search rules,
+                    search rules,
+                    search rules,
+                    search rules,
+                    search rules,
+                    search rules,
+                    search rules,
+                    (c.requires.0, c.requires.1, c.requires.3),
+                  ),
+                  (search rules, search rules, search rules, search rules, search rules, search rules, search rules),
+                ),
               ),
             ),
           ),

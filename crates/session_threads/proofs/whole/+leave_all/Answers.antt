@@ -1,6 +1,6 @@
 use Rattle.std.proofs.Common.{ap, arith, ◌∙◌}
 use Rattle.session_threads.specs.Rows.{taken}
-use Rattle.session_threads.specs.Sessions.{CallerPass}
+use Rattle.session_threads.specs.Passes.{CallerPass}
 use Rattle.session_threads.proofs.RowLemmas.{AreLeft-then, caller-with_all_ended, last_here, lock-with_all_ended, room_left}
 use Rattle.session_threads.proofs.whole.+leave_all.Goals as goal
 

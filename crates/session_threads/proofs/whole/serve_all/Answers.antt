@@ -1,47 +1,68 @@
-use Rattle.std.proofs.Common.{rules, ◌≤◌, ap, sym, subst, ◌∙◌, length, vec_capacity, vec_items}
+use Rattle.std.proofs.Common.{rules, ◌≡◌, ◌≤◌, ap, sym, subst, ◌∙◌, length, vec_capacity, vec_items}
+use Rattle.config_db.specs.View.{DatabaseView, opened}
+use Rattle.session_threads.specs.Begun.{start_of}
 use Rattle.session_threads.specs.Served.{ServedView}
-use Rattle.session_threads.proofs.WholeLemmas.{AreServed-none, AreServed-of, all_here, as_many, can_serve, closes, gone_here}
+use Rattle.session_threads.proofs.WholeLemmas.{AreServed-begun, AreServed-handed, AreServed-none, AreServed-of, all_here, as_many}
+use Rattle.session_threads.proofs.WholeLemmas.{can_serve, closes, gone_here, handed, made_of}
 use Rattle.session_threads.proofs.whole.serve_all.Goals as goal
 
 pub returns-in-Err : goal.returns-in-Err
 returns-in-Err g c =
-    AreServed-none g.S.Source.left g.S.Source.faults g.K.Sink.held g.K.Sink.faults g.C.Clock.coming g.B.Beat.coming
-    g.D.Disk.tells g.D.Disk.faults
-    c.args.limits.input c.args.database
+    AreServed-handed g.row.J.Denot g.S.Source.left g.S.Source.faults g.K.Sink.held g.K.Sink.faults g.C.Clock.coming g.B.Beat.coming
+    g.D.Disk.tells g.D.Disk.faults c.args.limits.input c.args.database c.readers-readers.new.self c.readers-readers.ensures.rest
     c.args.ends.items c.none_served.result.ends.items c.args.ticker c.none_served.result.ticker c.none_served.result.turns.items
-    c.none_served.result.database c.none_served.result.status c.requires.fresh.0 c.requires.fresh.1 c.none_served.ensures.none
+    c.none_served.result.database c.none_served.result.status
+    (AreServed-none g.row.J.Denot g.S.Source.left g.S.Source.faults g.K.Sink.held g.K.Sink.faults g.C.Clock.coming g.B.Beat.coming
+    g.D.Disk.tells g.D.Disk.faults c.args.limits.input c.readers-readers.new.self
+    c.args.ends.items c.none_served.result.ends.items c.args.ticker c.none_served.result.ticker c.none_served.result.turns.items
+    c.none_served.result.database c.none_served.result.status
+    (ap (λ (v : DatabaseView g.row.D.Denot). v.events) c.readers-readers.ensures.rest ∙ c.requires.fresh.0)
+    (subst (λ (v : DatabaseView g.row.D.Denot). v.state ≡ opened v) (sym c.readers-readers.ensures.rest) c.requires.fresh.1)
+    c.none_served.ensures.none
     (ap vec_items c.none_served.ensures.same.1) c.none_served.ensures.same.2
     (c.none_served.ensures.same.0 ∙ c.into_database.ensures.is
-    ∙ ap (λ (s : ServedView g.row.D.Denot). s.database) (c.in-Err.ensures.err ∙ c.of.ensures))
+    ∙ ap (λ (s : ServedView g.row.D.Denot). s.database) (c.in-Err.ensures.err ∙ c.of.ensures)))
+
+pub seat_all-requires-clause-readers : goal.seat_all-requires-clause-readers
+seat_all-requires-clause-readers g c = (
+  c.args.database.opening,
+  handed c.args.database c.readers-readers.result (length c.args.ends.items) c.requires.readers c.readers-readers.ensures.taken,
+)
 
 pub serve_seats-requires-after_bounds : goal.serve_seats-requires-after_bounds
 serve_seats-requires-after_bounds g c κs within =
-    can_serve g.S.Source.left g.S.Source.faults g.K.Sink.held g.K.Sink.faults g.C.Clock.coming g.B.Beat.coming g.D.Disk.tells
+    can_serve g.row.J.Denot g.S.Source.left g.S.Source.faults g.K.Sink.held g.K.Sink.faults g.C.Clock.coming g.B.Beat.coming g.D.Disk.tells
     g.D.Disk.faults
-    c.args.limits.input c.args.database c.in-Ok.made.0 _ c.in-Ok.made.1 c.seat_all.new.pass c.of.result c.of.ensures
+    c.args.limits.input (start_of c.args.database) c.in-Ok.made.0 _ c.in-Ok.made.1 c.seat_all.new.pass c.readers-readers.new.self
+    c.of.result (made_of c.args.database c.readers-readers.new.self c.of.result c.readers-readers.ensures.rest c.of.ensures)
     c.in-Ok.ensures.ok c.args.ends.items
-    c.seat_all.ensures.pass c.seat_all.new.seats.items c.as_mut_slice.result.now c.seat_all.ensures.seats
+    c.seat_all.ensures.pass c.seat_all.new.seats.items c.as_mut_slice.result.now (c.seat_all.ensures.seats c.args.database.opening
+    (handed c.args.database c.readers-readers.result (length c.args.ends.items) c.requires.readers c.readers-readers.ensures.taken))
     c.as_mut_slice.ensures.value
     c.requires.users
 
 pub leave_all-status-requires-clause-pass : goal.leave_all-status-requires-clause-pass
 leave_all-status-requires-clause-pass g c =
-    gone_here g.S.Source.left g.S.Source.faults g.K.Sink.held g.K.Sink.faults g.C.Clock.coming g.B.Beat.coming g.D.Disk.tells
+    gone_here g.row.J.Denot g.S.Source.left g.S.Source.faults g.K.Sink.held g.K.Sink.faults g.C.Clock.coming g.B.Beat.coming g.D.Disk.tells
     g.D.Disk.faults
-    c.args.limits.input c.args.database c.in-Ok.made.0 _ c.in-Ok.made.1 c.seat_all.new.pass c.of.result c.of.ensures
+    c.args.limits.input (start_of c.args.database) c.in-Ok.made.0 _ c.in-Ok.made.1 c.seat_all.new.pass c.readers-readers.new.self
+    c.of.result (made_of c.args.database c.readers-readers.new.self c.of.result c.readers-readers.ensures.rest c.of.ensures)
     c.in-Ok.ensures.ok c.args.ends.items
-    c.seat_all.ensures.pass c.seat_all.new.seats.items c.as_mut_slice.result.now c.seat_all.ensures.seats
+    c.seat_all.ensures.pass c.seat_all.new.seats.items c.as_mut_slice.result.now (c.seat_all.ensures.seats c.args.database.opening
+    (handed c.args.database c.readers-readers.result (length c.args.ends.items) c.requires.readers c.readers-readers.ensures.taken))
     c.as_mut_slice.ensures.value
     c.requires.users c.serve_seats.new.pass c.serve_seats.new.seats c.seat_all.new.seats.len c.as_mut_slice.ensures.len
     c.serve_seats.ensures.seats c.args.ticker c.serve_seats.new.ticker c.serve_seats.ensures.ticker
 
 pub leave_all-status-requires-clause-seats : goal.leave_all-status-requires-clause-seats
 leave_all-status-requires-clause-seats g c =
-    all_here g.S.Source.left g.S.Source.faults g.K.Sink.held g.K.Sink.faults g.C.Clock.coming g.B.Beat.coming g.D.Disk.tells
+    all_here g.row.J.Denot g.S.Source.left g.S.Source.faults g.K.Sink.held g.K.Sink.faults g.C.Clock.coming g.B.Beat.coming g.D.Disk.tells
     g.D.Disk.faults
-    c.args.limits.input c.args.database c.in-Ok.made.0 _ c.in-Ok.made.1 c.seat_all.new.pass c.of.result c.of.ensures
+    c.args.limits.input (start_of c.args.database) c.in-Ok.made.0 _ c.in-Ok.made.1 c.seat_all.new.pass c.readers-readers.new.self
+    c.of.result (made_of c.args.database c.readers-readers.new.self c.of.result c.readers-readers.ensures.rest c.of.ensures)
     c.in-Ok.ensures.ok c.args.ends.items
-    c.seat_all.ensures.pass c.seat_all.new.seats.items c.as_mut_slice.result.now c.seat_all.ensures.seats
+    c.seat_all.ensures.pass c.seat_all.new.seats.items c.as_mut_slice.result.now (c.seat_all.ensures.seats c.args.database.opening
+    (handed c.args.database c.readers-readers.result (length c.args.ends.items) c.requires.readers c.readers-readers.ensures.taken))
     c.as_mut_slice.ensures.value
     c.requires.users c.serve_seats.new.pass c.serve_seats.new.seats c.seat_all.new.seats.len c.as_mut_slice.ensures.len
     c.serve_seats.ensures.seats c.args.ticker c.serve_seats.new.ticker c.serve_seats.ensures.ticker
@@ -51,11 +72,13 @@ leave_all-status-requires-clause-ends g c =
     let fits : length c.args.ends.items ≤ vec_capacity c.args.ends = search rules in (
       c.seat_all.ensures.ends.0,
       subst (λ n. n ≤ vec_capacity c.seat_all.new.ends)
-          (sym (as_many g.S.Source.left g.S.Source.faults g.K.Sink.held g.K.Sink.faults g.C.Clock.coming g.B.Beat.coming
+          (sym (as_many g.row.J.Denot g.S.Source.left g.S.Source.faults g.K.Sink.held g.K.Sink.faults g.C.Clock.coming g.B.Beat.coming
           g.D.Disk.tells g.D.Disk.faults
-          c.args.limits.input c.args.database c.in-Ok.made.0 _ c.in-Ok.made.1 c.seat_all.new.pass c.of.result c.of.ensures
+          c.args.limits.input (start_of c.args.database) c.in-Ok.made.0 _ c.in-Ok.made.1 c.seat_all.new.pass c.readers-readers.new.self
+          c.of.result (made_of c.args.database c.readers-readers.new.self c.of.result c.readers-readers.ensures.rest c.of.ensures)
           c.in-Ok.ensures.ok c.args.ends.items
-          c.seat_all.ensures.pass c.seat_all.new.seats.items c.as_mut_slice.result.now c.seat_all.ensures.seats
+          c.seat_all.ensures.pass c.seat_all.new.seats.items c.as_mut_slice.result.now (c.seat_all.ensures.seats c.args.database.opening
+          (handed c.args.database c.readers-readers.result (length c.args.ends.items) c.requires.readers c.readers-readers.ensures.taken))
           c.as_mut_slice.ensures.value
           c.requires.users c.serve_seats.new.pass c.serve_seats.new.seats c.seat_all.new.seats.len c.as_mut_slice.ensures.len
           c.serve_seats.ensures.seats c.args.ticker c.serve_seats.new.ticker c.serve_seats.ensures.ticker))
@@ -66,11 +89,13 @@ pub leave_all-status-requires-clause-turns : goal.leave_all-status-requires-clau
 leave_all-status-requires-clause-turns g c = (
   c.requires.room.no_lists,
   subst (λ n. n ≤ vec_capacity c.args.room.lists)
-      (sym (as_many g.S.Source.left g.S.Source.faults g.K.Sink.held g.K.Sink.faults g.C.Clock.coming g.B.Beat.coming
+      (sym (as_many g.row.J.Denot g.S.Source.left g.S.Source.faults g.K.Sink.held g.K.Sink.faults g.C.Clock.coming g.B.Beat.coming
       g.D.Disk.tells g.D.Disk.faults
-      c.args.limits.input c.args.database c.in-Ok.made.0 _ c.in-Ok.made.1 c.seat_all.new.pass c.of.result c.of.ensures
+      c.args.limits.input (start_of c.args.database) c.in-Ok.made.0 _ c.in-Ok.made.1 c.seat_all.new.pass c.readers-readers.new.self
+      c.of.result (made_of c.args.database c.readers-readers.new.self c.of.result c.readers-readers.ensures.rest c.of.ensures)
       c.in-Ok.ensures.ok c.args.ends.items
-      c.seat_all.ensures.pass c.seat_all.new.seats.items c.as_mut_slice.result.now c.seat_all.ensures.seats
+      c.seat_all.ensures.pass c.seat_all.new.seats.items c.as_mut_slice.result.now (c.seat_all.ensures.seats c.args.database.opening
+      (handed c.args.database c.readers-readers.result (length c.args.ends.items) c.requires.readers c.readers-readers.ensures.taken))
       c.as_mut_slice.ensures.value
       c.requires.users c.serve_seats.new.pass c.serve_seats.new.seats c.seat_all.new.seats.len c.as_mut_slice.ensures.len
       c.serve_seats.ensures.seats c.args.ticker c.serve_seats.new.ticker c.serve_seats.ensures.ticker))
@@ -79,11 +104,13 @@ leave_all-status-requires-clause-turns g c = (
 
 pub close-requires-clause-here : goal.close-requires-clause-here
 close-requires-clause-here g c =
-    (closes g.S.Source.left g.S.Source.faults g.K.Sink.held g.K.Sink.faults g.C.Clock.coming g.B.Beat.coming g.D.Disk.tells
+    (closes g.row.J.Denot g.S.Source.left g.S.Source.faults g.K.Sink.held g.K.Sink.faults g.C.Clock.coming g.B.Beat.coming g.D.Disk.tells
     g.D.Disk.faults
-    c.args.limits.input c.args.database c.in-Ok.made.0 _ c.in-Ok.made.1 c.seat_all.new.pass c.of.result c.of.ensures
+    c.args.limits.input (start_of c.args.database) c.in-Ok.made.0 _ c.in-Ok.made.1 c.seat_all.new.pass c.readers-readers.new.self
+    c.of.result (made_of c.args.database c.readers-readers.new.self c.of.result c.readers-readers.ensures.rest c.of.ensures)
     c.in-Ok.ensures.ok c.args.ends.items
-    c.seat_all.ensures.pass c.seat_all.new.seats.items c.as_mut_slice.result.now c.seat_all.ensures.seats
+    c.seat_all.ensures.pass c.seat_all.new.seats.items c.as_mut_slice.result.now (c.seat_all.ensures.seats c.args.database.opening
+    (handed c.args.database c.readers-readers.result (length c.args.ends.items) c.requires.readers c.readers-readers.ensures.taken))
     c.as_mut_slice.ensures.value
     c.requires.users c.serve_seats.new.pass c.serve_seats.new.seats c.seat_all.new.seats.len c.as_mut_slice.ensures.len
     c.serve_seats.ensures.seats c.args.ticker c.serve_seats.new.ticker c.serve_seats.ensures.ticker c.leave_all-status.new.pass
@@ -92,11 +119,13 @@ close-requires-clause-here g c =
 
 pub close-requires-clause-first : goal.close-requires-clause-first
 close-requires-clause-first g c =
-    (closes g.S.Source.left g.S.Source.faults g.K.Sink.held g.K.Sink.faults g.C.Clock.coming g.B.Beat.coming g.D.Disk.tells
+    (closes g.row.J.Denot g.S.Source.left g.S.Source.faults g.K.Sink.held g.K.Sink.faults g.C.Clock.coming g.B.Beat.coming g.D.Disk.tells
     g.D.Disk.faults
-    c.args.limits.input c.args.database c.in-Ok.made.0 _ c.in-Ok.made.1 c.seat_all.new.pass c.of.result c.of.ensures
+    c.args.limits.input (start_of c.args.database) c.in-Ok.made.0 _ c.in-Ok.made.1 c.seat_all.new.pass c.readers-readers.new.self
+    c.of.result (made_of c.args.database c.readers-readers.new.self c.of.result c.readers-readers.ensures.rest c.of.ensures)
     c.in-Ok.ensures.ok c.args.ends.items
-    c.seat_all.ensures.pass c.seat_all.new.seats.items c.as_mut_slice.result.now c.seat_all.ensures.seats
+    c.seat_all.ensures.pass c.seat_all.new.seats.items c.as_mut_slice.result.now (c.seat_all.ensures.seats c.args.database.opening
+    (handed c.args.database c.readers-readers.result (length c.args.ends.items) c.requires.readers c.readers-readers.ensures.taken))
     c.as_mut_slice.ensures.value
     c.requires.users c.serve_seats.new.pass c.serve_seats.new.seats c.seat_all.new.seats.len c.as_mut_slice.ensures.len
     c.serve_seats.ensures.seats c.args.ticker c.serve_seats.new.ticker c.serve_seats.ensures.ticker c.leave_all-status.new.pass
@@ -105,11 +134,13 @@ close-requires-clause-first g c =
 
 pub close-requires-clause-all : goal.close-requires-clause-all
 close-requires-clause-all g c =
-    (closes g.S.Source.left g.S.Source.faults g.K.Sink.held g.K.Sink.faults g.C.Clock.coming g.B.Beat.coming g.D.Disk.tells
+    (closes g.row.J.Denot g.S.Source.left g.S.Source.faults g.K.Sink.held g.K.Sink.faults g.C.Clock.coming g.B.Beat.coming g.D.Disk.tells
     g.D.Disk.faults
-    c.args.limits.input c.args.database c.in-Ok.made.0 _ c.in-Ok.made.1 c.seat_all.new.pass c.of.result c.of.ensures
+    c.args.limits.input (start_of c.args.database) c.in-Ok.made.0 _ c.in-Ok.made.1 c.seat_all.new.pass c.readers-readers.new.self
+    c.of.result (made_of c.args.database c.readers-readers.new.self c.of.result c.readers-readers.ensures.rest c.of.ensures)
     c.in-Ok.ensures.ok c.args.ends.items
-    c.seat_all.ensures.pass c.seat_all.new.seats.items c.as_mut_slice.result.now c.seat_all.ensures.seats
+    c.seat_all.ensures.pass c.seat_all.new.seats.items c.as_mut_slice.result.now (c.seat_all.ensures.seats c.args.database.opening
+    (handed c.args.database c.readers-readers.result (length c.args.ends.items) c.requires.readers c.readers-readers.ensures.taken))
     c.as_mut_slice.ensures.value
     c.requires.users c.serve_seats.new.pass c.serve_seats.new.seats c.seat_all.new.seats.len c.as_mut_slice.ensures.len
     c.serve_seats.ensures.seats c.args.ticker c.serve_seats.new.ticker c.serve_seats.ensures.ticker c.leave_all-status.new.pass
@@ -118,14 +149,20 @@ close-requires-clause-all g c =
 
 pub returns : goal.returns
 returns g c =
-    AreServed-of g.S.Source.left g.S.Source.faults g.K.Sink.held g.K.Sink.faults g.C.Clock.coming g.B.Beat.coming
+    AreServed-begun g.row.J.Denot g.S.Source.left g.S.Source.faults g.K.Sink.held g.K.Sink.faults g.C.Clock.coming g.B.Beat.coming
     g.D.Disk.tells g.D.Disk.faults
-    c.args.limits.input c.args.database c.in-Ok.made.0 _ c.in-Ok.made.1 c.seat_all.new.pass c.of.result c.of.ensures
+    c.args.limits.input c.args.database c.args.ends.items c.leave_all-status.new.ends.items c.args.ticker c.serve_seats.new.ticker
+    c.leave_all-status.new.turns.items c.into_database-database.result c.leave_all-status.result
+    (AreServed-of g.row.J.Denot g.S.Source.left g.S.Source.faults g.K.Sink.held g.K.Sink.faults g.C.Clock.coming g.B.Beat.coming
+    g.D.Disk.tells g.D.Disk.faults
+    c.args.limits.input (start_of c.args.database) c.in-Ok.made.0 _ c.in-Ok.made.1 c.seat_all.new.pass c.readers-readers.new.self
+    c.of.result (made_of c.args.database c.readers-readers.new.self c.of.result c.readers-readers.ensures.rest c.of.ensures)
     c.in-Ok.ensures.ok c.args.ends.items
-    c.seat_all.ensures.pass c.seat_all.new.seats.items c.as_mut_slice.result.now c.seat_all.ensures.seats
+    c.seat_all.ensures.pass c.seat_all.new.seats.items c.as_mut_slice.result.now (c.seat_all.ensures.seats c.args.database.opening
+    (handed c.args.database c.readers-readers.result (length c.args.ends.items) c.requires.readers c.readers-readers.ensures.taken))
     c.as_mut_slice.ensures.value
     c.requires.users c.serve_seats.new.pass c.serve_seats.new.seats c.seat_all.new.seats.len c.as_mut_slice.ensures.len
     c.serve_seats.ensures.seats c.args.ticker c.serve_seats.new.ticker c.serve_seats.ensures.ticker c.leave_all-status.new.pass
     c.leave_all-status.new.ends.items c.leave_all-status.new.turns.items c.leave_all-status.result
     c.leave_all-status.ensures.left c.close.result c.close.ensures c.into_database-database.ensures.underway
-    c.into_database-database.result c.into_database-database.ensures.is
+    c.into_database-database.result c.into_database-database.ensures.is)

@@ -1,0 +1,178 @@
+-- A caller's pass with its reader, before and after what is done with them. This project's own.
+use Rattle.std.specs.Prelude.{◌≡◌, ℕ, Bool, true, false, List, Option, None, Some}
+use Rattle.std.specs.List.{AllByRecursion}
+use mathlib.Core.List.{IsPrefix}
+use Rattle.active_snapshot.specs.States.{ReaderState, first_read}
+use Rattle.active_snapshot.specs.Views.{AreViews, IsLast}
+use Rattle.commands.specs.declared.command.Command.{Command}
+use Rattle.commit_ledger.specs.Kept.{Kept, is_revert_due}
+use Rattle.config_core.specs.declared.reply.Reply.{Reply}
+use Rattle.config_core.specs.State.{State}
+use Rattle.config_db.specs.declared.answer.Answered.{Answered}
+use Rattle.config_db.specs.declared.answer.Answered.TheVariants.{Kept as Done, NoMemory as Wanting}
+use Rattle.config_db.specs.View.{DatabaseView, opened}
+use Rattle.session_history.specs.declared.history.Happened.{Happened}
+use Rattle.session_history.specs.Events.{IsLegal, Leads}
+use Rattle.session_history.specs.Kept.{WasKept}
+use Rattle.session_shell.specs.declared.door.Given0.{Given0}
+use Rattle.session_shell.specs.declared.door.Given0.TheVariants.{Kept as KeptAt, Seen, NoMemory}
+use Rattle.session_shell.specs.Shows.{IsActiveShow}
+use Rattle.session_threads.specs.History.{FollowsTurn, HasEvent, ShowsKept}
+use Rattle.session_threads.specs.Passes.{CallerPass, KnowsOwn, WentOn}
+
+-- a caller's pass, and what its reader knows
+pub record GateView (D : Type 0) : Type 0 where
+  pub pass : CallerPass D
+  pub reader : ReaderState
+
+-- a reader that was told of the opening's list alone
+abbrev pub StartsReading : {D : Type 0} → DatabaseView D → ReaderState → Type 0
+StartsReading first reader = reader ≡ first_read first.opening
+
+-- behind these events the lists of commits that were kept are those, and the last of them is what is kept now
+pub record TellsKept (opening : State) (events : List Happened) (list : List Kept) : Type 0 where
+  pub after : State
+  pub leads : Leads opening events after
+  pub views : AreViews list
+  pub each : AllByRecursion (WasKept opening events) list
+  pub is_last : IsLast list after.kept
+
+-- a reader has at least what it had, and was told at least what it was told
+pub record ReadsOn (old new : ReaderState) : Type 0 where
+  pub later : IsPrefix old.list new.list
+  pub told : IsPrefix old.told new.told
+
+-- a reader was told of these lists, where the command became an event
+abbrev pub IsToldOf : Answered → List Kept → ReaderState → Type 0
+IsToldOf (Done place reply) list reader = IsPrefix list reader.told
+IsToldOf Wanting list reader = Unit {0}
+
+-- a reader took in what the turn of a command told
+pub record Learns (answered : Answered) (list : List Kept) (old new : ReaderState) : Type 0 where
+  pub reads : ReadsOn old new
+  pub told : IsToldOf answered list new
+
+-- a reader answered from the last list that it has, which reaches all that it was told: whether that has a deadline that has come
+pub record ReadsLast (answer : ℕ) (is_due : Bool) (reader : ReaderState) : Type 0 where
+  pub view : Kept
+  pub reached : IsPrefix reader.told reader.list
+  pub is_last : IsLast reader.list view
+  pub due : is_revert_due view answer ≡ is_due
+
+-- a show was answered from the last list that a reader has
+pub record AnswersShow (command : Command) (answer front : ℕ) (reply : Reply) (reader : ReaderState) : Type 0 where
+  pub read : ReadsLast answer false reader
+  pub is_front : read.view.count ≡ front
+  pub shows : ShowsKept read.view command reply
+
+-- what is given for a show of a view
+abbrev pub GivesView : Command → ℕ → Kept → Given0 → Type 0
+GivesView command front view (KeptAt place reply) = ⊥
+GivesView command front view (Seen shown reply) = (shown ≡ front) × ShowsKept view command reply
+GivesView command front view NoMemory = Unit {0}
+
+-- what a reader gave for a show: an answer, want of memory, or none, since a deadline has come
+abbrev pub GivesShow : Command → ℕ → Option Given0 → ReaderState → Type 0
+GivesShow command answer None reader = ReadsLast answer true reader
+GivesShow command answer (Some (KeptAt place reply)) reader = ⊥
+GivesShow command answer (Some (Seen front reply)) reader = AnswersShow command answer front reply reader
+GivesShow command answer (Some NoMemory) reader = Unit {0}
+
+-- a reader was asked for a show
+pub record ReadsShow (command : Command) (answer : ℕ) (given : Option Given0) (old new : ReaderState) : Type 0 where
+  pub reads : ReadsOn old new
+  pub gives : GivesShow command answer given new
+
+-- a command has no answer without a turn: where it is a show, since a deadline has come
+abbrev pub NeedsTurn : Command → ℕ → ReaderState → Type 0
+NeedsTurn command answer reader = IsActiveShow command → ReadsLast answer true reader
+
+-- a show was answered without a turn; what the pass has seen is a legal history, and has its caller's events
+pub record SeesAt {D : Type 0} (d : GateView D) (command : Command) (answer : ℕ) (given : Given0) (reader : ReaderState) : Type 0 where
+  pub is_show : IsActiveShow command
+  pub gives : GivesShow command answer (Some given) reader
+  pub own : KnowsOwn d.pass
+  pub legal : (first : DatabaseView D) → d.pass.fixed ≡ Some first → IsLegal (opened first) d.pass.seen
+
+-- what was answered without a turn
+abbrev pub LooksAt : {D : Type 0} → GateView D → Command → ℕ → Option Given0 → ReaderState → Type 0
+LooksAt d command answer None reader = NeedsTurn command answer reader
+LooksAt d command answer (Some given) reader = SeesAt d command answer given reader
+
+-- a command was looked at before its turn: a show may be answered without one
+pub record LooksIn {D : Type 0} (d : GateView D) (command : Command) (answer : ℕ) (given : Option Given0) (e : GateView D)
+    : Type 0 where
+  pub same : e.pass ≡ d.pass
+  pub reads : ReadsOn d.reader e.reader
+  pub looks : LooksAt d command answer given e.reader
+
+-- the turn of a caller's command over a database that began so, and what was told behind it
+pub record TurnsIn {D : Type 0} (first : DatabaseView D) (d : GateView D) (command : Command) (answer : ℕ) (answered : Answered)
+    (e : GateView D) : Type 0 where
+  pub turn : FollowsTurn (opened first) d.pass.caller d.pass.seen command answer answered e.pass.seen
+  pub list : List Kept
+  pub tells : TellsKept (opened first) e.pass.seen list
+  pub told : IsToldOf answered list e.reader
+
+-- a command took its turn
+pub record TookIn {D : Type 0} (d : GateView D) (command : Command) (answer : ℕ) (answered : Answered) (e : GateView D)
+    : Type 0 where
+  pub goes : WentOn d.pass e.pass
+  pub reads : ReadsOn d.reader e.reader
+  pub turns : (first : DatabaseView D) → d.pass.fixed ≡ Some first → TurnsIn first d command answer answered e
+
+-- a reader found a deadline that has come, on the way from what it knew to what it knows
+pub record MissedIn (answer : ℕ) (old new : ReaderState) : Type 0 where
+  pub mid : ReaderState
+  pub before : ReadsOn old mid
+  pub missed : ReadsLast answer true mid
+  pub behind : ReadsOn mid new
+
+-- a command was answered by an event; a show takes a turn only where a deadline has come
+pub record KeptIn {D : Type 0} (d : GateView D) (command : Command) (answer place : ℕ) (reply : Reply) (e : GateView D)
+    : Type 0 where
+  pub turns : (first : DatabaseView D) → d.pass.fixed ≡ Some first → TurnsIn first d command answer (Done place reply) e
+  pub missed : IsActiveShow command → MissedIn answer d.reader e.reader
+
+-- a show was answered without a turn
+pub record SeenIn {D : Type 0} (d : GateView D) (command : Command) (answer front : ℕ) (reply : Reply) (e : GateView D)
+    : Type 0 where
+  pub same : e.pass ≡ d.pass
+  pub is_show : IsActiveShow command
+  pub answers : AnswersShow command answer front reply e.reader
+
+-- memory was wanting for an answer
+abbrev pub WantingIn : {D : Type 0} → GateView D → Command → ℕ → GateView D → Type 0
+WantingIn {D} d command answer e =
+    (first : DatabaseView D) → d.pass.fixed ≡ Some first
+    → FollowsTurn (opened first) d.pass.caller d.pass.seen command answer Wanting e.pass.seen
+
+-- by what was given
+abbrev pub ComesIn : {D : Type 0} → GateView D → Command → ℕ → Given0 → GateView D → Type 0
+ComesIn d command answer (KeptAt place reply) e = KeptIn d command answer place reply e
+ComesIn d command answer (Seen front reply) e = SeenIn d command answer front reply e
+ComesIn d command answer NoMemory e = WantingIn d command answer e
+
+-- how a pass and its reader follow after one ask of their caller
+pub record FollowsIn {D : Type 0} (d : GateView D) (command : Command) (answer : ℕ) (given : Given0) (e : GateView D)
+    : Type 0 where
+  pub goes : WentOn d.pass e.pass
+  pub reads : ReadsOn d.reader e.reader
+  pub comes : ComesIn d command answer given e
+
+-- a beginning of the lists that a reader has, whose last one shows this
+pub record HasShown (command : Command) (front : ℕ) (reply : Reply) (reader : ReaderState) : Type 0 where
+  pub list : List Kept
+  pub view : Kept
+  pub begins : IsPrefix list reader.list
+  pub is_last : IsLast list view
+  pub is_front : view.count ≡ front
+  pub shows : ShowsKept view command reply
+
+-- what belongs to a command of the pass's caller
+abbrev pub NamesIn : {D : Type 0} → GateView D → Command → ℕ → Given0 → Type 0
+NamesIn {D} d command answer (KeptAt place reply) =
+    (first : DatabaseView D) → d.pass.fixed ≡ Some first
+    → HasEvent (opened first) d.pass.caller d.pass.seen command answer (Done place reply)
+NamesIn d command answer (Seen front reply) = HasShown command front reply d.reader
+NamesIn d command answer NoMemory = Unit {0}
