@@ -11,13 +11,12 @@ use Rattle.config_core.specs.declared.reply.Reply.{Reply}
 use Rattle.config_core.specs.State.{State}
 use Rattle.config_core.specs.Serving.{Turned}
 use Rattle.config_core.specs.Machine.{Free, InFlight, Missed, Steps, StepsFrom, Waiting, later, waiting_of}
+use Rattle.config_db.specs.declared.answer.Answered.{Answered}
+use Rattle.config_db.specs.declared.answer.Answered.TheVariants.{Kept as DoneAt}
 use Rattle.session_history.specs.declared.history.Happened.{Happened}
 use Rattle.session_history.specs.Events.{IsAt, IsLegal, Leads, is_command}
 use Rattle.session_history.proofs.EventLemmas.{Leads-append, at_seam}
-use Rattle.session_shell.specs.declared.door.Given0.{Given0}
-use Rattle.session_shell.specs.declared.door.Given0.TheVariants.{Kept as KeptAt, Seen, NoMemory}
-use Rattle.session_shell.specs.Law.{IsDetermined}
-use Rattle.session_threads.specs.History.{Follows, IsMade, NoCommand}
+use Rattle.session_threads.specs.History.{FollowsTurn, IsMade, NoCommand}
 use Rattle.session_threads.proofs.ListLemmas.{all_back, some_is}
 use Rattle.service.specs.Alone.{is_settling}
 use Rattle.service.specs.Taking.{done_event}
@@ -27,9 +26,9 @@ use Rattle.service.proofs.ListLemmas.{all_front}
 abbrev pub IsPlain : Happened → Type 0
 IsPlain event = (event.outcome ≡ Done) × (event.calls ≡ record { a = 0; b = 0 }) × (is_settling event.event ≡ false)
 
--- how such a history follows after one ask of the caller that makes it alone
-pub record FollowsPlain (opening : State) (caller : ℕ) (events : List Happened) (command : Command) (answer : ℕ) (given : Given0) (events' : List Happened) : Type 0 where
-  pub follows : Follows opening caller events command answer given events'
+-- how such a history follows after one turn of the caller that makes it alone
+pub record FollowsPlain (opening : State) (caller : ℕ) (events : List Happened) (command : Command) (answer : ℕ) (answered : Answered) (events' : List Happened) : Type 0 where
+  pub follows : FollowsTurn opening caller events command answer answered events'
   pub alone : follows.grows.others ≡ []
   pub legal : IsLegal opening events'
   pub plain : AllByRecursion IsPlain follows.grows.own
@@ -99,7 +98,7 @@ record Turn (opening : State) (caller : ℕ) (events : List Happened) (command :
   pub at_end : length events' ≡ place + 1
 
 module _ (opening : State) (caller : ℕ) (leads_once : (events : List Happened) (one other : State) → Leads opening events one → Leads opening events other → one ≡ other) where
-  turn_of : (events events' : List Happened) (command : Command) (answer place : ℕ) (reply : Reply) → FollowsPlain opening caller events command answer (KeptAt place reply) events' → Turn opening caller events command answer place events'
+  turn_of : (events events' : List Happened) (command : Command) (answer place : ℕ) (reply : Reply) → FollowsPlain opening caller events command answer (DoneAt place reply) events' → Turn opening caller events command answer place events'
   turn_of events events' command answer place reply follows = record {
     before = f.grows.before;
     leads = leads;
@@ -112,7 +111,7 @@ module _ (opening : State) (caller : ℕ) (leads_once : (events : List Happened)
     at_end = f.turn.at_end;
   }
     where
-      f : Follows opening caller events command answer (KeptAt place reply) events'
+      f : FollowsTurn opening caller events command answer (DoneAt place reply) events'
       f = follows.follows
 
       leads : Leads opening events f.grows.before
@@ -144,9 +143,10 @@ module _ (opening : State) (caller : ℕ) (leads_once : (events : List Happened)
           (ap (λ e. e.event) last_is ∙ f.named.asks))
 
   -- such a history leaves no choice
-  pub FollowsPlain-determined : ((events : List Happened) (place : ℕ) (before again : State) (event same : Happened) (one other : Reply) → IsAt opening events place before event one → IsAt opening events place again same other → (event ≡ same) × (before ≡ again) × (one ≡ other))
-      → IsDetermined (FollowsPlain opening caller)
-  FollowsPlain-determined at_once events a b command answer (KeptAt place reply) (KeptAt place' reply') one other want want' = (ap (λ p. KeptAt p reply) same_place ∙ ap (KeptAt place') same_reply, same_events)
+  pub turns_once : ((events : List Happened) (place : ℕ) (before again : State) (event same : Happened) (one other : Reply) → IsAt opening events place before event one → IsAt opening events place again same other → (event ≡ same) × (before ≡ again) × (one ≡ other))
+      → (events a b : List Happened) (command : Command) (answer place place' : ℕ) (reply reply' : Reply)
+      → FollowsPlain opening caller events command answer (DoneAt place reply) a → FollowsPlain opening caller events command answer (DoneAt place' reply') b → (place ≡ place') × (reply ≡ reply') × (a ≡ b)
+  turns_once at_once events a b command answer place place' reply reply' one other = (same_place, same_reply, same_events)
     where
       t : Turn opening caller events command answer place a
       t = turn_of events a command answer place reply one
@@ -175,7 +175,3 @@ module _ (opening : State) (caller : ℕ) (leads_once : (events : List Happened)
       same_reply : reply ≡ reply'
       same_reply = (at_once b place' one.follows.named.before other.follows.named.before one.follows.named.event other.follows.named.event reply reply'
           (subst (λ p. IsAt opening b p one.follows.named.before one.follows.named.event reply) same_place (subst (λ l. IsAt opening l place one.follows.named.before one.follows.named.event reply) same_events one.follows.named.is_at)) other.follows.named.is_at).2
-  FollowsPlain-determined at_once events a b command answer (Seen front reply) given' one other want want' = absurd one.follows.named
-  FollowsPlain-determined at_once events a b command answer (KeptAt place reply) (Seen front reply') one other want want' = absurd other.follows.named
-  FollowsPlain-determined at_once events a b command answer NoMemory given' one other want want' = absurd (want refl)
-  FollowsPlain-determined at_once events a b command answer (KeptAt place reply) NoMemory one other want want' = absurd (want' refl)

@@ -1,21 +1,29 @@
--- A session over a history that one caller made alone, without the numbers of calls.
-use Rattle.std.proofs.Common.{◌≡◌, ◌≢◌, ◌+◌, if◌then◌else◌, false, max, ℕ, List, [], ◌∷◌, ◌++◌, map, take, refl, sym, ap, subst, ◌∙◌, append_assoc, arith}
-use Rattle.std.proofs.lemmas.List.{append-nil, length-map, map-append, take-map}
+-- Sessions over histories that one caller made alone, and what views of one run show.
+use Rattle.std.proofs.Common.{◌≡◌, ◌≢◌, ◌+◌, if◌then◌else◌, false, max, ℕ, List, [], ◌∷◌, ◌++◌, map, take, refl, sym, ap, subst, ◌∙◌, arith, Some}
+use Rattle.std.proofs.lemmas.List.{length-map, map-append, take-map}
 use Rattle.std.specs.List.{AllByRecursion}
 use Rattle.commands.specs.declared.command.Command.{Command}
+use Rattle.commit_ledger.specs.Kept.{Kept}
 use Rattle.config_core.specs.declared.reply.Reply.{Reply}
 use Rattle.config_core.specs.State.{State}
+use Rattle.config_db.specs.declared.answer.Answered.{Answered}
+use Rattle.config_db.specs.declared.answer.Answered.TheVariants.{Kept as DoneAt, NoMemory as Wanting}
 use Rattle.session_history.specs.declared.history.Happened.{Happened}
 use Rattle.session_history.specs.Events.{IsAsked, IsAt, IsLegal, Leads, is_asked_by, is_command, places_from}
+use Rattle.session_history.specs.Kept.{WasKept}
 use Rattle.session_shell.specs.declared.door.Given0.{Given0}
 use Rattle.session_shell.specs.declared.door.Given0.TheVariants.{Kept as KeptAt, Seen, NoMemory}
+use Rattle.session_shell.specs.declared.reading.Reading.TheVariants.{Operational}
 use Rattle.session_shell.specs.Exchange.{Exchange, Asked, Refused}
-use Rattle.session_shell.specs.Law.{Agree, Undisturbed}
-use Rattle.session_shell.specs.Transcript.{GoesBy, SessionView}
-use Rattle.session_threads.specs.History.{Follows, IsMade, IsTurn, Names, places_given}
+use Rattle.session_shell.specs.Law.{Agree, SeeAlike, Undisturbed, front_at}
+use Rattle.session_shell.specs.Transcript.{Following, GoesBy, SessionView, TakesAnswers, Turns}
+use Rattle.session_shell.proofs.LawLemmas.{Once, all_same, outcome_same}
+use Rattle.session_threads.specs.History.{Follows, FollowsTurn, HasEvent, HasView, IsMade, IsTurn, Known, Names, ShowsKept, known_first, places_answered}
 use Rattle.session_threads.proofs.ListLemmas.{all_back, some_is}
-use Rattle.service.specs.Alone.{IsAlone, IsCalm, uncounted}
+use Rattle.service.specs.Alone.{AreAlike, IsAlone, IsCalm, uncounted}
 use Rattle.service.proofs.AloneLemmas.{FollowsPlain, IsPlain, Leads-split}
+use Rattle.service.proofs.BlindLemmas.{BeganAlike, FollowsBlind, blind, blind_given, blind_logs_out, blind_moments, blind_peels, blind_reads, blind_turns, texts_of, view_of}
+use Rattle.service.proofs.GrowthLemmas.{more_events}
 use Rattle.service.proofs.ListLemmas.{All-map, all_front, slice_get-map}
 
 -- the events but for the numbers of calls
@@ -55,25 +63,36 @@ plain_asked opening events place caller answer command reply asked = record {
   asks = asked.asks;
 }
 
-plain_names : (opening : State) (caller : ℕ) (events : List Happened) (command : Command) (answer : ℕ) (given : Given0) → Names opening caller events command answer given → Names opening caller (plain events) command answer given
-plain_names opening caller events command answer (KeptAt place reply) named = plain_asked opening events place caller answer command reply named
-plain_names opening caller events command answer (Seen front reply) named = absurd named
-plain_names opening caller events command answer NoMemory named = tt
+-- what was kept
+plain_kept : (opening : State) (events : List Happened) (kept : Kept) → WasKept opening events kept → WasKept opening (plain events) kept
+plain_kept opening events kept was = record {
+  count = was.count;
+  state = was.state;
+  leads = subst (λ l. Leads opening l was.state) (sym (take-map uncounted was.count events)) (plain_leads opening (take was.count events) was.state was.leads);
+  is = was.is;
+}
 
-plain_turn : (given : Given0) (own events : List Happened) → IsTurn given own events → IsTurn given (plain own) (plain events)
-plain_turn (KeptAt place reply) own events turn = record {
+plain_view : (opening : State) (events : List Happened) (command : Command) (front : ℕ) (reply : Reply) → HasView opening events command front reply → HasView opening (plain events) command front reply
+plain_view opening events command front reply view =
+    record { kept = view.kept; was_kept = (plain_kept opening events view.kept view.was_kept.0, view.was_kept.1); shows = view.shows }
+
+plain_event : (opening : State) (caller : ℕ) (events : List Happened) (command : Command) (answer : ℕ) (answered : Answered) → HasEvent opening caller events command answer answered → HasEvent opening caller (plain events) command answer answered
+plain_event opening caller events command answer (DoneAt place reply) named = plain_asked opening events place caller answer command reply named
+plain_event opening caller events command answer Wanting named = tt
+
+plain_turn : (answered : Answered) (own events : List Happened) → IsTurn answered own events → IsTurn answered (plain own) (plain events)
+plain_turn (DoneAt place reply) own events turn = record {
   front = plain turn.front;
   last = uncounted turn.last;
   is_own = ap plain turn.is_own ∙ plain_append turn.front (turn.last ∷ []);
   no_command = All-map uncounted (λ event. is_command event.event ≡ false) (λ event. is_command event.event ≡ false) turn.front (λ event is. is) turn.no_command;
   at_end = omega (arith, turn.at_end, length-map events uncounted);
 }
-plain_turn (Seen front reply) own events turn = absurd turn
-plain_turn NoMemory own events turn = All-map uncounted (λ event. is_command event.event ≡ false) (λ event. is_command event.event ≡ false) own (λ event is. is) turn
+plain_turn Wanting own events turn = All-map uncounted (λ event. is_command event.event ≡ false) (λ event. is_command event.event ≡ false) own (λ event is. is) turn
 
 -- how a history follows, without the numbers of calls
-plain_follows : (opening : State) (caller : ℕ) (events : List Happened) (command : Command) (answer : ℕ) (given : Given0) (events' : List Happened) → Follows opening caller events command answer given events' → Follows opening caller (plain events) command answer given (plain events')
-plain_follows opening caller events command answer given events' follows =
+plain_follows : (opening : State) (caller : ℕ) (events : List Happened) (command : Command) (answer : ℕ) (answered : Answered) (events' : List Happened) → FollowsTurn opening caller events command answer answered events' → FollowsTurn opening caller (plain events) command answer answered (plain events')
+plain_follows opening caller events command answer answered events' follows =
     let grows = follows.grows in
     record {
       grows = record {
@@ -85,19 +104,10 @@ plain_follows opening caller events command answer given events' follows =
         leads = subst (λ l. Leads opening l grows.before) (plain_append events grows.others) (plain_leads opening (events ++ grows.others) grows.before grows.leads);
         made = All-map uncounted (IsMade caller (max answer grows.before.greatest)) (IsMade caller (max answer grows.before.greatest)) grows.own (λ event is. is) grows.made;
       };
-      named = plain_names opening caller events' command answer given follows.named;
-      turn = plain_turn given grows.own events' follows.turn;
-      places = plain_places 0 caller events' ∙ follows.places ∙ ap (λ l. l ++ places_given given) (sym (plain_places 0 caller events));
+      named = plain_event opening caller events' command answer answered follows.named;
+      turn = plain_turn answered grows.own events' follows.turn;
+      places = plain_places 0 caller events' ∙ follows.places ∙ ap (λ l. l ++ places_answered answered) (sym (plain_places 0 caller events));
     }
-
--- a history only grows
-longer : (opening : State) (caller : ℕ) (exchanges : List Exchange) (events events' : List Happened) → GoesBy (Follows opening caller) exchanges events events' → (more : List Happened) × (events' ≡ events ++ more)
-longer opening caller [] events events' goes = ([], goes ∙ sym (append-nil events))
-longer opening caller (Asked moment command given ∷ exchanges) events events' goes =
-    let grows = goes.1.grows in
-    let more = longer opening caller exchanges goes.0 events' goes.2 in
-    ((grows.others ++ grows.own) ++ more.0, more.1 ∙ ap (λ l. l ++ more.0) grows.grown ∙ append_assoc events (grows.others ++ grows.own) more.0)
-longer opening caller (Refused moment fault ∷ exchanges) events events' goes = longer opening caller exchanges events events' goes
 
 -- the first events of such a history are one
 alone_front : (opening : State) (caller : ℕ) (events more : List Happened) → IsAlone opening caller (events ++ more) → IsAlone opening caller events
@@ -110,60 +120,243 @@ nobody : (caller : ℕ) (others : List Happened) → AllByRecursion (λ event. e
 nobody caller [] own other = refl
 nobody caller (event ∷ others) own other = absurd (other.0 own.0)
 
+-- what was answered from a view is named
+abbrev pub IsViewGiven : State → List Happened → Command → Given0 → Type 0
+IsViewGiven opening final command (KeptAt place reply) = Unit {0}
+IsViewGiven opening final command (Seen front reply) = HasView opening final command front reply
+IsViewGiven opening final command NoMemory = Unit {0}
+
+abbrev pub IsViewed : State → List Happened → Exchange → Type 0
+IsViewed opening final (Asked moment command given) = IsViewGiven opening final command given
+IsViewed opening final (Refused moment fault) = Unit {0}
+
+plain_given : (opening : State) (final : List Happened) (command : Command) (given : Given0) → IsViewGiven opening final command given → IsViewGiven opening (plain final) command given
+plain_given opening final command (KeptAt place reply) view = tt
+plain_given opening final command (Seen front reply) view = plain_view opening final command front reply view
+plain_given opening final command NoMemory view = tt
+
+plain_viewed : (opening : State) (final : List Happened) (exchange : Exchange) → IsViewed opening final exchange → IsViewed opening (plain final) exchange
+plain_viewed opening final (Asked moment command given) view = plain_given opening final command given view
+plain_viewed opening final (Refused moment fault) view = tt
+
+-- each of these items that was answered from a view
+pub all_viewed : (opening : State) (caller : ℕ) (final : List Happened) (exchanges : List Exchange) (d e : Known) → GoesBy (Follows opening caller final) exchanges d e → AllByRecursion (IsViewed opening (plain final)) exchanges
+all_viewed opening caller final [] d e goes = tt
+all_viewed opening caller final (Asked moment command (KeptAt place reply) ∷ exchanges) d e goes = (tt, all_viewed opening caller final exchanges goes.0 e goes.2)
+all_viewed opening caller final (Asked moment command (Seen front reply) ∷ exchanges) d e goes =
+    (plain_view opening final command front reply (record { kept = goes.1.kept; was_kept = goes.1.was_kept; shows = goes.1.shows }), all_viewed opening caller final exchanges goes.0 e goes.2)
+all_viewed opening caller final (Asked moment command NoMemory ∷ exchanges) d e goes = (tt, all_viewed opening caller final exchanges goes.0 e goes.2)
+all_viewed opening caller final (Refused moment fault ∷ exchanges) d e goes = (tt, all_viewed opening caller final exchanges d e goes)
+
 module _ (opening : State) (caller : ℕ) where
-  follows_alone : (events : List Happened) (command : Command) (answer : ℕ) (given : Given0) (events' : List Happened) → IsAlone opening caller events' → Follows opening caller events command answer given events' →
-      FollowsPlain opening caller (plain events) command answer given (plain events')
+  follows_alone : (events : List Happened) (command : Command) (answer : ℕ) (answered : Answered) (events' : List Happened) → IsAlone opening caller events' → FollowsTurn opening caller events command answer answered events' →
+      FollowsPlain opening caller (plain events) command answer answered (plain events')
   unfolding plain_follows
-  follows_alone events command answer given events' alone follows =
+  follows_alone events command answer answered events' alone follows =
       let own : AllByRecursion (λ (event : Happened). event.caller ≡ caller) (events ++ (follows.grows.others ++ follows.grows.own)) = subst (AllByRecursion (λ event. event.caller ≡ caller)) follows.grows.grown alone.own in
       let calm : AllByRecursion IsCalm (events ++ (follows.grows.others ++ follows.grows.own)) = subst (AllByRecursion IsCalm) follows.grows.grown alone.calm in
       record {
-        follows = plain_follows opening caller events command answer given events' follows;
+        follows = plain_follows opening caller events command answer answered events' follows;
         alone = ap plain (nobody caller follows.grows.others (all_front _ follows.grows.others follows.grows.own (all_back _ events (follows.grows.others ++ follows.grows.own) own)) follows.grows.not_own);
         legal = plain_legal opening events' alone.legal;
         plain = All-map uncounted IsCalm IsPlain follows.grows.own (λ event is. (is.0, refl, is.1)) (all_back IsCalm follows.grows.others follows.grows.own (all_back IsCalm events (follows.grows.others ++ follows.grows.own) calm));
       }
 
-  goes_alone : (exchanges : List Exchange) (events events' : List Happened) → IsAlone opening caller events' → GoesBy (Follows opening caller) exchanges events events' → GoesBy (FollowsPlain opening caller) exchanges (plain events) (plain events')
-  goes_alone [] events events' alone goes = ap plain goes
-  goes_alone (Asked moment command given ∷ exchanges) events events' alone goes =
-      let more = longer opening caller exchanges goes.0 events' goes.2 in
-      let then_alone : IsAlone opening caller goes.0 = alone_front opening caller goes.0 more.0 (subst (IsAlone opening caller) more.1 alone) in
-      (plain goes.0, follows_alone events command moment given goes.0 then_alone goes.1, goes_alone exchanges goes.0 events' alone goes.2)
-  goes_alone (Refused moment fault ∷ exchanges) events events' alone goes = goes_alone exchanges events events' alone goes
+  module _ (final : List Happened) where
+    alone_before : (exchanges : List Exchange) (d e : Known) → GoesBy (Follows opening caller final) exchanges d e → IsAlone opening caller e.events → IsAlone opening caller d.events
+    alone_before exchanges d e goes alone =
+        let more = more_events opening caller final exchanges d e goes in alone_front opening caller d.events more.0 (subst (IsAlone opening caller) more.1 alone)
 
-  -- a session that nothing disturbs
-  pub undisturbed_alone : (limit : ℕ) (bytes : List ℕ) (coming : ℕ → ℕ) (events : List Happened) (view : SessionView) → Undisturbed (Follows opening caller) limit bytes coming [] events view → IsAlone opening caller events →
-      Undisturbed (FollowsPlain opening caller) limit bytes coming [] (plain events) view
-  undisturbed_alone limit bytes coming events view quiet alone = record {
-    how = quiet.how;
-    source = quiet.source;
-    faults = quiet.faults;
-    session = record {
-      lines = quiet.session.lines;
-      asked = quiet.session.asked;
-      final = quiet.session.final;
-      reading = quiet.session.reading;
-      reads = quiet.session.reads;
-      input = quiet.session.input;
-      logs_out = quiet.session.logs_out;
-      turns = record { moments = quiet.session.turns.moments; turned = quiet.session.turns.turned; asked = goes_alone (quiet.session.asked ++ quiet.session.final) [] events alone quiet.session.turns.asked };
-      texts = quiet.session.texts;
+    goes_blind : (exchanges : List Exchange) (d e : Known) → IsAlone opening caller e.events → GoesBy (Follows opening caller final) exchanges d e → GoesBy (FollowsBlind opening caller) (map blind exchanges) (plain d.events) (plain e.events)
+    goes_blind [] d e alone goes = ap (λ (k : Known). plain k.events) goes
+    goes_blind (Asked moment command (KeptAt place reply) ∷ exchanges) d e alone goes =
+        (plain goes.0.events, follows_alone d.events command moment (DoneAt place reply) goes.0.events (alone_before exchanges goes.0 e goes.2 alone) goes.1.turn, goes_blind exchanges goes.0 e alone goes.2)
+    goes_blind (Asked moment command (Seen front reply) ∷ exchanges) d e alone goes =
+        (plain goes.0.events, (ap plain goes.1.same, refl), goes_blind exchanges goes.0 e alone goes.2)
+    goes_blind (Asked moment command NoMemory ∷ exchanges) d e alone goes =
+        (plain goes.0.events, follows_alone d.events command moment Wanting goes.0.events (alone_before exchanges goes.0 e goes.2 alone) goes.1.turn, goes_blind exchanges goes.0 e alone goes.2)
+    goes_blind (Refused moment fault ∷ exchanges) d e alone goes = goes_blind exchanges d e alone goes
+
+  module _ (limit : ℕ) (bytes : List ℕ) (coming : ℕ → ℕ) (after : Known) (view : SessionView)
+      (quiet : Undisturbed (Follows opening caller after.events) limit bytes coming (known_first opening []) after view)
+      (alone : IsAlone opening caller after.events) where
+    abbrev pub blind_view : SessionView
+    blind_view = view_of (map blind quiet.session.asked) (map blind quiet.session.final) view
+
+    abbrev old : SessionView
+    old = record { coming = Some coming; held = Some []; faults = quiet.faults; turns = [] }
+
+    abbrev all : List Exchange
+    all = quiet.session.asked ++ quiet.session.final
+
+    pub whole_turns : Turns (FollowsBlind opening caller) (map blind all) [] (plain after.events) old blind_view
+    whole_turns = record {
+      moments = subst (λ l. TakesAnswers (Some coming) l view.coming) (sym (blind_moments all)) quiet.session.turns.moments;
+      turned = quiet.session.turns.turned ∙ sym (blind_turns all);
+      asked = goes_blind after.events all (known_first opening []) after alone quiet.session.turns.asked;
+    }
+
+    -- a session that nothing disturbs, without what views said
+    abbrev pub undisturbed_blind : Undisturbed (FollowsBlind opening caller) limit bytes coming [] (plain after.events) blind_view
+    undisturbed_blind = record {
+      how = quiet.how;
+      source = quiet.source;
+      faults = quiet.faults;
+      session = record {
+        lines = quiet.session.lines;
+        asked = map blind quiet.session.asked;
+        final = map blind quiet.session.final;
+        reading = quiet.session.reading;
+        reads = blind_reads quiet.session.lines Operational quiet.session.reading quiet.session.asked quiet.session.reads;
+        input = quiet.session.input;
+        logs_out = blind_logs_out quiet.session.reading quiet.session.final quiet.session.logs_out;
+        turns = subst (λ l. Turns (FollowsBlind opening caller) l [] (plain after.events) old blind_view) (map-append blind quiet.session.asked quiet.session.final) whole_turns;
+        texts = texts_of quiet.how (map blind quiet.session.asked) (map blind quiet.session.final) old view refl quiet.ended;
+      };
+      ended = quiet.ended;
+      no_fault = quiet.no_fault;
+      no_want = quiet.no_want;
+    }
+
+-- any door
+abbrev pub FollowsAny : Known → Command → ℕ → Given0 → Known → Type 0
+FollowsAny d command answer given e = Unit {0}
+
+goes_any : (follows : Following Known) (exchanges : List Exchange) (d e : Known) → GoesBy follows exchanges d e → GoesBy FollowsAny exchanges d e
+goes_any follows [] d e goes = goes
+goes_any follows (Asked moment command given ∷ exchanges) d e goes = (goes.0, tt, goes_any follows exchanges goes.0 e goes.2)
+goes_any follows (Refused moment fault ∷ exchanges) d e goes = goes_any follows exchanges d e goes
+
+abbrev of_any : (follows : Following Known) (limit : ℕ) (bytes : List ℕ) (coming : ℕ → ℕ) (d e : Known) (view : SessionView) → Undisturbed follows limit bytes coming d e view → Undisturbed FollowsAny limit bytes coming d e view
+of_any follows limit bytes coming d e view quiet = record {
+  how = quiet.how;
+  source = quiet.source;
+  faults = quiet.faults;
+  session = record {
+    lines = quiet.session.lines;
+    asked = quiet.session.asked;
+    final = quiet.session.final;
+    reading = quiet.session.reading;
+    reads = quiet.session.reads;
+    input = quiet.session.input;
+    logs_out = quiet.session.logs_out;
+    turns = record {
+      moments = quiet.session.turns.moments;
+      turned = quiet.session.turns.turned;
+      asked = goes_any follows (quiet.session.asked ++ quiet.session.final) d e quiet.session.turns.asked;
     };
-    ended = quiet.ended;
-    no_fault = quiet.no_fault;
-    no_want = quiet.no_want;
-  }
+    texts = quiet.session.texts;
+  };
+  ended = quiet.ended;
+  no_fault = quiet.no_fault;
+  no_want = quiet.no_want;
+}
 
--- at a place a history names one reply
-pub names_agree : (opening : State) (caller : ℕ) (events : List Happened) → ((place : ℕ) (before again : State) (event same : Happened) (one other : Reply) → IsAt opening events place before event one → IsAt opening events place again same other → (event ≡ same) × (before ≡ again) × (one ≡ other)) →
-    Agree (Names opening caller) events events
-names_agree opening caller events at_once command moment (KeptAt place reply) (KeptAt place' reply') named named' is front =
-    let same : place ≡ place' = some_is is in
-    ap (λ p. KeptAt p reply) same ∙ ap (KeptAt place') (at_once place' named.before named'.before named.event named'.event reply reply' (subst (λ p. IsAt opening events p named.before named.event reply) same named.is_at) named'.is_at).2
-names_agree opening caller events at_once command moment NoMemory NoMemory named named' is front = refl
-names_agree opening caller events at_once command moment (KeptAt place reply) NoMemory named named' is front = cc
-names_agree opening caller events at_once command moment NoMemory (KeptAt place reply) named named' is front = cc
-names_agree opening caller events at_once command moment (Seen seen reply) other named named' is front = absurd named
-names_agree opening caller events at_once command moment (KeptAt place reply) (Seen seen reply') named named' is front = absurd named'
-names_agree opening caller events at_once command moment NoMemory (Seen seen reply') named named' is front = absurd named'
+cons_is : {A : Type 0} {x y : A} {xs ys : List A} → x ∷ xs ≡ y ∷ ys → (x ≡ y) × (xs ≡ ys)
+cons_is is = (cc, cc)
+
+-- what an item is but for what a view said of it
+moments_are : (moment moment' : ℕ) (command command' : Command) (given given' : Given0) → Asked moment command given ≡ Asked moment' command' given' → (moment ≡ moment') × (command ≡ command') × (given ≡ given')
+moments_are moment moment' command command' given given' is = (cc, cc, cc)
+
+module _ (opening : State) (kept_once : (events : List Happened) (one other : Kept) → WasKept opening events one → WasKept opening events other → one.count ≡ other.count → one ≡ other)
+    (shows_once : (kept : Kept) (command : Command) (one other : Reply) → ShowsKept kept command one → ShowsKept kept command other → one ≡ other) where
+  -- views of as many entries show one thing
+  view_once : (events : List Happened) (command : Command) (front front' : ℕ) (reply reply' : Reply) → HasView opening events command front reply → HasView opening events command front' reply' → front ≡ front' → reply ≡ reply'
+  view_once events command front front' reply reply' v v' is =
+      let same : v.kept ≡ v'.kept = kept_once events v.kept v'.kept v.was_kept.0 v'.was_kept.0 (v.was_kept.1 ∙ is ∙ sym v'.was_kept.1) in
+      shows_once v'.kept command reply reply' (subst (λ k. ShowsKept k command reply) same v.shows) v'.shows
+
+  seen_given : (events : List Happened) (command : Command) (given given' : Given0) → blind_given given ≡ blind_given given' → IsViewGiven opening events command given → IsViewGiven opening events command given' → given ≡ given'
+  seen_given events command (KeptAt place reply) (KeptAt place' reply') is v v' = is
+  seen_given events command (Seen front reply) (Seen front' reply') is v v' =
+      let fronts : front ≡ front' = cc in ap (λ f. Seen f reply) fronts ∙ ap (Seen front') (view_once events command front front' reply reply' v v' fronts)
+  seen_given events command NoMemory NoMemory is v v' = refl
+  seen_given events command (KeptAt place reply) (Seen front' reply') is v v' = cc
+  seen_given events command (KeptAt place reply) NoMemory is v v' = cc
+  seen_given events command (Seen front reply) (KeptAt place' reply') is v v' = cc
+  seen_given events command (Seen front reply) NoMemory is v v' = cc
+  seen_given events command NoMemory (KeptAt place' reply') is v v' = cc
+  seen_given events command NoMemory (Seen front' reply') is v v' = cc
+
+  seen_one : (events : List Happened) (x y : Exchange) → blind x ≡ blind y → IsViewed opening events x → IsViewed opening events y → x ≡ y
+  seen_one events (Asked moment command given) (Asked moment' command' given') is v v' =
+      let are = moments_are moment moment' command command' (blind_given given) (blind_given given') is in
+      ap (λ m. Asked m command given) are.0 ∙ ap (λ c. Asked moment' c given) are.1
+      ∙ ap (Asked moment' command') (seen_given events command' given given' are.2 (subst (λ c. IsViewGiven opening events c given) are.1 v) v')
+  seen_one events (Refused moment fault) (Refused moment' fault') is v v' = is
+  seen_one events (Asked moment command given) (Refused moment' fault') is v v' = cc
+  seen_one events (Refused moment fault) (Asked moment' command' given') is v v' = cc
+
+  -- items that are one but for what views said of them, each of which a run names, are one
+  pub seen_all : (events : List Happened) (xs ys : List Exchange) → map blind xs ≡ map blind ys → AllByRecursion (IsViewed opening events) xs → AllByRecursion (IsViewed opening events) ys → xs ≡ ys
+  seen_all events [] [] is v v' = refl
+  seen_all events [] (y ∷ ys) is v v' = cc
+  seen_all events (x ∷ xs) [] is v v' = cc
+  seen_all events (x ∷ xs) (y ∷ ys) is v v' =
+      let are = cons_is is in ap (λ z. z ∷ xs) (seen_one events x y are.0 v.0 v'.0) ∙ ap (λ l. y ∷ l) (seen_all events xs ys are.1 v.1 v'.1)
+
+  -- at a place a history names one reply, and so does a run of a view of so many entries
+  pub names_agree : (caller : ℕ) (events : List Happened) (d : Known) → ((place : ℕ) (before again : State) (event same : Happened) (one other : Reply) → IsAt opening d.events place before event one → IsAt opening d.events place again same other → (event ≡ same) × (before ≡ again) × (one ≡ other)) →
+      Agree (Names opening caller events) d d
+  names_agree caller events d at_once command moment (KeptAt place reply) (KeptAt place' reply') named named' is front =
+      let same : place ≡ place' = some_is is in
+      ap (λ p. KeptAt p reply) same ∙ ap (KeptAt place') (at_once place' named.before named'.before named.event named'.event reply reply' (subst (λ p. IsAt opening d.events p named.before named.event reply) same named.is_at) named'.is_at).2
+  names_agree caller events d at_once command moment (Seen front reply) (Seen front' reply') named named' is fronts =
+      let same : front ≡ front' = some_is fronts in
+      ap (λ f. Seen f reply) same ∙ ap (Seen front') (view_once events command front front' reply reply' named named' same)
+  names_agree caller events d at_once command moment NoMemory NoMemory named named' is front = refl
+  names_agree caller events d at_once command moment (KeptAt place reply) NoMemory named named' is front = cc
+  names_agree caller events d at_once command moment NoMemory (KeptAt place reply) named named' is front = cc
+  names_agree caller events d at_once command moment (Seen seen reply) (KeptAt place reply') named named' is front = cc
+  names_agree caller events d at_once command moment (Seen seen reply) NoMemory named named' is front = cc
+  names_agree caller events d at_once command moment (KeptAt place reply) (Seen seen reply') named named' is front = cc
+  names_agree caller events d at_once command moment NoMemory (Seen seen reply') named named' is front = cc
+
+  module _ (caller : ℕ) (once : Once)
+      (leads_once : (events : List Happened) (one other : State) → Leads opening events one → Leads opening events other → one ≡ other)
+      (at_once : (events : List Happened) (place : ℕ) (before again : State) (event same : Happened) (one other : Reply) → IsAt opening events place before event one → IsAt opening events place again same other → (event ≡ same) × (before ≡ again) × (one ≡ other))
+      (limit : ℕ) (bytes : List ℕ) (coming : ℕ → ℕ) (after after' : Known) (one other : SessionView)
+      (first : Undisturbed (Follows opening caller after.events) limit bytes coming (known_first opening []) after one) (alone : IsAlone opening caller after.events)
+      (second : Undisturbed (Follows opening caller after'.events) limit bytes coming (known_first opening []) after' other) (alone' : IsAlone opening caller after'.events)
+      (seen : SeeAlike one.turns other.turns) where
+    abbrev xs : List Exchange
+    xs = first.session.asked ++ first.session.final
+
+    abbrev ys : List Exchange
+    ys = second.session.asked ++ second.session.final
+
+    abbrev one_blind : Undisturbed (FollowsBlind opening caller) limit bytes coming [] (plain after.events) (blind_view opening caller limit bytes coming after one first alone)
+    one_blind = undisturbed_blind opening caller limit bytes coming after one first alone
+
+    abbrev other_blind : Undisturbed (FollowsBlind opening caller) limit bytes coming [] (plain after'.events) (blind_view opening caller limit bytes coming after' other second alone')
+    other_blind = undisturbed_blind opening caller limit bytes coming after' other second alone'
+
+    began : BeganAlike opening caller (plain after.events) (plain after'.events) (map blind first.session.asked ++ map blind first.session.final) (map blind second.session.asked ++ map blind second.session.final)
+    began = record {
+      start = [];
+      went = one_blind.session.turns.asked;
+      went' = other_blind.session.turns.asked;
+      seen = λ number. ap (λ turns. front_at turns number) (sym one_blind.session.turns.turned) ∙ seen number ∙ ap (λ turns. front_at turns number) other_blind.session.turns.turned;
+    }
+
+    but_for_views : (map blind first.session.asked ++ map blind first.session.final ≡ map blind second.session.asked ++ map blind second.session.final) × BeganAlike opening caller (plain after.events) (plain after'.events) [] []
+    but_for_views = all_same (FollowsBlind opening caller) once limit bytes coming [] (plain after.events) [] (plain after'.events)
+        (blind_view opening caller limit bytes coming after one first alone) (blind_view opening caller limit bytes coming after' other second alone') one_blind other_blind
+        (BeganAlike opening caller (plain after.events) (plain after'.events)) (blind_peels opening caller (plain after.events) (plain after'.events) leads_once at_once) began
+
+    alike : AreAlike after.events after'.events
+    alike = but_for_views.1.went ∙ sym but_for_views.1.went'
+
+    all_one : xs ≡ ys
+    all_one = seen_all (plain after'.events) xs ys (map-append blind first.session.asked first.session.final ∙ but_for_views.0 ∙ sym (map-append blind second.session.asked second.session.final))
+        (subst (λ l. AllByRecursion (IsViewed opening l) xs) alike (all_viewed opening caller after.events xs (known_first opening []) after first.session.turns.asked))
+        (all_viewed opening caller after'.events ys (known_first opening []) after' second.session.turns.asked)
+
+    -- two sessions that nothing disturbs, and that were answered from views of as many entries, are one
+    pub one_text : (one.turns ≡ other.turns) × (one.held ≡ other.held) × AreAlike after.events after'.events
+    one_text =
+        let out = outcome_same FollowsAny once limit bytes coming (known_first opening []) after (known_first opening []) after' one other
+        (of_any (Follows opening caller after.events) limit bytes coming (known_first opening []) after one first)
+        (of_any (Follows opening caller after'.events) limit bytes coming (known_first opening []) after' other second) all_one in
+        (out.0, out.1, alike)

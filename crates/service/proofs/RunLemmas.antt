@@ -1,6 +1,10 @@
 -- What a run hands back of its sessions.
-use Rattle.std.proofs.Common.{◌≡◌, ◌⊎◌, ◌≤◌, ℕ, suc, List, [], ◌∷◌, length, map, refl, sym, ap, subst, ◌∙◌, arith, Option, None, Some, slice_get, inl, inr}
-use Rattle.std.proofs.lemmas.List.{length-append, length-map}
+use Rattle.std.proofs.Common.{◌≡◌, ◌⊎◌, ◌≤◌, ℕ, zero, suc, List, [], ◌∷◌, length, map, max, replicate, refl, sym, ap, subst, ◌∙◌, arith, Option, None, Some, slice_get, inl, inr}
+use Rattle.std.proofs.Math.Nat.{le-max_right}
+use Rattle.std.proofs.lemmas.List.{length-append, length-map, length-replicate}
+use Rattle.std.specs.List.{AllByRecursion}
+use Rattle.active_snapshot.specs.States.{ReaderState, first_read}
+use Rattle.commit_ledger.specs.Kept.{Kept}
 use Rattle.command_line.specs.Asked.{Asks, user_in, users_of as users_asked}
 use Rattle.command_line.specs.declared.asked.Asked.{Asked}
 use Rattle.config_core.specs.State.{State}
@@ -12,6 +16,7 @@ use Rattle.session_shell.specs.declared.turn.How.TheVariants.{Clean, SourceFault
 use Rattle.session_shell.specs.Transcript.{IsInput}
 use Rattle.session_threads.specs.History.{HasSession}
 use Rattle.session_threads.specs.Results.{IsResult, IsUnbegun, SessionResult, status_of_all}
+use Rattle.session_threads.specs.Served.{HasReaders}
 use Rattle.service.specs.Run.{AreEnds, Fits, IsFaultless}
 
 -- no sessions come to the status of words that ask nothing
@@ -34,6 +39,15 @@ few_users words asked asks = subst (λ n. n ≤ 64) (ap length (sym asks.meant.u
 -- as many ends as users
 pub as_many : {S K C : Type 0} (words : List (List ℕ)) (ends : List (End S K C)) (asked : Asked) → AreEnds words ends → Asks words asked → length ends ≡ length asked.users
 as_many words ends asked are asks = sym (length-map ends (λ end. end.user)) ∙ ap length (are asked asks)
+
+all_alike : (reader : ReaderState) (count : ℕ) → AllByRecursion (λ (r : ReaderState). r ≡ reader) (replicate count reader)
+all_alike reader zero = tt
+all_alike reader (suc count) = (refl, all_alike reader count)
+
+-- as many readers as sessions
+pub readers_are : (opening : Kept) (count users : ℕ) (readers : List ReaderState) → readers ≡ replicate (max 1 users) (first_read opening) → count ≡ users → HasReaders opening count readers
+readers_are opening count users readers is as_many = subst (HasReaders opening count) (sym is)
+    (omega (arith, as_many, le-max_right 1 users, length-replicate (max 1 users) (first_read opening)), all_alike (first_read opening) (max 1 users))
 
 quiet_first : (how : How) (hows : List How) → (how ≡ Clean) ⊎ (how ≡ NoMemory) → (status_of_all hows ≡ 0) ⊎ (status_of_all hows ≡ 9) → (status_of_all (how ∷ hows) ≡ 0) ⊎ (status_of_all (how ∷ hows) ≡ 9)
 quiet_first how hows (inl is) then_all = subst (λ h. (status_of_all (h ∷ hows) ≡ 0) ⊎ (status_of_all (h ∷ hows) ≡ 9)) (sym is) then_all

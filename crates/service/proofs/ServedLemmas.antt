@@ -4,9 +4,11 @@ use Rattle.std.specs.List.{AllByRecursion}
 use Rattle.config_core.specs.State.{State, opening_of}
 use Rattle.config_db.specs.View.{DatabaseView, IsSameRun, opened}
 use Rattle.session_history.specs.declared.history.Happened.{Happened}
-use Rattle.session_threads.specs.History.{HasSession}
+use Rattle.session_shell.specs.Opened.{end_view}
+use Rattle.session_threads.specs.History.{HasSession, known_first}
 use Rattle.session_threads.specs.Results.{IsResult, IsUnbegun, SessionResult}
 use Rattle.session_threads.specs.Served.{EachFrom}
+use Rattle.session_threads.proofs.LaterLemmas.{IsSession-later}
 use Rattle.session_threads.proofs.ListLemmas.{All-append, some_is}
 
 -- one run has one opening
@@ -48,10 +50,11 @@ module _ {S K C : Type 0} (left : S → Option (List ℕ)) (source_faults : S �
         before = h.before;
         after = h.after;
         later = h.later ++ more;
-        begins = ap (λ l. l ++ more) h.begins ∙ append_assoc h.after h.later more;
+        begins = ap (λ l. l ++ more) h.begins ∙ append_assoc h.after.events h.later more;
         others_first = h.others_first;
         none_later = All-append (λ (event : Happened). event.caller ≢ caller) h.later more h.none_later others;
-        session = h.session;
+        session = IsSession-later opening caller events more limit result.how (left result.old.source) (left result.new.source) (known_first opening h.before) h.after
+            (end_view coming held sink_faults result.old []) (end_view coming held sink_faults result.new result.turns) h.session;
       })
       by_session (inr u) = inr (record {
         how = u.how;

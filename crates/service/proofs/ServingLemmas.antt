@@ -19,6 +19,7 @@ use Rattle.disk_model.specs.Disk.{History as DiskHistory}
 use Rattle.modes.specs.Modes.{status_of as status_of_start}
 use Rattle.session_history.specs.declared.history.Happened.{Happened}
 use Rattle.session_history.specs.Events.{Leads, StaysAccepted}
+use Rattle.session_history.proofs.KeptLemmas.{WasKept-last_count}
 use Rattle.session_shell.specs.declared.end.End.{End}
 use Rattle.session_shell.specs.declared.turn.How.{How}
 use Rattle.stored_ledger.specs.declared.why.StartWhy.{StartWhy}
@@ -35,7 +36,8 @@ use Rattle.session_threads.proofs.LogLemmas.{AddsUp-then, rose_since}
 use Rattle.service.specs.declared.closed.Closed.{Closed}
 use Rattle.service.specs.Run.{EachEnd, IsFaultless}
 use Rattle.service.specs.ServedOver.{IsServedOver, status_over}
-use Rattle.service.specs.Serving.{AreSessions, AreSound, AreStored, AreTheirs, DiskRose, HasHappened, HaveCauses, IsEnded, IsServed, Serves, status_at_end}
+use Rattle.service.specs.Serving.{AreSessions, AreSound, AreStored, AreTheirs, DiskRose, FrontsGo, HasHappened, HaveCauses, IsEnded, IsServed, Serves, status_at_end}
+use Rattle.service.proofs.GrowthLemmas.{each_turns, result_fronts}
 use Rattle.service.proofs.ListLemmas.{slice_get-map}
 use Rattle.service.proofs.ModeLemmas.{refused_is_not_1}
 use Rattle.service.proofs.RunLemmas.{quiet, quiet_status, status_is_not_1}
@@ -69,7 +71,8 @@ module _ {S K C B D : Type 0} (left : S → Option (List ℕ)) (source_faults : 
     (coming : C → Option (ℕ → ℕ)) (due : B → Option (ℕ → Bool)) (tells : D → Bool) (history : D → DiskHistory) (faults : D → ℕ) where
   module _ (limit : ℕ) (ends : List (End S K C)) (ticker : Ticker B C) (a b : D) (users : List (List ℕ)) (journal : ℕ)
       (first : DatabaseView D) (closed : Closed S K C B D) (theirs : users_of ends ≡ users) (begun : IsBegun tells faults a b users journal first)
-      (over : IsServedOver left source_faults held sink_faults coming due tells history faults limit ends ticker first closed) where
+      (over : IsServedOver left source_faults held sink_faults coming due tells history faults limit ends ticker first closed)
+      (one_state : (kept : Kept) (users : List (List ℕ)) (events : List Happened) (one other : State) → Leads (opening_of kept users) events one → Leads (opening_of kept users) events other → one ≡ other) where
     abbrev v : DatabaseView D
     v = over.v
 
@@ -131,15 +134,25 @@ module _ {S K C B D : Type 0} (left : S → Option (List ℕ)) (source_faults : 
       made = settles.extends.made;
     }
 
+    leads_last : Leads opening closed.history.events.items last.state
+    leads_last = subst (λ l. Leads opening l last.state) (sym handed.events) (subst (λ o. Leads o last.events last.state) opens_last handed.legal)
+
     happened : HasHappened due coming first.opening (users_of ends) ticker closed.ticker closed.history
     happened = record {
       opening = handed.opening ∙ ap Some (settles.extends.same.opening ∙ served.adds.same.opening);
       users_are = handed.users ∙ settles.extends.same.users ∙ served.adds.same.users ∙ begun.users_are ∙ sym theirs;
       last = last.state;
-      leads = subst (λ l. Leads opening l last.state) (sym handed.events) (subst (λ o. Leads o last.events last.state) opens_last handed.legal);
+      leads = leads_last;
       theirs = are_theirs;
       accepted = subst (λ l. StaysAccepted opening l) (sym handed.events) (subst (λ o. StaysAccepted o last.events) opens_last handed.accepted);
     }
+
+    -- what was shown by views was kept at some moment of the run
+    fronts : AllByRecursion (FrontsGo first.opening.count last.state.kept.count) closed.turns.items
+    fronts = subst (AllByRecursion (FrontsGo first.opening.count last.state.kept.count)) sessions.turned
+        (each_turns (FrontsGo first.opening.count last.state.kept.count) sessions.results (λ k result is.
+        result_fronts left source_faults held sink_faults coming limit opening closed.history.events.items last.state.kept.count
+        (λ kept was. WasKept-last_count opening (one_state first.opening (users_of ends)) closed.history.events.items last.state kept leads_last was) (k + 1) result (sessions.each k result is)))
 
     tells_a : tells closed.disk_a ≡ tells a
     tells_a = ap tells handed.disk_of_a ∙ whole.goes.tells_a ∙ begun.opened.tells_a
@@ -207,6 +220,7 @@ module _ {S K C B D : Type 0} (left : S → Option (List ℕ)) (source_faults : 
       hows = map (λ result. result.how) served.results;
       sessions = sessions;
       happened = happened;
+      fronts = fronts;
       stored = stored;
       causes = causes;
       ended = is_ended;

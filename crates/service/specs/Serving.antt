@@ -1,6 +1,6 @@
 -- A run of mode serve: the start over two disks, the sessions, what happened, and what the disks hold at the end. This
 -- project's own.
-use Rattle.std.specs.Prelude.{◌≡◌, ◌≤◌, ◌+◌, ◌⊎◌, ℕ, Bool, true, false, List, [], ◌++◌, length, map, slice_get}
+use Rattle.std.specs.Prelude.{◌≡◌, ◌≤◌, ◌+◌, ◌⊎◌, ℕ, Bool, true, false, List, [], ◌∷◌, ◌++◌, length, map, slice_get}
 use Rattle.std.specs.Prelude.{Option, Some, IsSome, is_some}
 use Rattle.std.specs.List.{AllByRecursion}
 use Rattle.cfg_base.specs.Counts.{Rose}
@@ -21,6 +21,7 @@ use Rattle.session_history.specs.Events.{Leads, StaysAccepted}
 use Rattle.session_shell.specs.declared.end.End.{End}
 use Rattle.session_shell.specs.declared.turn.How.{How}
 use Rattle.session_shell.specs.declared.turn.Turn.{Turn}
+use Rattle.session_shell.specs.declared.turn.Turn.TheVariants.{Kept as KeptAt, Seen, Local, NoMemory}
 use Rattle.stored_ledger.specs.declared.why.StartWhy.{StartWhy}
 use Rattle.stored_ledger.specs.Starting.{IsFound, IsNotFound}
 use Rattle.stored_ledger.specs.Stored.{BothTell, SpellsKept}
@@ -63,6 +64,15 @@ pub record AreSessions {S K C : Type 0} (left : S → Option (List ℕ)) (source
   pub ended : map (λ result. result.how) results ≡ hows
   pub each : (k : ℕ) (result : SessionResult S K C) → slice_get results k ≡ Some result
       → IsResult left source_faults held sink_faults coming opening limit events (k + 1) result
+
+-- the lists of commits that were shown without an event have no fewer entries from turn to turn, none less than so many, and none
+-- more than so many
+abbrev pub FrontsGo : ℕ → ℕ → List Turn → Type 0
+FrontsGo least most [] = Unit {0}
+FrontsGo least most (KeptAt place ∷ turns) = FrontsGo least most turns
+FrontsGo least most (Seen front moment ∷ turns) = (least ≤ front) × (front ≤ most) × FrontsGo front most turns
+FrontsGo least most (Local fault ∷ turns) = FrontsGo least most turns
+FrontsGo least most (NoMemory ∷ turns) = FrontsGo least most turns
 
 -- the events are those of callers 1 to count, and of caller 0, which is the ticker; behind them nobody settles what is in
 -- flight, where something is, at the greatest moment so far
@@ -134,6 +144,8 @@ pub record IsServed {S K C B D : Type 0} (left : S → Option (List ℕ)) (sourc
   pub sessions : AreSessions left source_faults held sink_faults coming (opening_of kept (users_of ends)) limit ends
       closed.ends.items closed.turns.items closed.history.events.items hows
   pub happened : HasHappened due coming kept (users_of ends) ticker closed.ticker closed.history
+  -- what each session was shown has no fewer entries than the list at the opening, and no more than that at the end
+  pub fronts : AllByRecursion (FrontsGo kept.count happened.last.kept.count) closed.turns.items
   pub stored : AreStored tells history a b (opening_of kept (users_of ends)) happened.last closed.history closed.disk_a
       closed.disk_b
   pub causes : HaveCauses faults a b closed.disk_a closed.disk_b closed.history.events.items

@@ -1,31 +1,51 @@
-//! A session over a history that no fault disturbs has one text.
+//! A session over a history that no fault disturbs has one text, and a view's number of entries tells what it is.
 
 ghost use Rattle.std.specs.Prelude.{◌≡◌, ℕ, List, []};
+ghost use Rattle.commands.specs.declared.command.Command.{Command};
 ghost use Rattle.commit_ledger.specs.Kept.{Kept};
 ghost use Rattle.config_core.specs.State.{opening_of};
+ghost use Rattle.config_core.specs.declared.reply.Reply.{Reply};
 ghost use Rattle.session_history.specs.declared.history.Happened.{Happened};
-ghost use Rattle.session_shell.specs.Law.{Agree, Undisturbed};
+ghost use Rattle.session_shell.specs.Law.{Agree, SeeAlike, Undisturbed};
 ghost use Rattle.session_shell.specs.Transcript.{SessionView};
-ghost use Rattle.session_threads.specs.History.{Follows, Names};
+ghost use Rattle.session_threads.specs.History.{Follows, IsKeptThen, Known, Names, ShowsKept, known_first};
 ghost use Rattle.service.specs.Alone.{AreAlike, IsAlone};
 
+use config_core::steps_have_one_outcome;
 use session_history::histories_have_one_outcome;
 use shell_words::lines_are_read_in_one_way;
 
-/// Two sessions over the same bytes and the same clock that nothing disturbs, and that each made all the events of their history
-/// while no disk failed, have the same turns and the same text, and their histories are one but for the numbers of calls, which
-/// are the disks'. At a place a history names one reply.
+/// Two sessions over the same bytes and the same clock that nothing disturbs, that each made all the events of their history
+/// while no disk failed, and of which the same turns were answered from views of as many entries, have the same turns and the
+/// same text, and their histories are one but for the numbers of calls, which are the disks'. At a place a history names one
+/// reply, and of so many entries a run names one reply to a show.
 pub fn sessions_have_one_text()
     ensures alone { (kept : Kept) (users : List (List ℕ)) (caller limit : ℕ) (bytes : List ℕ) (coming : ℕ → ℕ)
-        (events events' : List Happened) (one other : SessionView)
-        → Undisturbed (Follows (opening_of kept users) caller) limit bytes coming [] events one
-        → IsAlone (opening_of kept users) caller events
-        → Undisturbed (Follows (opening_of kept users) caller) limit bytes coming [] events' other
-        → IsAlone (opening_of kept users) caller events'
-        → (one.turns ≡ other.turns) × (one.held ≡ other.held) × AreAlike events events' }
-    ensures replies { (kept : Kept) (users : List (List ℕ)) (caller : ℕ) (events : List Happened)
-        → Agree (Names (opening_of kept users) caller) events events }
+        (after after' : Known) (one other : SessionView)
+        → Undisturbed (Follows (opening_of kept users) caller after.events) limit bytes coming
+        (known_first (opening_of kept users) []) after one
+        → IsAlone (opening_of kept users) caller after.events
+        → Undisturbed (Follows (opening_of kept users) caller after'.events) limit bytes coming
+        (known_first (opening_of kept users) []) after' other
+        → IsAlone (opening_of kept users) caller after'.events
+        → SeeAlike one.turns other.turns
+        → (one.turns ≡ other.turns) × (one.held ≡ other.held) × AreAlike after.events after'.events }
+    ensures replies { (kept : Kept) (users : List (List ℕ)) (caller : ℕ) (events : List Happened) (d : Known)
+        → Agree (Names (opening_of kept users) caller events) d d }
 {
     histories_have_one_outcome();
     lines_are_read_in_one_way();
+    steps_have_one_outcome();
+}
+
+/// In one run one list of commits was kept that had so many entries, and of a list that was kept a show says one thing.
+pub fn fronts_tell_what_was_kept()
+    ensures kept { (kept : Kept) (users : List (List ℕ)) (events : List Happened) (front : ℕ) (one other : Kept)
+        → IsKeptThen (opening_of kept users) events front one → IsKeptThen (opening_of kept users) events front other
+        → one ≡ other }
+    ensures shown { (kept : Kept) (command : Command) (one other : Reply) → ShowsKept kept command one
+        → ShowsKept kept command other → one ≡ other }
+{
+    histories_have_one_outcome();
+    steps_have_one_outcome();
 }

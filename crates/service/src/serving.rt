@@ -9,6 +9,7 @@ ghost use Rattle.modes.specs.Modes.{status_of as status_of_start};
 ghost use Rattle.config_db.specs.View.{opened};
 ghost use Rattle.session_threads.specs.Results.{users_of};
 ghost use Rattle.session_threads.specs.Rows.{HasRoom};
+ghost use Rattle.session_threads.specs.Served.{HasReaders};
 ghost use Rattle.service.specs.Modes.{IsUndone, RunsMode};
 ghost use Rattle.service.specs.Run.{AreEnds, AsksToServe, BeginsWithDisks, EachEnd, IsAsking, IsFaultless, IsIdle};
 ghost use Rattle.service.specs.ServedOver.{IsServedOver, status_over};
@@ -16,15 +17,18 @@ ghost use Rattle.service.specs.Serving.{AreSound, Serves};
 
 use crate::alone::{run_check, run_gen, run_init};
 use crate::closed::{Closed, no_history};
+use active_snapshot::{Front, Naming, Shelf, open_book};
 use cfg_base::{Limits, NoMemory, Words};
 use command_line::{Asked, RunMode, Usage, read_words, words_ask_one_thing};
 use config_db::{ClosedBook, Database};
 use disk_model::Disk;
 use io_edge::{Beat, Clock, Sink, Source};
 use modes::StartWhy0;
+use session_history::histories_have_one_outcome;
 use session_shell::End;
 use session_threads::{Room, Sessions, Ticker, make_room, serve_all};
 use std::alloc::Global;
+use std::marker::Brand;
 use std::sync::Wait;
 use std::thread::Threads;
 use stored_ledger::{StartFault, StartWhy, starts_have_one_cause};
@@ -108,11 +112,11 @@ fn status_over(fault: bool, status: u8) -> u8
 }
 
 /// Serves the sessions of ends for which there is room, over a database in which nothing happened yet, and closes it.
-fn serve<R, S, K, C, B, D>(
+fn serve<R, S, K, C, B, D, J>(
     rt: &R,
     alloc: Global,
-    database: Database<D>,
-    room: Room<S, K, C, D>,
+    database: Database<D, J>,
+    room: Room<S, K, C, D, J>,
     ends: Vec<End<S, K, C>>,
     limits: Limits,
     ticker: Ticker<B, C>,
@@ -124,10 +128,12 @@ where
     C: Clock + Send,
     B: Beat + Send,
     D: Disk + Send,
+    J: Naming + Send + Sync,
     requires fresh { (database.events ≡ []) × (database.state ≡ opened database) }
     requires users { database.users ≡ users_of ends.items }
     requires room { HasRoom (length ends.items) room }
     requires few { length ends.items ≤ 64 }
+    requires readers { HasReaders database.opening (length ends.items) database.readers }
     ensures { IsServedOver S.left S.faults K.held K.faults C.coming B.coming D.tells D.history D.faults limits.input
         ends.items ticker database result }
 {
@@ -143,7 +149,7 @@ where
         fault,
         a,
         b,
-    } = database.close();
+    } = database.close(rt);
     Closed {
         status: status_over(fault, status),
         why: StartWhy0::None,
@@ -157,10 +163,12 @@ where
 }
 
 /// Opens the database, and serves the sessions over it.
-fn serve_from<R, S, K, C, B, D>(
+fn serve_from<R, S, K, C, B, D, J>(
     rt: &R,
     alloc: Global,
-    room: Room<S, K, C, D>,
+    shelf: Shelf,
+    front: Front,
+    room: Room<S, K, C, D, J>,
     asked: Asked,
     ends: Vec<End<S, K, C>>,
     ticker: Ticker<B, C>,
@@ -174,14 +182,17 @@ where
     C: Clock + Send,
     B: Beat + Send,
     D: Disk + Send,
+    J: Naming + Send + Sync,
+    requires book { (front.book ≡ J.book) × (shelf ≡ J.book) × (front.list ≡ []) }
     requires users { users_of ends.items ≡ asked.users }
     requires few { length asked.users ≤ 64 }
     requires room { HasRoom (length asked.users) room }
     ensures { Serves S.left S.faults K.held K.faults C.coming B.coming D.tells D.history D.faults asked.limits.input
         ends.items ticker disk_a disk_b result }
 {
+    histories_have_one_outcome();
     let limits = asked.limits;
-    match Database::start(alloc, disk_a, disk_b, asked.users, limits) {
+    match Database::<D, J>::start(alloc, shelf, front, disk_a, disk_b, asked.users, limits) {
         Ok(database) => serve(rt, alloc, database, room, ends, limits, ticker),
         Err(fault) => {
             room.destroy_empty();
@@ -190,7 +201,41 @@ where
     }
 }
 
-/// Serves sessions as the words ask, where there is memory for the answer. No disk is called before that is known.
+/// Serves sessions over the book of that name, where there is memory for the answer. No disk is called before that is known.
+fn serve_under<R, S, K, C, B, D, J>(
+    rt: &R,
+    alloc: Global,
+    shelf: Shelf,
+    front: Front,
+    asked: Asked,
+    ends: Vec<End<S, K, C>>,
+    ticker: Ticker<B, C>,
+    disk_a: D,
+    disk_b: D,
+) -> Closed<S, K, C, B, D>
+where
+    R: Threads + Wait + Sync,
+    S: Source + Send,
+    K: Sink + Send,
+    C: Clock + Send,
+    B: Beat + Send,
+    D: Disk + Send,
+    J: Naming + Send + Sync,
+    requires book { (front.book ≡ J.book) × (shelf ≡ J.book) × (front.list ≡ []) }
+    requires users { users_of ends.items ≡ asked.users }
+    requires few { length asked.users ≤ 64 }
+    ensures { Serves S.left S.faults K.held K.faults C.coming B.coming D.tells D.history D.faults asked.limits.input
+        ends.items ticker disk_a disk_b result }
+{
+    match make_room(alloc, &asked.users) {
+        Ok(room) => serve_from::<R, S, K, C, B, D, J>(
+            rt, alloc, shelf, front, room, asked, ends, ticker, disk_a, disk_b,
+        ),
+        Err(NoMemory) => idle(alloc, 9, ends, ticker, disk_a, disk_b),
+    }
+}
+
+/// Serves sessions as the words ask, with a new book for the views of the list of commits.
 fn serve_asked<R, S, K, C, B, D>(
     rt: &R,
     alloc: Global,
@@ -212,10 +257,10 @@ where
     ensures { Serves S.left S.faults K.held K.faults C.coming B.coming D.tells D.history D.faults asked.limits.input
         ends.items ticker disk_a disk_b result }
 {
-    match make_room(alloc, &asked.users) {
-        Ok(room) => serve_from(rt, alloc, room, asked, ends, ticker, disk_a, disk_b),
-        Err(NoMemory) => idle(alloc, 9, ends, ticker, disk_a, disk_b),
-    }
+    let (shelf, front) = open_book();
+    serve_under::<R, S, K, C, B, D, Brand>(
+        rt, alloc, shelf, front, asked, ends, ticker, disk_a, disk_b,
+    )
 }
 
 /// Does what the words ask, with the ends that they ask for. Mode serve opens the list of commits on the two disks,

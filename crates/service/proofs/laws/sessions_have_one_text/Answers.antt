@@ -1,15 +1,15 @@
-use Rattle.std.proofs.Common.{[]}
 use Rattle.config_core.specs.State.{opening_of}
-use Rattle.session_shell.proofs.LawLemmas.{one_run}
-use Rattle.service.proofs.AloneLemmas.{FollowsPlain, FollowsPlain-determined}
-use Rattle.service.proofs.LawLemmas.{names_agree, plain, undisturbed_alone}
+use Rattle.session_history.proofs.KeptLemmas.{WasKept-one}
+use Rattle.service.proofs.LawLemmas.{names_agree, one_text}
+use Rattle.service.proofs.ShowLemmas.{shows_once}
 use Rattle.service.proofs.laws.sessions_have_one_text.Goals as goal
 
 pub returns-clause-alone : goal.returns-clause-alone
-returns-clause-alone c = λ kept users caller limit bytes coming events events' one other first alone second alone'.
-    one_run (FollowsPlain (opening_of kept users) caller) c.lines_are_read_in_one_way.ensures.one_reading
-    (FollowsPlain-determined (opening_of kept users) caller (c.histories_have_one_outcome.ensures.state kept users) (c.histories_have_one_outcome.ensures.reply kept users)) limit bytes coming [] (plain events) (plain events') one other
-    (undisturbed_alone (opening_of kept users) caller limit bytes coming events one first alone) (undisturbed_alone (opening_of kept users) caller limit bytes coming events' other second alone')
+returns-clause-alone c = λ kept users caller limit bytes coming after after' one other first alone second alone' seen.
+    one_text (opening_of kept users) (WasKept-one (opening_of kept users) (c.histories_have_one_outcome.ensures.state kept users)) (λ k. shows_once k c.steps_have_one_outcome.ensures) caller c.lines_are_read_in_one_way.ensures.one_reading
+    (c.histories_have_one_outcome.ensures.state kept users) (c.histories_have_one_outcome.ensures.reply kept users) limit bytes coming after after' one other first alone second alone' seen
 
 pub returns-clause-replies : goal.returns-clause-replies
-returns-clause-replies c = λ kept users caller events. names_agree (opening_of kept users) caller events (c.histories_have_one_outcome.ensures.reply kept users events)
+returns-clause-replies c = λ kept users caller events d.
+    names_agree (opening_of kept users) (WasKept-one (opening_of kept users) (c.histories_have_one_outcome.ensures.state kept users)) (λ k. shows_once k c.steps_have_one_outcome.ensures) caller events d
+    (c.histories_have_one_outcome.ensures.reply kept users d.events)

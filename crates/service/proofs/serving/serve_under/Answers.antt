@@ -1,5 +1,5 @@
 use Rattle.std.proofs.Common.{inl}
-use Rattle.service.proofs.serving.serve_asked.Goals as goal
+use Rattle.service.proofs.serving.serve_under.Goals as goal
 
 pub returns-in-Err : goal.returns-in-Err
 returns-in-Err g c = inl (record {

@@ -1,0 +1,60 @@
+-- What a session knows of a run grows, and so do the numbers of entries of the views that it is shown.
+use Rattle.std.proofs.Common.{◌≡◌, ◌≤◌, ◌⊎◌, ℕ, suc, List, [], ◌∷◌, ◌++◌, map, refl, sym, ap, subst, ◌∙◌, append_assoc, arith, Option, Some, slice_get, inl, inr}
+use Rattle.std.proofs.Math.Nat.{le-max_left}
+use Rattle.std.proofs.lemmas.List.{append-nil}
+use Rattle.std.specs.List.{AllByRecursion}
+use Rattle.commit_ledger.specs.Kept.{Kept}
+use Rattle.config_core.specs.State.{State}
+use Rattle.session_history.specs.declared.history.Happened.{Happened}
+use Rattle.session_history.specs.Kept.{WasKept}
+use Rattle.session_shell.specs.declared.door.Given0.TheVariants.{Kept as KeptAt, Seen, NoMemory}
+use Rattle.session_shell.specs.declared.turn.Turn.{Turn}
+use Rattle.session_shell.specs.Exchange.{Exchange, Asked, Refused, turn_of}
+use Rattle.session_shell.specs.Transcript.{GoesBy}
+use Rattle.session_threads.specs.History.{Follows, HasSession, Known, known_first}
+use Rattle.session_threads.specs.Results.{IsResult, IsUnbegun, SessionResult}
+use Rattle.service.specs.Serving.{FrontsGo}
+
+module _ (opening : State) (caller : ℕ) (final : List Happened) where
+  -- a session's events only grow
+  pub more_events : (exchanges : List Exchange) (d e : Known) → GoesBy (Follows opening caller final) exchanges d e → (more : List Happened) × (e.events ≡ d.events ++ more)
+  more_events [] d e goes = ([], ap (λ (k : Known). k.events) goes ∙ sym (append-nil d.events))
+  more_events (Asked moment command (KeptAt place reply) ∷ exchanges) d e goes =
+      let grows = goes.1.turn.grows in
+      let more = more_events exchanges goes.0 e goes.2 in
+      ((grows.others ++ grows.own) ++ more.0, more.1 ∙ ap (λ l. l ++ more.0) grows.grown ∙ append_assoc d.events (grows.others ++ grows.own) more.0)
+  more_events (Asked moment command (Seen front reply) ∷ exchanges) d e goes =
+      let more = more_events exchanges goes.0 e goes.2 in (more.0, more.1 ∙ ap (λ l. l ++ more.0) goes.1.same)
+  more_events (Asked moment command NoMemory ∷ exchanges) d e goes =
+      let grows = goes.1.turn.grows in
+      let more = more_events exchanges goes.0 e goes.2 in
+      ((grows.others ++ grows.own) ++ more.0, more.1 ∙ ap (λ l. l ++ more.0) grows.grown ∙ append_assoc d.events (grows.others ++ grows.own) more.0)
+  more_events (Refused moment fault ∷ exchanges) d e goes = more_events exchanges d e goes
+
+  module _ (most : ℕ) (bound : (kept : Kept) → WasKept opening final kept → kept.count ≤ most) where
+    -- what it is shown never has fewer entries than what it was answered from before, nor more than the run has
+    fronts_go : (exchanges : List Exchange) (least : ℕ) (d e : Known) → least ≤ d.front → GoesBy (Follows opening caller final) exchanges d e → FrontsGo least most (map turn_of exchanges)
+    fronts_go [] least d e reached goes = tt
+    fronts_go (Asked moment command (KeptAt place reply) ∷ exchanges) least d e reached goes =
+        fronts_go exchanges least goes.0 e (omega (arith, reached, goes.1.front, le-max_left d.front goes.1.after.kept.count)) goes.2
+    fronts_go (Asked moment command (Seen front reply) ∷ exchanges) least d e reached goes =
+        (omega (arith, reached, goes.1.reached), omega (arith, bound goes.1.kept goes.1.was_kept.0, goes.1.was_kept.1), fronts_go exchanges front goes.0 e (omega (arith, goes.1.is_front)) goes.2)
+    fronts_go (Asked moment command NoMemory ∷ exchanges) least d e reached goes = fronts_go exchanges least goes.0 e (omega (arith, reached, goes.1.front)) goes.2
+    fronts_go (Refused moment fault ∷ exchanges) least d e reached goes = fronts_go exchanges least d e reached goes
+
+-- what holds of each result's turns
+pub each_turns : {S K C : Type 0} (P : List Turn → Type 0) (results : List (SessionResult S K C)) → ((k : ℕ) (result : SessionResult S K C) → slice_get results k ≡ Some result → P result.turns) → AllByRecursion P (map (λ result. result.turns) results)
+each_turns P [] each = tt
+each_turns P (result ∷ results) each = (each 0 result refl, each_turns P results (λ k. each (suc k)))
+
+module _ {S K C : Type 0} (left : S → Option (List ℕ)) (source_faults : S → ℕ) (held : K → Option (List ℕ)) (sink_faults : K → ℕ)
+    (coming : C → Option (ℕ → ℕ)) (limit : ℕ) (opening : State) (events : List Happened) (most : ℕ)
+    (bound : (kept : Kept) → WasKept opening events kept → kept.count ≤ most) where
+  -- of one session of a run
+  pub result_fronts : (caller : ℕ) (result : SessionResult S K C) → IsResult left source_faults held sink_faults coming opening limit events caller result → FrontsGo opening.kept.count most result.turns
+  result_fronts caller result is = by_session is.session
+    where
+      by_session : HasSession left held sink_faults coming opening caller limit events result.how result.turns result.old result.new ⊎ IsUnbegun events caller result → FrontsGo opening.kept.count most result.turns
+      by_session (inl h) = subst (FrontsGo opening.kept.count most) (sym h.session.turns.turned)
+          (fronts_go opening caller events most bound (h.session.asked ++ h.session.final) opening.kept.count (known_first opening h.before) h.after (omega arith) h.session.turns.asked)
+      by_session (inr u) = subst (FrontsGo opening.kept.count most) (sym u.no_turns) tt
