@@ -9,7 +9,7 @@ use commands::Op;
 use curly_print::print;
 use edit_ops::apply;
 use script_lines::{
-    Arg, Fault, halves, put_bytes, put_path, say, say_edit_fault, say_number, say_path,
+    Arg, Fault, Text, halves, put_bytes, put_path, say, say_edit_fault, say_number, say_path,
     say_whole_text, words_of,
 };
 use set_text::print_lines;
@@ -54,13 +54,7 @@ pub(crate) fn op_of(alloc: Global, call: &str, args: &[Arg]) -> Result<Option<Op
 }
 
 /// set WORDS.., rename WORDS.. -- WORDS.. and so on: one change of the tree, whose words are read from a level.
-pub(crate) fn change(
-    alloc: Global,
-    tree: &mut Tree,
-    level: &Path,
-    op: &Op,
-    out: &mut String,
-) -> Result<(), Fault>
+pub(crate) fn change(alloc: Global, tree: &mut Tree, level: &Path, op: &Op, out: &mut Text)
     requires { IsLevelPath level.now }
 {
     match apply(alloc, tree, level, op) {
@@ -70,45 +64,43 @@ pub(crate) fn change(
     }
 }
 
-pub(crate) fn put_word_list(out: &mut String, words: &WordList) -> Result<(), Fault> {
+pub(crate) fn put_word_list(out: &mut Text, words: &WordList) {
     let mut left = words.iter();
     while let Some(word) = left.next() {
-        put_bytes(out, word.as_bytes())?;
+        put_bytes(out, word.as_bytes());
     }
-    Ok(())
 }
 
 /// The words of a statement, behind `--`.
-pub(crate) fn put_own_words(out: &mut String, words: &WordList) -> Result<(), Fault> {
+pub(crate) fn put_own_words(out: &mut Text, words: &WordList) {
     if !words.is_empty() {
-        out.push_str(" --")?;
+        out.put(" --");
     }
-    put_word_list(out, words)
+    put_word_list(out, words);
 }
 
 /// A statement: its marks, its path, and its words.
-fn say_statement(out: &mut String, path: &Path, value: &Value) -> Result<(), Fault> {
-    out.push_str("=")?;
+fn say_statement(out: &mut Text, path: &Path, value: &Value) {
+    out.put("=");
     if value.inactive {
-        out.push_str(" inactive:")?;
+        out.put(" inactive:");
     }
     if value.protected {
-        out.push_str(" protect:")?;
+        out.put(" protect:");
     }
-    put_path(out, path)?;
-    put_own_words(out, &value.words)?;
-    out.push('\n')?;
-    Ok(())
+    put_path(out, path);
+    put_own_words(out, &value.words);
+    out.put("\n");
 }
 
 /// tree: how many statements stand, and each, in the order of their paths
-fn ask_tree(alloc: Global, tree: &Tree, out: &mut String) -> Result<(), Fault> {
-    say_number(out, u64::from(tree.count()))?;
+fn ask_tree(alloc: Global, tree: &Tree, out: &mut Text) -> Result<(), Fault> {
+    say_number(out, u64::from(tree.count()));
     let mut path = Path::top(alloc);
     for _ in 0..tree.count() {
         match tree.next(&path) {
             Some((next, value)) => {
-                say_statement(out, next, value)?;
+                say_statement(out, next, value);
                 path = next.clone()?;
             }
             None => return Ok(()),
@@ -130,69 +122,73 @@ pub(crate) fn path_named(alloc: Global, args: &[Arg]) -> Result<Path, Fault> {
 }
 
 /// value WORDS..
-fn ask_value(alloc: Global, tree: &Tree, args: &[Arg], out: &mut String) -> Result<(), Fault> {
+fn ask_value(alloc: Global, tree: &Tree, args: &[Arg], out: &mut Text) -> Result<(), Fault> {
     let path = path_named(alloc, args)?;
     match tree.at(&path) {
         Some(value) => say_statement(out, &path, value),
         None => say(out, "none"),
     }
+    Ok(())
 }
 
 /// children WORDS..
-fn ask_children(alloc: Global, tree: &Tree, args: &[Arg], out: &mut String) -> Result<(), Fault> {
+fn ask_children(alloc: Global, tree: &Tree, args: &[Arg], out: &mut Text) -> Result<(), Fault> {
     let children = tree.children(&path_named(alloc, args)?)?;
-    say_number(out, children.as_slice().len() as u64)?;
+    say_number(out, children.as_slice().len() as u64);
     for step in children.as_slice() {
-        out.push_str("=")?;
-        put_bytes(out, step.head.as_bytes())?;
-        put_bytes(out, step.name.as_bytes())?;
-        out.push('\n')?;
+        out.put("=");
+        put_bytes(out, step.head.as_bytes());
+        put_bytes(out, step.name.as_bytes());
+        out.put("\n");
     }
     Ok(())
 }
 
 /// next WORDS..
-fn ask_next(alloc: Global, tree: &Tree, args: &[Arg], out: &mut String) -> Result<(), Fault> {
+fn ask_next(alloc: Global, tree: &Tree, args: &[Arg], out: &mut Text) -> Result<(), Fault> {
     match tree.next(&path_named(alloc, args)?) {
         Some((path, value)) => say_statement(out, path, value),
         None => say(out, "none"),
     }
+    Ok(())
 }
 
 /// print WORDS..: the curly text below what the words name
-fn ask_print(alloc: Global, tree: &Tree, args: &[Arg], out: &mut String) -> Result<(), Fault> {
+fn ask_print(alloc: Global, tree: &Tree, args: &[Arg], out: &mut Text) -> Result<(), Fault> {
     let text = print(alloc, tree, &path_named(alloc, args)?)?;
-    say_whole_text(out, text.as_slice())
+    say_whole_text(out, text.as_slice());
+    Ok(())
 }
 
 /// print_lines WORDS..: the set lines below what the words name
-fn ask_print_lines(
-    alloc: Global,
-    tree: &Tree,
-    args: &[Arg],
-    out: &mut String,
-) -> Result<(), Fault> {
+fn ask_print_lines(alloc: Global, tree: &Tree, args: &[Arg], out: &mut Text) -> Result<(), Fault> {
     let text = print_lines(alloc, tree, &path_named(alloc, args)?)?;
-    say_whole_text(out, text.as_slice())
+    say_whole_text(out, text.as_slice());
+    Ok(())
 }
 
-/// Answers a look at the tree, and tells whether the call is one.
+/// count
+fn ask_count(tree: &Tree, out: &mut Text) -> Result<(), Fault> {
+    say_number(out, u64::from(tree.count()));
+    Ok(())
+}
+
+/// Answers a look at the tree, where the call is one.
 pub(crate) fn look(
     alloc: Global,
     tree: &Tree,
     call: &str,
     args: &[Arg],
-    out: &mut String,
-) -> Result<bool, Fault> {
-    match call {
-        "tree" => ask_tree(alloc, tree, out)?,
-        "count" => say_number(out, u64::from(tree.count()))?,
-        "value" => ask_value(alloc, tree, args, out)?,
-        "children" => ask_children(alloc, tree, args, out)?,
-        "next" => ask_next(alloc, tree, args, out)?,
-        "print" => ask_print(alloc, tree, args, out)?,
-        "print_lines" => ask_print_lines(alloc, tree, args, out)?,
-        _ => return Ok(false),
-    }
-    Ok(true)
+    out: &mut Text,
+) -> Option<Result<(), Fault>> {
+    Some(match call {
+        "tree" => ask_tree(alloc, tree, out),
+        "count" => ask_count(tree, out),
+        "value" => ask_value(alloc, tree, args, out),
+        "children" => ask_children(alloc, tree, args, out),
+        "next" => ask_next(alloc, tree, args, out),
+        "print" => ask_print(alloc, tree, args, out),
+        "print_lines" => ask_print_lines(alloc, tree, args, out),
+        _ => return None,
+    })
 }

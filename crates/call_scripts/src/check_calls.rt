@@ -3,24 +3,24 @@
 use cfg_tree::Tree;
 use commit_check::{CheckFault, check};
 use curly_print::text_len;
-use script_lines::{Fault, say, say_broken, say_number};
+use script_lines::{Text, say, say_broken, say_number};
 use std::alloc::Global;
 
 /// check
-fn ask_check(alloc: Global, tree: &Tree, out: &mut String) -> Result<(), Fault> {
+fn ask_check(alloc: Global, tree: &Tree, out: &mut Text) {
     match check(alloc, tree) {
         Ok(_) => say(out, "accepted"),
         Err(CheckFault::Rule { number, path }) => say_broken(out, number, &path),
-        Err(CheckFault::NoMemory) => Err(Fault::NoMemory),
+        Err(CheckFault::NoMemory) => out.lacks_memory(),
     }
 }
 
 /// Answers one of these calls, and tells whether it is one.
-pub(crate) fn ask(alloc: Global, tree: &Tree, call: &str, out: &mut String) -> Result<bool, Fault> {
+pub(crate) fn ask(alloc: Global, tree: &Tree, call: &str, out: &mut Text) -> bool {
     match call {
-        "check" => ask_check(alloc, tree, out)?,
-        "text_len" => say_number(out, text_len(tree))?,
-        _ => return Ok(false),
+        "check" => ask_check(alloc, tree, out),
+        "text_len" => say_number(out, text_len(tree)),
+        _ => return false,
     }
-    Ok(true)
+    true
 }

@@ -2,7 +2,7 @@
 
 use cfg_base::NoMemory;
 use cfg_tree::Tree;
-use script_lines::{Fault, say, say_number};
+use script_lines::{Fault, Text, say, say_number};
 use std::alloc::Global;
 
 fn made_beside_last(alloc: Global, kept: &[Tree], tree: &Tree) -> Result<Tree, NoMemory> {
@@ -17,11 +17,12 @@ pub(crate) fn keep(
     alloc: Global,
     kept: &mut Vec<Tree>,
     tree: &Tree,
-    out: &mut String,
+    out: &mut Text,
 ) -> Result<(), Fault> {
     let made = made_beside_last(alloc, kept, tree)?;
     let answer = if made.same(tree) { "same" } else { "other" };
     kept.push(made)?;
-    say_number(out, kept.len() as u64)?;
-    say(out, answer)
+    say_number(out, kept.len() as u64);
+    say(out, answer);
+    Ok(())
 }

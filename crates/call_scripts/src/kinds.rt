@@ -1,8 +1,7 @@
 //! Kinds and shapes as words: `host`, `100..64000`, `root-login`, `keyed`.
 
 use cfg_base::{Choice, Kind, Shape};
-use script_lines::{Arg, Fault, small_number};
-use std::alloc::Global;
+use script_lines::{Arg, Fault, Text, small_number};
 use std::str;
 
 fn named_kind(name: &str) -> Result<Kind, Fault> {
@@ -46,21 +45,27 @@ fn choice_name(choice: Choice) -> &'static str {
     }
 }
 
-/// The name of a kind.
-pub(crate) fn name_of_kind(alloc: Global, kind: Kind) -> Result<String, Fault> {
-    let name = match kind {
-        Kind::Name => "name",
-        Kind::Host => "host",
-        Kind::Text => "text",
-        Kind::Address => "address",
-        Kind::Prefix => "prefix",
-        Kind::Area => "area",
-        Kind::IfName => "interface",
-        Kind::IfUnit => "interface-unit",
-        Kind::Number { from, to } => return Ok(format!(in alloc; "{from}..{to}")?),
-        Kind::OneOf(choice) => choice_name(choice),
-    };
-    Ok(String::from_str(alloc, name)?)
+fn put_range(out: &mut Text, from: u32, to: u32) {
+    out.put_number(u64::from(from));
+    out.put("..");
+    out.put_number(u64::from(to));
+}
+
+/// The name of a kind, behind a blank.
+pub(crate) fn put_kind(out: &mut Text, kind: Kind) {
+    out.put(" ");
+    match kind {
+        Kind::Name => out.put("name"),
+        Kind::Host => out.put("host"),
+        Kind::Text => out.put("text"),
+        Kind::Address => out.put("address"),
+        Kind::Prefix => out.put("prefix"),
+        Kind::Area => out.put("area"),
+        Kind::IfName => out.put("interface"),
+        Kind::IfUnit => out.put("interface-unit"),
+        Kind::Number { from, to } => put_range(out, from, to),
+        Kind::OneOf(choice) => out.put(choice_name(choice)),
+    }
 }
 
 pub(crate) fn name_of_shape(shape: Shape) -> &'static str {

@@ -3,17 +3,17 @@
 ghost use Rattle.std.specs.Prelude.{◌≡◌, ◌≤◌, length, IfOk, IsTrue};
 ghost use Rattle.commit_ledger.specs.Payload.{HasShortText, most_text, text_of};
 
-use cfg_base::{Bytes, Moment, Word};
+use cfg_base::{Bytes, Moment, NoMemory, Word};
 use cfg_tree::Tree;
 use commit_check::Judge;
 use commit_ledger::{Commit, Confirm, Entry, Ledger, LedgerFault, Via, payload_of};
 use curly_print::text_len;
 use record_code::{Payloads, Placed};
 use script_lines::{
-    Arg, Fault, number, say, say_bytes, say_number, say_pending, say_text, small_number, user_of,
+    Arg, Fault, Text, number, say, say_bytes, say_counted, say_number, say_pending, say_text,
+    small_number, user_of,
 };
 use std::alloc::Global;
-use std::mem;
 
 /// The most bytes that the text of a commit has.
 const MAX_TEXT: u64 = 1_048_576;
@@ -82,15 +82,22 @@ fn is_short(entry: &Entry) -> bool
     }
 }
 
+fn say_payload(out: &mut Text, bytes: &Bytes) {
+    say_number(out, bytes.as_slice().len() as u64);
+    say_bytes(out, "bytes", bytes.as_slice());
+}
+
 /// payload ENTRY: the bytes that a record keeps of it
-fn ask_payload(alloc: Global, tree: &Tree, args: &[Arg], out: &mut String) -> Result<(), Fault> {
+fn ask_payload(alloc: Global, tree: &Tree, args: &[Arg], out: &mut Text) -> Result<(), Fault> {
     let entry = entry_of(alloc, tree, args)?;
     if !is_short(&entry) {
         return Err(Fault::Script("the text of a commit has at most 1048576 bytes"));
     }
-    let bytes = payload_of(alloc, &entry)?;
-    say_number(out, bytes.as_slice().len() as u64)?;
-    say_bytes(out, "bytes", bytes.as_slice())
+    match payload_of(alloc, &entry) {
+        Ok(bytes) => say_payload(out, &bytes),
+        Err(NoMemory) => out.lacks_memory(),
+    }
+    Ok(())
 }
 
 /// record OFFSET KIND BYTES
@@ -109,26 +116,24 @@ fn add_record(alloc: Global, records: &mut Payloads, args: &[Arg]) -> Result<(),
     Ok(())
 }
 
-fn say_ledger(alloc: Global, out: &mut String, ledger: &Ledger) -> Result<(), Fault> {
-    let entries = ledger.count();
-    writeln!(out, "= entries {entries}")?;
+fn say_ledger(alloc: Global, out: &mut Text, ledger: &Ledger) {
+    say_counted(out, "entries", ledger.count());
     match ledger.pending() {
-        Some(pending) => say_pending(out, pending.target, pending.deadline)?,
-        None => say(out, "none")?,
+        Some(pending) => say_pending(out, pending.target, pending.deadline),
+        None => say(out, "none"),
     }
-    let lines = ledger.history_lines(alloc)?;
-    say_text(out, lines.as_slice())
+    match ledger.history_lines(alloc) {
+        Ok(lines) => say_text(out, lines.as_slice()),
+        Err(NoMemory) => out.lacks_memory(),
+    }
 }
 
 /// ledger_of: what the records read as
-fn ask_ledger(alloc: Global, records: &Payloads, out: &mut String) -> Result<(), Fault> {
+fn ask_ledger(alloc: Global, records: &Payloads, out: &mut Text) {
     match Ledger::of(alloc, records, &Judge::of(alloc)) {
         Ok(ledger) => say_ledger(alloc, out, &ledger),
-        Err(LedgerFault::BadRecord { offset }) => {
-            writeln!(out, "= bad record at {offset}")?;
-            Ok(())
-        }
-        Err(LedgerFault::NoMemory) => Err(Fault::NoMemory),
+        Err(LedgerFault::BadRecord { offset }) => say_counted(out, "bad record at", offset),
+        Err(LedgerFault::NoMemory) => out.lacks_memory(),
     }
 }
 
@@ -146,26 +151,26 @@ impl Records {
     }
 
     /// What the records that are kept read as; none is kept then.
-    fn read(&mut self, alloc: Global, out: &mut String) -> Result<(), Fault> {
-        let records = mem::replace(&mut self.kept, Payloads::new(alloc));
-        ask_ledger(alloc, &records, out)
+    fn read(&mut self, alloc: Global, out: &mut Text) -> Result<(), Fault> {
+        ask_ledger(alloc, &self.kept, out);
+        self.kept = Payloads::new(alloc);
+        Ok(())
     }
 
-    /// Answers a call of entries and records, and tells whether it is one.
+    /// Answers a call of entries and records, where it is one.
     pub(crate) fn ask(
         &mut self,
         alloc: Global,
         tree: &Tree,
         name: &str,
         args: &[Arg],
-        out: &mut String,
-    ) -> Result<bool, Fault> {
-        match name {
-            "record" => add_record(alloc, &mut self.kept, args)?,
-            "ledger_of" => self.read(alloc, out)?,
-            "payload" => ask_payload(alloc, tree, args, out)?,
-            _ => return Ok(false),
-        }
-        Ok(true)
+        out: &mut Text,
+    ) -> Option<Result<(), Fault>> {
+        Some(match name {
+            "record" => add_record(alloc, &mut self.kept, args),
+            "ledger_of" => self.read(alloc, out),
+            "payload" => ask_payload(alloc, tree, args, out),
+            _ => return None,
+        })
     }
 }

@@ -9,7 +9,7 @@ ghost use Rattle.cfg_tree.specs.Resolve.{IsLevelPath, IsTargetBelow};
 use cfg_base::{Path, Shape, Words};
 use cfg_schema::{Place, row};
 use cfg_tree::{Target, WordsFault, resolve};
-use script_lines::{Arg, Fault, halves, say_path, say_words, words_of};
+use script_lines::{Arg, Fault, Text, halves, say_path, say_words, words_of};
 use std::alloc::Global;
 
 /// The statement that words name from the top, which is a level.
@@ -49,18 +49,27 @@ pub(crate) fn level_of(alloc: Global, args: &[Arg]) -> Result<Path, Fault>
     }
 }
 
-/// resolve LEVEL.. -- WORDS..
-pub(crate) fn ask_resolve(alloc: Global, args: &[Arg], out: &mut String) -> Result<(), Fault> {
-    let (level, words) = halves(args)?;
-    match resolve(alloc, &level_of(alloc, level)?, &words_of(alloc, words)?) {
-        Ok(target) => {
-            say_path(out, "statement", &target.path)?;
-            say_words(out, "words", target.words.as_slice())
-        }
+fn say_target(out: &mut Text, target: &Target) {
+    say_path(out, "statement", &target.path);
+    say_words(out, "words", target.words.as_slice());
+}
+
+fn say_resolved(out: &mut Text, resolved: Result<Target, WordsFault>) {
+    match resolved {
+        Ok(target) => say_target(out, &target),
         Err(WordsFault::Unknown(path)) => say_path(out, "unknown", &path),
         Err(WordsFault::BadValue(path)) => say_path(out, "bad value", &path),
         Err(WordsFault::Incomplete(path)) => say_path(out, "incomplete", &path),
         Err(WordsFault::Extra(path)) => say_path(out, "extra", &path),
-        Err(WordsFault::NoMemory) => Err(Fault::NoMemory),
+        Err(WordsFault::NoMemory) => out.lacks_memory(),
     }
+}
+
+/// resolve LEVEL.. -- WORDS..
+pub(crate) fn ask_resolve(alloc: Global, args: &[Arg], out: &mut Text) -> Result<(), Fault> {
+    let (level, words) = halves(args)?;
+    let level = level_of(alloc, level)?;
+    let words = words_of(alloc, words)?;
+    say_resolved(out, resolve(alloc, &level, &words));
+    Ok(())
 }

@@ -3,7 +3,7 @@
 use cfg_tree::Tree;
 use commands::LoadWay;
 use load_ops::{LoadFault, load};
-use script_lines::{Fault, say, say_fault_of_line, say_line_fault, say_path, say_text_fault};
+use script_lines::{Text, say, say_fault_of_line, say_line_fault, say_path, say_text_fault};
 use set_text::LineFault;
 use std::alloc::Global;
 
@@ -18,25 +18,19 @@ pub(crate) fn way_of(call: &str) -> Option<LoadWay> {
     }
 }
 
-fn say_load_fault(out: &mut String, fault: &LoadFault) -> Result<(), Fault> {
+fn say_load_fault(out: &mut Text, fault: &LoadFault) {
     match fault {
         LoadFault::Text(fault) => say_text_fault(out, *fault, None),
         LoadFault::Line(LineFault::Line { line, place }) => say_fault_of_line(out, *line, *place),
         LoadFault::Edit { line, fault } => say_line_fault(out, *line, fault),
         LoadFault::Protected(path) => say_path(out, "protected", path),
         LoadFault::TooMany => say(out, "too many"),
-        LoadFault::Line(LineFault::NoMemory) | LoadFault::NoMemory => Err(Fault::NoMemory),
+        LoadFault::Line(LineFault::NoMemory) | LoadFault::NoMemory => out.lacks_memory(),
     }
 }
 
 /// load_merge TEXT and the like: the text is loaded into the tree
-pub(crate) fn ask_load(
-    alloc: Global,
-    tree: &mut Tree,
-    way: LoadWay,
-    text: &[u8],
-    out: &mut String,
-) -> Result<(), Fault> {
+pub(crate) fn ask_load(alloc: Global, tree: &mut Tree, way: LoadWay, text: &[u8], out: &mut Text) {
     match load(alloc, tree, way, text) {
         Ok(true) => say(out, "changed"),
         Ok(false) => say(out, "unchanged"),

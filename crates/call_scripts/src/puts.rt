@@ -17,7 +17,7 @@ use crate::level::resolved;
 use cfg_base::{NoMemory, Path, Shape, Value, WordList, Words};
 use cfg_schema::{Place, row};
 use cfg_tree::{Target, Tree, TreeFault};
-use script_lines::{Arg, Fault, say, say_number, words_of};
+use script_lines::{Arg, Fault, Text, say, say_number, words_of};
 use std::alloc::Global;
 
 /// The statement that words name from the top.
@@ -103,39 +103,51 @@ fn ready_value(alloc: Global, tree: &Tree, target: &Target) -> Result<Option<Val
     }))
 }
 
-/// put WORDS..
-fn put(alloc: Global, tree: &mut Tree, args: &[Arg], out: &mut String) -> Result<(), Fault> {
-    let target = target_of(alloc, args)?;
-    let Some(value) = ready_value(alloc, tree, &target)? else {
-        return say(out, "not ready");
-    };
-    match tree.put(&target.path, value) {
+fn say_put(out: &mut Text, put: &Result<(), TreeFault>) {
+    match put {
         Ok(()) => say(out, "put"),
         Err(TreeFault::TooMany) => say(out, "too many"),
-        Err(TreeFault::NoMemory) => Err(Fault::NoMemory),
+        Err(TreeFault::NoMemory) => out.lacks_memory(),
         Err(TreeFault::Unknown(_)) => say(out, "unknown"),
         Err(TreeFault::BadValue(_)) => say(out, "bad value"),
     }
 }
 
-/// remove WORDS..
-fn remove(alloc: Global, tree: &mut Tree, args: &[Arg], out: &mut String) -> Result<(), Fault> {
-    let target = target_of(alloc, args)?;
-    say_number(out, u64::from(tree.remove(&target.path)?))
+fn put_target(alloc: Global, tree: &mut Tree, target: &Target, out: &mut Text)
+    requires { IsTargetBelow [] target.now }
+{
+    match ready_value(alloc, tree, target) {
+        Ok(Some(value)) => say_put(out, &tree.put(&target.path, value)),
+        Ok(None) => say(out, "not ready"),
+        Err(NoMemory) => out.lacks_memory(),
+    }
 }
 
-/// Puts or removes a statement, and tells whether the call is one of the two.
+/// put WORDS..
+fn put(alloc: Global, tree: &mut Tree, args: &[Arg], out: &mut Text) -> Result<(), Fault> {
+    let target = target_of(alloc, args)?;
+    put_target(alloc, tree, &target, out);
+    Ok(())
+}
+
+/// remove WORDS..
+fn remove(alloc: Global, tree: &mut Tree, args: &[Arg], out: &mut Text) -> Result<(), Fault> {
+    let target = target_of(alloc, args)?;
+    say_number(out, u64::from(tree.remove(&target.path)?));
+    Ok(())
+}
+
+/// Puts or removes a statement, where the call is one of the two.
 pub(crate) fn ask(
     alloc: Global,
     tree: &mut Tree,
     call: &str,
     args: &[Arg],
-    out: &mut String,
-) -> Result<bool, Fault> {
-    match call {
-        "put" => put(alloc, tree, args, out)?,
-        "remove" => remove(alloc, tree, args, out)?,
-        _ => return Ok(false),
-    }
-    Ok(true)
+    out: &mut Text,
+) -> Option<Result<(), Fault>> {
+    Some(match call {
+        "put" => put(alloc, tree, args, out),
+        "remove" => remove(alloc, tree, args, out),
+        _ => return None,
+    })
 }

@@ -2,7 +2,7 @@
 
 use cfg_base::Bytes;
 use record_code::{MAX_PAYLOAD, Payloads, Placed, digest_of, encode, kind_of, length_of};
-use script_lines::{Arg, Fault, number, say, say_bytes, say_number};
+use script_lines::{Arg, Fault, Text, number, say, say_bytes, say_number};
 use std::alloc::Global;
 
 fn kind(arg: &Arg) -> Result<u8, Fault> {
@@ -10,7 +10,7 @@ fn kind(arg: &Arg) -> Result<u8, Fault> {
 }
 
 /// encode KIND BYTES
-fn ask_encoded(alloc: Global, args: &[Arg], out: &mut String) -> Result<(), Fault> {
+fn ask_encoded(alloc: Global, args: &[Arg], out: &mut Text) -> Result<(), Fault> {
     let [number, bytes] = args else {
         return Err(Fault::Script("encode KIND BYTES"));
     };
@@ -19,24 +19,25 @@ fn ask_encoded(alloc: Global, args: &[Arg], out: &mut String) -> Result<(), Faul
         return Err(Fault::Script("a payload has at most 1049600 bytes"));
     }
     let encoded = encode(alloc, kind(number)?, &payload)?;
-    say_number(out, encoded.as_bytes().len() as u64)?;
-    say_bytes(out, "bytes", encoded.as_bytes())
-}
-
-/// digest_of BYTES
-fn ask_digest(args: &[Arg], out: &mut String) -> Result<(), Fault> {
-    let [bytes] = args else {
-        return Err(Fault::Script("digest_of BYTES"));
-    };
-    out.push_str("= ")?;
-    for byte in digest_of(bytes) {
-        write!(out, "{byte:02x}")?;
-    }
-    out.push('\n')?;
+    say_number(out, encoded.as_bytes().len() as u64);
+    say_bytes(out, "bytes", encoded.as_bytes());
     Ok(())
 }
 
-fn say_field(out: &mut String, field: Option<u64>) -> Result<(), Fault> {
+/// digest_of BYTES
+fn ask_digest(args: &[Arg], out: &mut Text) -> Result<(), Fault> {
+    let [bytes] = args else {
+        return Err(Fault::Script("digest_of BYTES"));
+    };
+    out.put("= ");
+    for byte in digest_of(bytes) {
+        out.put_hex(byte);
+    }
+    out.put("\n");
+    Ok(())
+}
+
+fn say_field(out: &mut Text, field: Option<u64>) {
     match field {
         Some(number) => say_number(out, number),
         None => say(out, "none"),
@@ -44,52 +45,59 @@ fn say_field(out: &mut String, field: Option<u64>) -> Result<(), Fault> {
 }
 
 /// kind_of BYTES
-fn ask_kind(args: &[Arg], out: &mut String) -> Result<(), Fault> {
+fn ask_kind(args: &[Arg], out: &mut Text) -> Result<(), Fault> {
     match args {
         [bytes] => say_field(out, kind_of(bytes).map(u64::from)),
-        _ => Err(Fault::Script("kind_of BYTES")),
+        _ => return Err(Fault::Script("kind_of BYTES")),
     }
+    Ok(())
 }
 
 /// length_of BYTES
-fn ask_length(args: &[Arg], out: &mut String) -> Result<(), Fault> {
+fn ask_length(args: &[Arg], out: &mut Text) -> Result<(), Fault> {
     match args {
         [bytes] => say_field(out, length_of(bytes).map(u64::from)),
-        _ => Err(Fault::Script("length_of BYTES")),
+        _ => return Err(Fault::Script("length_of BYTES")),
     }
+    Ok(())
 }
 
-/// payloads OFFSET ..
-fn ask_payloads(alloc: Global, args: &[Arg], out: &mut String) -> Result<(), Fault> {
+/// Records at these offsets.
+fn payloads_at(alloc: Global, offsets: &[Arg]) -> Result<Payloads, Fault> {
     let mut payloads = Payloads::new(alloc);
-    for arg in args {
+    for arg in offsets {
         payloads.push(Placed {
             offset: number(arg)?,
             kind: 1,
             payload: Bytes::empty(alloc),
         })?;
     }
-    say_number(out, payloads.as_slice().len() as u64)?;
+    Ok(payloads)
+}
+
+/// payloads OFFSET ..
+fn ask_payloads(alloc: Global, args: &[Arg], out: &mut Text) -> Result<(), Fault> {
+    let payloads = payloads_at(alloc, args)?;
+    say_number(out, payloads.as_slice().len() as u64);
     for placed in payloads.as_slice() {
-        say_number(out, placed.offset)?;
+        say_number(out, placed.offset);
     }
     Ok(())
 }
 
-/// Answers one of these calls, and tells whether it is one.
+/// Answers one of these calls, where it is one.
 pub(crate) fn ask(
     alloc: Global,
     call: &str,
     args: &[Arg],
-    out: &mut String,
-) -> Result<bool, Fault> {
-    match call {
-        "encode" => ask_encoded(alloc, args, out)?,
-        "digest_of" => ask_digest(args, out)?,
-        "kind_of" => ask_kind(args, out)?,
-        "length_of" => ask_length(args, out)?,
-        "payloads" => ask_payloads(alloc, args, out)?,
-        _ => return Ok(false),
-    }
-    Ok(true)
+    out: &mut Text,
+) -> Option<Result<(), Fault>> {
+    Some(match call {
+        "encode" => ask_encoded(alloc, args, out),
+        "digest_of" => ask_digest(args, out),
+        "kind_of" => ask_kind(args, out),
+        "length_of" => ask_length(args, out),
+        "payloads" => ask_payloads(alloc, args, out),
+        _ => return None,
+    })
 }

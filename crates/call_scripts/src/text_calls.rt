@@ -3,23 +3,24 @@
 
 ghost use Rattle.cfg_lex.specs.Tokens.{IsPlaced};
 
+use cfg_base::NoMemory;
 use cfg_lex::{LexFault, Token, TokenKind, tokens};
 use cfg_tree::Tree;
 use curly_grammar::{Marked, TextFault, parse};
 use script_lines::{
-    Arg, Fault, put_bytes, say, say_at, say_change, say_fault_of_line, say_path, say_text_fault,
-    small_number,
+    Arg, Fault, Text, put_bytes, say, say_at, say_change, say_counted, say_fault_of_line, say_path,
+    say_text_fault, small_number,
 };
 use set_text::{LineFault, parse_lines};
 use std::alloc::Global;
 
-fn say_lexical(out: &mut String, fault: LexFault) -> Result<(), Fault> {
+fn say_lexical(out: &mut Text, fault: LexFault) {
     match fault {
         LexFault::BadByte(place) => say_at(out, "bad byte", place),
         LexFault::OpenComment(place) => say_at(out, "comment not closed", place),
         LexFault::OpenQuote(place) => say_at(out, "quote not closed", place),
         LexFault::LongWord(place) => say_at(out, "word too long", place),
-        LexFault::NoMemory => Err(Fault::NoMemory),
+        LexFault::NoMemory => out.lacks_memory(),
     }
 }
 
@@ -35,42 +36,46 @@ fn name_of(kind: TokenKind) -> &'static str {
     }
 }
 
-/// A token: what it is, its first byte and the byte past its last, and its word.
-fn say_token(alloc: Global, out: &mut String, text: &[u8], token: &Token) -> Result<(), Fault>
+fn put_word(alloc: Global, out: &mut Text, text: &[u8], token: &Token)
     requires { IsPlaced text.now token.now }
 {
-    let name = name_of(token.kind);
-    let start = token.start;
-    let end = token.end;
-    write!(out, "= {name} {start} {end}")?;
-    if matches!(token.kind, TokenKind::Bare | TokenKind::Quoted) {
-        put_bytes(out, &token.word(alloc, text)?)?;
+    match token.word(alloc, text) {
+        Ok(word) => put_bytes(out, &word),
+        Err(NoMemory) => out.lacks_memory(),
     }
-    out.push('\n')?;
-    Ok(())
+}
+
+/// A token: what it is, its first byte and the byte past its last, and its word.
+fn say_token(alloc: Global, out: &mut Text, text: &[u8], token: &Token)
+    requires { IsPlaced text.now token.now }
+{
+    out.put("= ");
+    out.put(name_of(token.kind));
+    out.put(" ");
+    out.put_number(token.start as u64);
+    out.put(" ");
+    out.put_number(token.end as u64);
+    if matches!(token.kind, TokenKind::Bare | TokenKind::Quoted) {
+        put_word(alloc, out, text, token);
+    }
+    out.put("\n");
 }
 
 /// tokens TEXT
-fn ask_tokens(alloc: Global, text: &[u8], out: &mut String) -> Result<(), Fault> {
+fn ask_tokens(alloc: Global, text: &[u8], out: &mut Text) {
     match tokens(alloc, text) {
         Ok(tokens) => {
             for token in tokens.as_slice() {
-                say_token(alloc, out, text, token)?;
+                say_token(alloc, out, text, token);
             }
-            say(out, "end")
+            say(out, "end");
         }
         Err(fault) => say_lexical(out, fault),
     }
 }
 
 /// parse TEXT: how many statements the text says, and what it tags `replace:`; the tree has these statements from then on
-fn ask_parse(
-    alloc: Global,
-    tree: &mut Tree,
-    text: &[u8],
-    end: Option<u32>,
-    out: &mut String,
-) -> Result<(), Fault> {
+fn ask_parse(alloc: Global, tree: &mut Tree, text: &[u8], end: Option<u32>, out: &mut Text) {
     match parse(alloc, text) {
         Ok(
             Marked {
@@ -78,31 +83,28 @@ fn ask_parse(
                 replaced,
             },
         ) => {
-            let count = read.count();
-            writeln!(out, "= read {count}")?;
+            say_counted(out, "read", u64::from(read.count()));
             for path in replaced.as_slice() {
-                say_path(out, "replace", path)?;
+                say_path(out, "replace", path);
             }
             *tree = read;
-            Ok(())
         }
         Err(fault) => say_text_fault(out, fault, end),
     }
 }
 
 /// parse_lines TEXT: the number of each line that asks for a change, and the change
-fn ask_parse_lines(alloc: Global, text: &[u8], out: &mut String) -> Result<(), Fault> {
+fn ask_parse_lines(alloc: Global, text: &[u8], out: &mut Text) {
     match parse_lines(alloc, text) {
         Ok(lines) => {
             for line in lines.as_slice() {
-                let number = line.line;
-                writeln!(out, "= line {number}")?;
-                say_change(out, &line.op)?;
+                say_counted(out, "line", u64::from(line.line));
+                say_change(out, &line.op);
             }
-            say(out, "end")
+            say(out, "end");
         }
         Err(LineFault::Line { line, place }) => say_fault_of_line(out, line, place),
-        Err(LineFault::NoMemory) => Err(Fault::NoMemory),
+        Err(LineFault::NoMemory) => out.lacks_memory(),
     }
 }
 
@@ -112,13 +114,7 @@ pub(crate) fn is_call(call: &str) -> bool {
 }
 
 /// Answers a call that reads a text.
-pub(crate) fn ask(
-    alloc: Global,
-    tree: &mut Tree,
-    call: &str,
-    text: &[u8],
-    out: &mut String,
-) -> Result<(), Fault> {
+pub(crate) fn ask(alloc: Global, tree: &mut Tree, call: &str, text: &[u8], out: &mut Text) {
     match call {
         "tokens" => ask_tokens(alloc, text, out),
         "parse" => ask_parse(alloc, tree, text, None, out),
@@ -132,7 +128,7 @@ pub(crate) fn ask_front(
     tree: &mut Tree,
     text: &[u8],
     args: &[Arg],
-    out: &mut String,
+    out: &mut Text,
 ) -> Result<(), Fault> {
     let [count] = args else {
         return Err(Fault::Script("parse_front N"));
@@ -140,6 +136,7 @@ pub(crate) fn ask_front(
     let end = small_number(count)?;
     match text.get(..end as usize) {
         Some(front) => ask_parse(alloc, tree, front, Some(end), out),
-        None => Err(Fault::Script("the text has so many bytes")),
+        None => return Err(Fault::Script("the text has so many bytes")),
     }
+    Ok(())
 }

@@ -5,7 +5,8 @@ use crate::kept::keep;
 use crate::level::level_of;
 use crate::{check_calls, group_calls, puts};
 use cfg_tree::Tree;
-use script_lines::{Arg, Fault, say_flag};
+use commands::Op;
+use script_lines::{Arg, Fault, Text, say_flag};
 use std::alloc::Global;
 use std::mem;
 
@@ -39,23 +40,29 @@ impl Trees {
         mem::swap(&mut self.tree, &mut self.other);
     }
 
-    /// Takes a line of the trees as a whole, and tells whether it is one.
+    /// copy: the other tree is the same from now on
+    fn copy(&mut self) -> Result<(), Fault> {
+        self.other = self.tree.copy()?;
+        Ok(())
+    }
+
+    /// Takes a line of the trees as a whole, where it is one.
     pub(crate) fn keep(
         &mut self,
         alloc: Global,
         name: &str,
         args: &[Arg],
-        out: &mut String,
-    ) -> Result<bool, Fault> {
+        out: &mut Text,
+    ) -> Option<Result<(), Fault>> {
         match (name, args) {
             ("clear", []) => self.clear(alloc),
-            ("copy", []) => self.other = self.tree.copy()?,
+            ("copy", []) => return Some(self.copy()),
             ("swap", []) => self.swap(),
-            ("keep", []) => keep(alloc, &mut self.kept, &self.tree, out)?,
-            ("same", []) => say_flag(out, self.tree.same(&self.other))?,
-            _ => return Ok(false),
+            ("keep", []) => return Some(keep(alloc, &mut self.kept, &self.tree, out)),
+            ("same", []) => say_flag(out, self.tree.same(&self.other)),
+            _ => return None,
         }
-        Ok(true)
+        Some(Ok(()))
     }
 
     /// From now on changes are read from the level that these words name.
@@ -63,36 +70,59 @@ impl Trees {
         self.level = args;
     }
 
-    /// Makes a change of the tree, and tells whether the call is one.
+    /// Makes a change of the tree.
+    fn make(&mut self, alloc: Global, op: &Op, out: &mut Text) -> Result<(), Fault> {
+        let level = level_of(alloc, &self.level)?;
+        change(alloc, &mut self.tree, &level, op, out);
+        Ok(())
+    }
+
+    /// Makes a change of the tree, where the call is one.
     fn change(
         &mut self,
         alloc: Global,
         name: &str,
         args: &[Arg],
-        out: &mut String,
-    ) -> Result<bool, Fault> {
-        let Some(op) = op_of(alloc, name, args)? else {
-            return Ok(false);
-        };
-        let level = level_of(alloc, &self.level)?;
-        change(alloc, &mut self.tree, &level, &op, out)?;
-        Ok(true)
+        out: &mut Text,
+    ) -> Option<Result<(), Fault>> {
+        match op_of(alloc, name, args) {
+            Ok(Some(op)) => Some(self.make(alloc, &op, out)),
+            Ok(None) => None,
+            Err(fault) => Some(Err(fault)),
+        }
     }
 
-    /// Answers a call of the tree, and tells whether it is one.
+    /// Answers a call that leaves the tree as it is, where it is one.
+    fn look(
+        &self,
+        alloc: Global,
+        name: &str,
+        args: &[Arg],
+        out: &mut Text,
+    ) -> Option<Result<(), Fault>> {
+        if check_calls::ask(alloc, &self.tree, name, out) {
+            return Some(Ok(()));
+        }
+        if let Some(done) = look(alloc, &self.tree, name, args, out) {
+            return Some(done);
+        }
+        group_calls::ask(alloc, &self.tree, name, args, out)
+    }
+
+    /// Answers a call of the tree, where it is one.
     pub(crate) fn ask(
         &mut self,
         alloc: Global,
         name: &str,
         args: &[Arg],
-        out: &mut String,
-    ) -> Result<bool, Fault> {
-        Ok(
-            self.change(alloc, name, args, out)?
-                || puts::ask(alloc, &mut self.tree, name, args, out)?
-                || look(alloc, &self.tree, name, args, out)?
-                || group_calls::ask(alloc, &self.tree, name, args, out)?
-                || check_calls::ask(alloc, &self.tree, name, out)?,
-        )
+        out: &mut Text,
+    ) -> Option<Result<(), Fault>> {
+        if let Some(done) = self.change(alloc, name, args, out) {
+            return Some(done);
+        }
+        if let Some(done) = puts::ask(alloc, &mut self.tree, name, args, out) {
+            return Some(done);
+        }
+        self.look(alloc, name, args, out)
     }
 }

@@ -1,7 +1,7 @@
 //! Changes by their words.
 
 use crate::answers::say_words;
-use crate::fault::Fault;
+use crate::writing::Text;
 use cfg_base::Words;
 use commands::Op;
 
@@ -10,19 +10,13 @@ fn mark_of(before: bool) -> &'static str {
 }
 
 /// A change of two statements, in two answers.
-fn say_pair(
-    out: &mut String,
-    keyword: &str,
-    words: &Words,
-    mark: &str,
-    others: &Words,
-) -> Result<(), Fault> {
-    say_words(out, keyword, words.as_slice())?;
-    say_words(out, mark, others.as_slice())
+fn say_pair(out: &mut Text, keyword: &str, words: &Words, mark: &str, others: &Words) {
+    say_words(out, keyword, words.as_slice());
+    say_words(out, mark, others.as_slice());
 }
 
 /// A change with its words.
-pub fn say_change(out: &mut String, op: &Op) -> Result<(), Fault> {
+pub fn say_change(out: &mut Text, op: &Op) {
     match op {
         Op::Set(words) => say_words(out, "set", words.as_slice()),
         Op::Delete(words) => say_words(out, "delete", words.as_slice()),

@@ -1,11 +1,11 @@
 //! Refused changes.
 
-use crate::answers::{say, say_path};
-use crate::fault::Fault;
+use crate::answers::{say, say_counted, say_path};
+use crate::writing::Text;
 use edit_ops::EditFault;
 
 /// Why a change is refused, and where.
-pub fn say_edit_fault(out: &mut String, fault: &EditFault) -> Result<(), Fault> {
+pub fn say_edit_fault(out: &mut Text, fault: &EditFault) {
     match fault {
         EditFault::Unknown(path) => say_path(out, "unknown", path),
         EditFault::BadValue(path) => say_path(out, "bad value", path),
@@ -17,12 +17,12 @@ pub fn say_edit_fault(out: &mut String, fault: &EditFault) -> Result<(), Fault> 
         EditFault::AlreadyThere(path) => say_path(out, "already there", path),
         EditFault::Protected(path) => say_path(out, "protected", path),
         EditFault::TooMany => say(out, "too many"),
-        EditFault::NoMemory => Err(Fault::NoMemory),
+        EditFault::NoMemory => out.lacks_memory(),
     }
 }
 
 /// The refusal of a line's change, behind the line's number.
-pub fn say_line_fault(out: &mut String, line: u32, fault: &EditFault) -> Result<(), Fault> {
-    writeln!(out, "= line {line}")?;
-    say_edit_fault(out, fault)
+pub fn say_line_fault(out: &mut Text, line: u32, fault: &EditFault) {
+    say_counted(out, "line", u64::from(line));
+    say_edit_fault(out, fault);
 }

@@ -1,138 +1,75 @@
-//! The scripts that the command line names, each line in turn.
+//! The scripts that the command line names.
 
-use crate::expanding::expanded;
+ghost use Rattle.std.specs.Thread.{IsSync};
+
+use crate::asked::Asked;
 use crate::fault::Fault;
-use crate::question::Question;
-use crate::repeated::{Answers, answer_line};
-use crate::report::Report;
-use std::alloc::{AllocError, Global};
+use std::alloc::Global;
 use std::process::ExitCode;
 use std::rt::{Env, Files};
-use std::{env, fs, io, str};
+use std::sync::Wait;
+use std::thread::Threads;
+use std::{env, fs, io};
 
-/// Asks what a line asks. What it answers is the question from now on.
-fn ask<R: Sync, A: Answers<R>>(
-    rt: &R,
-    alloc: Global,
-    script: &mut A,
-    report: &mut Report,
-    line: &str,
-) -> Result<Question, AllocError> {
-    match answer_line(rt, alloc, script, line) {
-        Ok(answer) => Question::answered(alloc, answer.as_str()),
-        Err(Fault::NoMemory) => Err(AllocError),
-        Err(Fault::Script(why)) => {
-            report.wrong(why)?;
-            Ok(Question::refused(alloc))
-        }
-    }
+/// What answers a script as a whole, with what it is lent for that.
+pub trait AnswersAll {
+    /// Takes the lines of a script, each of them, in order.
+    fn answer_all<R: Threads + Wait + Sync>(
+        rt: &R,
+        alloc: Global,
+        asked: &mut Asked,
+        lines: &[&[u8]],
+    ) -> Result<(), Fault>
+        requires { IsSync R.row };
 }
 
-/// Takes a line whose copies are written out: an answer that is expected, or the next question.
-fn take_expanded<R: Sync, A: Answers<R>>(
-    rt: &R,
-    alloc: Global,
-    script: &mut A,
-    report: &mut Report,
-    question: &mut Question,
-    line: &str,
-) -> Result<(), AllocError> {
-    if line.starts_with("=") {
-        return question.expect(report, line);
-    }
-    question.close(report)?;
-    *question = ask(rt, alloc, script, report, line)?;
-    if question.has_answers() {
-        report.count_question();
-    }
-    Ok(())
-}
-
-fn take<R: Sync, A: Answers<R>>(
-    rt: &R,
-    alloc: Global,
-    script: &mut A,
-    report: &mut Report,
-    question: &mut Question,
-    line: &str,
-) -> Result<(), AllocError> {
-    if line.is_empty() || line.starts_with("#") {
-        return Ok(());
-    }
-    match expanded(alloc, line) {
-        Ok(text) => take_expanded(rt, alloc, script, report, question, text.as_str()),
-        Err(Fault::NoMemory) => Err(AllocError),
-        Err(Fault::Script(why)) => report.wrong(why),
-    }
-}
-
-/// Answers the lines of a script, up to its last question.
-fn answer_lines<R: Sync, A: Answers<R>>(
-    rt: &R,
-    alloc: Global,
-    script: &mut A,
-    report: &mut Report,
-    question: &mut Question,
-    bytes: &[u8],
-) -> Result<(), AllocError> {
+/// The lines of a text, without their ends.
+fn lines_of(alloc: Global, bytes: &[u8]) -> Result<Vec<&[u8]>, Fault> {
+    let mut lines = Vec::new(alloc);
     for line in bytes.split(|byte| *byte == b'\n') {
-        report.next_line();
-        match str::from_utf8(line) {
-            Ok(text) => take(rt, alloc, script, report, question, text)?,
-            Err(_) => report.wrong("the line is no UTF-8")?,
-        }
+        lines.push(line)?;
     }
-    Ok(())
+    Ok(lines)
 }
 
-/// Answers a script, and reports what isn't as the script expects.
-fn check<R: Sync, A: Answers<R>>(
+/// Answers a script.
+fn check<R: Threads + Wait + Sync, A: AnswersAll>(
     rt: &R,
     alloc: Global,
-    script: &mut A,
-    report: &mut Report,
+    asked: &mut Asked,
     bytes: &[u8],
-) -> Result<(), AllocError> {
-    let mut question = Question::none(alloc);
-    answer_lines(rt, alloc, script, report, &mut question, bytes)?;
-    question.close(report)?;
-    report.close()
-}
-
-/// Checks a file with what answers its lines.
-fn check_file<R: Files + AllocGlobal + Sync, A: Answers<R>>(
-    rt: &R,
-    alloc: Global,
-    script: &mut A,
-    report: &mut Report,
-    name: &str,
-) -> Result<(), AllocError> {
-    match fs::read(rt, name) {
-        Ok(bytes) => check(rt, alloc, script, report, &bytes),
-        Err(_) => report.wrong("the file can't be read"),
+) {
+    let answered = match lines_of(alloc, bytes) {
+        Ok(lines) => A::answer_all(rt, alloc, asked, &lines),
+        Err(fault) => Err(fault),
+    };
+    if let Err(fault) = answered {
+        asked.report.refused(fault);
     }
+    asked.close();
 }
 
 /// Checks a file, prints the report, and tells whether all is as expected.
 fn report_file<R, A>(rt: &R, name: &str) -> io::Result<bool>
 where
-    R: Files + Print + AllocGlobal + Sync,
-    A: Answers<R>,
+    R: Files + Print + AllocGlobal + Threads + Wait + Sync,
+    A: AnswersAll,
 {
     let alloc = rt.alloc();
-    let Ok(mut script) = A::new(alloc) else {
-        return Err(AllocError.into());
-    };
-    let mut report = Report::new(alloc, name)?;
-    check_file(rt, alloc, &mut script, &mut report, name)?;
-    report.print(rt)?;
-    Ok(report.is_right())
+    let mut asked = Asked::new(alloc, name);
+    match fs::read(rt, name) {
+        Ok(bytes) => check::<R, A>(rt, alloc, &mut asked, &bytes),
+        Err(_) => asked.report.wrong("the file can't be read"),
+    }
+    asked.report.tell_counts();
+    asked.report.print(rt)?;
+    Ok(asked.report.is_right())
 }
 
 fn report_files<R, A>(rt: &R) -> io::Result<bool>
 where
-    R: Env + Files + Print + AllocGlobal + Sync,
-    A: Answers<R>,
+    R: Env + Files + Print + AllocGlobal + Threads + Wait + Sync,
+    A: AnswersAll,
 {
     let mut right = true;
     for name in env::args(rt)?.skip(1) {
@@ -146,8 +83,8 @@ where
 /// memory is wanting.
 pub fn check_files<R, A>(rt: &R) -> ExitCode
 where
-    R: Env + Files + Print + AllocGlobal + Sync,
-    A: Answers<R>,
+    R: Env + Files + Print + AllocGlobal + Threads + Wait + Sync,
+    A: AnswersAll,
 {
     match report_files::<R, A>(rt) {
         Ok(true) => ExitCode::from(0),

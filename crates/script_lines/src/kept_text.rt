@@ -1,7 +1,7 @@
 //! A text that is kept for a call that reads one.
 
 use crate::fault::Fault;
-use crate::words::bytes_of;
+use crate::words::{add_bytes, bytes_of};
 use std::alloc::Global;
 use std::mem;
 
@@ -24,18 +24,17 @@ impl KeptText {
         &self.bytes
     }
 
-    fn add(&mut self, alloc: Global, line: &str, end: &[u8]) -> Result<(), Fault> {
-        let bytes = bytes_of(alloc, line)?;
-        self.bytes.extend_from_slice(&bytes)?;
+    fn add(&mut self, line: &str, end: &[u8]) -> Result<(), Fault> {
+        add_bytes(&mut self.bytes, line)?;
         self.bytes.extend_from_slice(end)?;
         Ok(())
     }
 
     /// Takes `text LINE` or `text_part LINE`, more of the text with an LF behind it or without, and tells whether it is one.
-    pub fn keep(&mut self, alloc: Global, name: &str, rest: &str) -> Result<bool, Fault> {
+    pub fn keep(&mut self, name: &str, rest: &str) -> Result<bool, Fault> {
         match name {
-            "text" => self.add(alloc, rest, b"\n")?,
-            "text_part" => self.add(alloc, rest, b"")?,
+            "text" => self.add(rest, b"\n")?,
+            "text_part" => self.add(rest, b"")?,
             _ => return Ok(false),
         }
         Ok(true)

@@ -6,6 +6,7 @@
 #![tactic(auto)]
 
 mod answers;
+mod asked;
 mod changes;
 mod edits;
 mod expanding;
@@ -18,15 +19,18 @@ mod report;
 mod stage;
 mod texts;
 mod words;
+mod writing;
 
 pub use answers::{
-    put_bytes, put_path, put_words, say, say_at, say_broken, say_bytes, say_fault_of_line,
-    say_flag, say_number, say_path, say_pending, say_text, say_whole_text, say_words,
+    put_bytes, put_path, put_words, say, say_at, say_broken, say_bytes, say_counted,
+    say_fault_of_line, say_flag, say_number, say_path, say_pending, say_text, say_whole_text,
+    say_words,
 };
+pub use asked::Asked;
 pub use changes::say_change;
 pub use edits::{say_edit_fault, say_line_fault};
 pub use fault::Fault;
-pub use files::check_files;
+pub use files::{AnswersAll, check_files};
 pub use kept_text::KeptText;
 pub use repeated::Answers;
 pub use stage::{Part, Stage};
@@ -35,3 +39,4 @@ pub use words::{
     Arg, args_of, bytes_of, first_and_rest, flag, halves, number, numbers, small_number, user_of,
     words_of,
 };
+pub use writing::Text;

@@ -1,28 +1,32 @@
+use crate::fault::Fault;
+use crate::writing::Text;
 use std::alloc::{AllocError, Global};
 use std::io;
 
 /// What came of a script.
 #[derive(Drop)]
 pub(crate) struct Report {
-    name: String,
+    name: Text,
     /// The number of the line that is read, from 1.
     line: u64,
     questions: u64,
     expected: u64,
     wrong: u64,
-    text: String,
+    text: Text,
 }
 
 impl Report {
-    pub(crate) fn new(alloc: Global, name: &str) -> Result<Report, AllocError> {
-        Ok(Report {
-            name: String::from_str(alloc, name)?,
+    pub(crate) fn new(alloc: Global, name: &str) -> Report {
+        let mut named = Text::new(alloc);
+        named.put(name);
+        Report {
+            name: named,
             line: 0,
             questions: 0,
             expected: 0,
             wrong: 0,
-            text: String::new(alloc),
-        })
+            text: Text::new(alloc),
+        }
     }
 
     pub(crate) fn is_right(&self) -> bool {
@@ -44,42 +48,61 @@ impl Report {
         self.expected = self.expected.saturating_add(1);
     }
 
-    fn add(&mut self, head: &str, text: &str) -> Result<(), AllocError> {
-        let name = self.name.as_str();
-        let line = self.line;
-        write!(self.text, "{name}:{line}: {head}{text}\n")?;
-        Ok(())
+    fn add(&mut self, head: &str, text: &str) {
+        self.text.put(self.name.as_str());
+        self.text.put(":");
+        self.text.put_number(self.line);
+        self.text.put(head);
+        self.text.put(text);
+        self.text.put("\n");
     }
 
     /// Something of the script is wrong at the line that is read.
-    pub(crate) fn wrong(&mut self, why: &str) -> Result<(), AllocError> {
+    pub(crate) fn wrong(&mut self, why: &str) {
         self.wrong = self.wrong.saturating_add(1);
-        self.add("error: ", why)
+        self.add(": error: ", why);
+    }
+
+    /// The line that is read has no answer.
+    pub(crate) fn refused(&mut self, fault: Fault) {
+        match fault {
+            Fault::Script(why) => self.wrong(why),
+            Fault::NoMemory => self.text.lacks_memory(),
+        }
     }
 
     /// What came at the line that is read isn't what is expected there.
-    pub(crate) fn differs(&mut self, expected: &str, came: &str) -> Result<(), AllocError> {
+    pub(crate) fn differs(&mut self, expected: &str, came: &str) {
         self.wrong = self.wrong.saturating_add(1);
-        self.add("expected ", expected)?;
-        self.add("came     ", came)
+        self.add(": expected ", expected);
+        self.add(": came     ", came);
     }
 
     /// The script is at its end, and has asked something.
-    pub(crate) fn close(&mut self) -> Result<(), AllocError> {
+    pub(crate) fn close(&mut self) {
         if self.questions == 0 {
-            self.wrong("the script asks nothing")?;
+            self.wrong("the script asks nothing");
         }
-        Ok(())
     }
 
-    /// Prints each difference and the counts.
+    /// Tells the counts.
+    pub(crate) fn tell_counts(&mut self) {
+        self.text.put(self.name.as_str());
+        self.text.put(": ");
+        self.text.put_number(self.questions);
+        self.text.put(" questions, ");
+        self.text.put_number(self.expected);
+        self.text.put(" answers expected, ");
+        self.text.put_number(self.wrong);
+        self.text.put(" wrong\n");
+    }
+
+    /// Prints each difference and the counts, unless memory was wanting.
     pub(crate) fn print(&self, rt: &impl Print) -> io::Result<()> {
+        if !self.name.is_whole() || !self.text.is_whole() {
+            return Err(AllocError.into());
+        }
         let text = self.text.as_str();
-        let name = self.name.as_str();
-        let questions = self.questions;
-        let expected = self.expected;
-        let wrong = self.wrong;
-        print!(rt; "{text}")?;
-        println!(rt; "{name}: {questions} questions, {expected} answers expected, {wrong} wrong")
+        print!(rt; "{text}")
     }
 }

@@ -1,7 +1,7 @@
 //! What the ends of the next sessions are made of. The reads and writes that fail are counted from 1.
 
 use crate::fault::Fault;
-use crate::words::{args_of, bytes_of, flag, number, numbers};
+use crate::words::{bytes_of, flag, number};
 use cfg_base::{Bytes, Moment};
 use std::alloc::Global;
 use std::mem;
@@ -123,21 +123,31 @@ impl Stage {
 }
 
 fn numbers_in(alloc: Global, text: &str) -> Result<Vec<u64>, Fault> {
-    numbers(alloc, &args_of(alloc, text)?)
+    let mut numbers = Vec::new(alloc);
+    for word in text.split(' ') {
+        if !word.is_empty() {
+            numbers.push(number(word.as_bytes())?)?;
+        }
+    }
+    Ok(numbers)
 }
 
 fn moments_in(alloc: Global, text: &str) -> Result<Vec<Moment>, Fault> {
     let mut moments = Vec::new(alloc);
-    for arg in args_of(alloc, text)?.iter() {
-        moments.push(Moment::of(number(arg)?))?;
+    for word in text.split(' ') {
+        if !word.is_empty() {
+            moments.push(Moment::of(number(word.as_bytes())?))?;
+        }
     }
     Ok(moments)
 }
 
 fn flags_in(alloc: Global, text: &str) -> Result<Vec<bool>, Fault> {
     let mut flags = Vec::new(alloc);
-    for arg in args_of(alloc, text)?.iter() {
-        flags.push(flag(arg)?)?;
+    for word in text.split(' ') {
+        if !word.is_empty() {
+            flags.push(flag(word.as_bytes())?)?;
+        }
     }
     Ok(flags)
 }

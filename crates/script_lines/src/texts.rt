@@ -1,20 +1,23 @@
 //! Faults of texts.
 
 use crate::answers::{say, say_at};
-use crate::fault::Fault;
+use crate::writing::Text;
 use curly_grammar::TextFault;
 
 /// Something that is so at a byte of a text whose end is known.
-fn say_before(out: &mut String, what: &str, place: u32, end: Option<u32>) -> Result<(), Fault> {
-    if Some(place) != end {
-        return say_at(out, what, place);
+fn say_before(out: &mut Text, what: &str, place: u32, end: Option<u32>) {
+    match end {
+        Some(end) if end == place => {
+            out.put("= ");
+            out.put(what);
+            out.put(" at the end\n");
+        }
+        _ => say_at(out, what, place),
     }
-    writeln!(out, "= {what} at the end")?;
-    Ok(())
 }
 
 /// The fault of a curly text. Where its end is told, a fault there is told to be at the end.
-pub fn say_text_fault(out: &mut String, fault: TextFault, end: Option<u32>) -> Result<(), Fault> {
+pub fn say_text_fault(out: &mut Text, fault: TextFault, end: Option<u32>) {
     match fault {
         TextFault::BadByte(place) => say_at(out, "bad byte", place),
         TextFault::OpenComment(place) => say_at(out, "comment not closed", place),
@@ -24,6 +27,6 @@ pub fn say_text_fault(out: &mut String, fault: TextFault, end: Option<u32>) -> R
         TextFault::Unknown(place) => say_at(out, "unknown statement", place),
         TextFault::BadValue(place) => say_at(out, "bad value", place),
         TextFault::TooMany => say(out, "too many"),
-        TextFault::NoMemory => Err(Fault::NoMemory),
+        TextFault::NoMemory => out.lacks_memory(),
     }
 }

@@ -16,10 +16,14 @@ fn digit(byte: u8) -> Result<u8, Fault> {
     }
 }
 
+fn byte_of(high: u8, low: u8) -> Result<u8, Fault> {
+    Ok(digit(high)?.wrapping_mul(16) | digit(low)?)
+}
+
 fn push_escape(bytes: &mut Vec<u8>, piece: &[u8]) -> Result<(), Fault> {
     match piece {
         [b'x', high, low, rest @ ..] => {
-            bytes.push(digit(*high)?.wrapping_mul(16) | digit(*low)?)?;
+            bytes.push(byte_of(*high, *low)?)?;
             bytes.extend_from_slice(rest)?;
             Ok(())
         }
@@ -31,17 +35,25 @@ fn push_escape(bytes: &mut Vec<u8>, piece: &[u8]) -> Result<(), Fault> {
     }
 }
 
-/// The bytes that a text with escapes stands for.
-pub fn bytes_of(alloc: Global, text: &str) -> Result<Arg, Fault> {
-    let mut bytes = Vec::new(alloc);
+/// Adds the bytes that a text with escapes stands for.
+pub(crate) fn add_bytes(bytes: &mut Vec<u8>, text: &str) -> Result<(), Fault> {
     for (place, piece) in text.split('\\').enumerate() {
         if place == 0 {
             bytes.extend_from_slice(piece.as_bytes())?;
         } else {
-            push_escape(&mut bytes, piece.as_bytes())?;
+            push_escape(bytes, piece.as_bytes())?;
         }
     }
-    Ok(bytes)
+    Ok(())
+}
+
+/// The bytes that a text with escapes stands for.
+pub fn bytes_of(alloc: Global, text: &str) -> Result<Arg, Fault> {
+    let mut bytes = Vec::new(alloc);
+    match add_bytes(&mut bytes, text) {
+        Ok(()) => Ok(bytes),
+        Err(fault) => Err(fault),
+    }
 }
 
 /// The words of a text.
@@ -57,7 +69,10 @@ pub fn args_of(alloc: Global, text: &str) -> Result<Vec<Arg>, Fault> {
 
 /// The first word of a text, and what stands behind the blank after it.
 pub fn first_and_rest(text: &str) -> (&str, &str) {
-    text.split_once(' ').unwrap_or((text, ""))
+    match text.split_once(' ') {
+        Some(halves) => halves,
+        None => (text, ""),
+    }
 }
 
 /// The words before and after `--`.

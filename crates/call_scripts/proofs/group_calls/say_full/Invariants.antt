@@ -1,5 +1,5 @@
 use Rattle.std.proofs.Common.{length}
-use Rattle.call_scripts.proofs.group_calls.ask_expand.Given as goal
+use Rattle.call_scripts.proofs.group_calls.say_full.Given as goal
 
 abbrev pub invariant-loop-path : goal.invariant-loop-path
 invariant-loop-path l = Unit {0}
