@@ -56,16 +56,29 @@ fn write_anew(disk: &mut MemDisk, at: u64, bytes: &[u8]) -> Result<(), Fault> {
     Err(Fault::Script("a write isn't behind the end"))
 }
 
+/// Makes calls anew.
+fn make_anew(anew: &mut MemDisk, calls: &[Made]) -> Result<(), Fault> {
+    for call in calls {
+        if let Made::Wrote { at, bytes } = call {
+            write_anew(anew, *at, bytes)?;
+        }
+    }
+    Ok(())
+}
+
+/// The image of what is durable once a disk is synced.
+fn synced_image(alloc: Global, disk: &mut MemDisk) -> Result<MemDisk, Fault> {
+    disk.sync();
+    plain_image(alloc, disk, disk.count())
+}
+
 /// A disk that holds what the first of a disk's calls made of it.
 fn made_anew(alloc: Global, disk: &MemDisk, calls: &[Made]) -> Result<MemDisk, Fault> {
     let mut anew = plain_image(alloc, disk, 0)?;
-    for call in calls {
-        if let Made::Wrote { at, bytes } = call {
-            write_anew(&mut anew, *at, bytes)?;
-        }
+    match make_anew(&mut anew, calls) {
+        Ok(()) => synced_image(alloc, &mut anew),
+        Err(fault) => Err(fault),
     }
-    anew.sync();
-    plain_image(alloc, &anew, anew.count())
 }
 
 /// The calls up to the last sync that left nothing pending.
@@ -77,6 +90,12 @@ fn synced<'a, 'b>(calls: &'a [Made<'b>]) -> &'a [Made<'b>] {
         }
     }
     front
+}
+
+/// How many bytes the first of a disk's calls leave.
+fn length_of(alloc: Global, disk: &MemDisk, calls: &[Made]) -> Result<usize, Fault> {
+    let anew = made_anew(alloc, disk, calls)?;
+    Ok(anew.contents().len())
 }
 
 /// The image in which pending places hold one byte.
@@ -91,6 +110,21 @@ fn filled(
     torn_image(alloc, disk, call, length as u64, Bytes::from(bytes))
 }
 
+/// What a crash after these calls of a disk leaves, the first ones of all.
+fn image_of(
+    alloc: Global,
+    disk: &MemDisk,
+    made: &[Made],
+    call: u64,
+    left: Left,
+) -> Result<MemDisk, Fault> {
+    match left {
+        Left::Old => made_anew(alloc, disk, synced(made)),
+        Left::New => made_anew(alloc, disk, made),
+        Left::Byte(byte) => filled(alloc, disk, call, length_of(alloc, disk, made)?, byte),
+    }
+}
+
 /// What a crash after so many calls of a disk leaves.
 pub(crate) fn image(
     alloc: Global,
@@ -99,15 +133,8 @@ pub(crate) fn image(
     left: Left,
 ) -> Result<MemDisk, Fault> {
     let calls = disk.calls(alloc)?;
-    let Some(made) = calls.get(..call as usize) else {
-        return Err(Fault::Script("so many calls were made of the disk"));
-    };
-    match left {
-        Left::Old => made_anew(alloc, disk, synced(made)),
-        Left::New => made_anew(alloc, disk, made),
-        Left::Byte(byte) => {
-            let length = made_anew(alloc, disk, made)?.contents().len();
-            filled(alloc, disk, call, length, byte)
-        }
+    match calls.get(..call as usize) {
+        Some(made) => image_of(alloc, disk, made, call, left),
+        None => Err(Fault::Script("so many calls were made of the disk")),
     }
 }

@@ -5,15 +5,18 @@
 //! Leaves to others: what the calls answer (`config_db`), and how a script is read and compared (`script_lines`).
 #![tactic(auto)]
 
-use script::Script;
+use script::Whole;
 use script_lines::check_files;
 use std::process::ExitCode;
 
+mod book;
+mod disks;
 mod images;
+mod reading;
 mod resting;
 mod running;
 mod script;
 
 fn main(rt: HostRuntime) -> ExitCode {
-    check_files::<HostRuntime, Script>(&rt)
+    check_files::<HostRuntime, Whole>(&rt)
 }

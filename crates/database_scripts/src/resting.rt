@@ -1,29 +1,24 @@
 //! The two disks while no database is open, and what happened in the last one over them.
 
-ghost use Rattle.std.specs.Prelude.{◌≡◌, IfOk};
+ghost use Rattle.std.specs.Prelude.{◌≡◌, [], IfOk};
 
+use crate::book::{LIMITS, NewBook, ROOM};
 use crate::images::{Left, image};
-use cfg_base::{Calls, Limits, Users};
+use active_snapshot::{Front, Naming, Shelf, open_book};
+use cfg_base::{Calls, NoMemory, Users};
 use commit_ledger::Ledger;
 use config_core::{Event, Outcome};
 use config_db::{ClosedBook, Database};
 use disk_model::{FailAt, MemDisk};
-use script_lines::{Fault, say, say_pending};
+use script_lines::{Fault, Text, say, say_counted, say_pending};
 use session_history::{Happened, History};
 use std::alloc::Global;
+use std::marker::Brand;
+use std::sync::Wait;
 use stored_ledger::{StartFault, StartWhy};
-
-/// How many bytes each disk has room for.
-const ROOM: u64 = 1 << 20;
 
 /// How many calls of `write_at` and `sync` each disk takes.
 const CALLS: u32 = 4_000;
-
-/// What limits a database.
-const LIMITS: Limits = Limits {
-    input: 0,
-    journal: ROOM,
-};
 
 /// The disks, and what happened over them since the last opening.
 #[derive(Drop)]
@@ -51,31 +46,31 @@ pub(crate) fn which_of(word: &[u8]) -> Result<Which, Fault> {
 }
 
 /// Why a database isn't opened.
-fn say_why(out: &mut String, why: &StartWhy) -> Result<(), Fault> {
+fn say_why(out: &mut Text, why: StartWhy) {
     if let StartWhy::NoMemory = why {
-        return Err(Fault::NoMemory);
+        out.lacks_memory();
     }
-    writeln!(out, "= {why}")?;
-    Ok(())
+    out.put("= ");
+    out.put_shown(&why);
+    out.put("\n");
 }
 
 /// What a list has: its entries, the commits that are kept, the statements of the last one, and the deadline.
-fn say_list(out: &mut String, list: &Ledger) -> Result<(), Fault> {
-    let entries = list.count();
-    let kept = list.kept();
-    let statements = list.active().count();
-    writeln!(
-        out,
-        "= entries {entries}, commits {kept}, statements {statements}"
-    )?;
-    match list.pending() {
-        Some(pending) => say_pending(out, pending.target, pending.deadline),
-        None => Ok(()),
+fn say_list(out: &mut Text, list: &Ledger) {
+    out.put("= entries ");
+    out.put_number(list.count());
+    out.put(", commits ");
+    out.put_number(u64::from(list.kept()));
+    out.put(", statements ");
+    out.put_number(u64::from(list.active().count()));
+    out.put("\n");
+    if let Some(pending) = list.pending() {
+        say_pending(out, pending.target, pending.deadline);
     }
 }
 
 /// The list over which a database began.
-fn say_opening(out: &mut String, history: &History) -> Result<(), Fault> {
+fn say_opening(out: &mut Text, history: &History) {
     match &history.opening {
         Some(list) => say_list(out, list),
         None => say(out, "no list"),
@@ -83,48 +78,73 @@ fn say_opening(out: &mut String, history: &History) -> Result<(), Fault> {
 }
 
 /// What a start finds on two disks.
-fn say_found(alloc: Global, a: MemDisk, b: MemDisk, out: &mut String) -> Result<(), Fault> {
-    match Database::start(alloc, a, b, Users::new(alloc), LIMITS) {
-        Err(fault) => say_why(out, &fault.why),
-        Ok(book) => say_opening(out, &book.close().history),
+fn say_started<R: Wait, J: Naming>(
+    rt: &R,
+    alloc: Global,
+    shelf: Shelf,
+    front: Front,
+    disks: Resting,
+    out: &mut Text,
+)
+    requires { (front.book ≡ J.book) × (shelf ≡ J.book) × (front.list ≡ []) }
+{
+    let Resting { a, b, .. } = disks;
+    match Database::<MemDisk, J>::start(alloc, shelf, front, a, b, Users::new(alloc), LIMITS) {
+        Err(fault) => say_why(out, fault.why),
+        Ok(book) => say_opening(out, &book.close(rt).history),
     }
+}
+
+/// The same, by a book of its own.
+fn say_found<R: Wait>(rt: &R, alloc: Global, disks: Resting, out: &mut Text) {
+    let (shelf, front) = open_book();
+    say_started::<R, Brand>(rt, alloc, shelf, front, disks, out);
 }
 
 fn event_as(event: &Event) -> &'static str {
     match event {
-        Event::Settle(true) => "settle kept",
-        Event::Settle(false) => "settle lost",
-        Event::Revert => "revert",
-        Event::Command(_) => "command",
+        Event::Settle(true) => " settle kept",
+        Event::Settle(false) => " settle lost",
+        Event::Revert => " revert",
+        Event::Command(_) => " command",
     }
 }
 
 fn outcome_as(outcome: Outcome) -> &'static str {
     match outcome {
-        Outcome::Done => "",
-        Outcome::Fault => " failing",
+        Outcome::Done => "\n",
+        Outcome::Fault => " failing\n",
     }
 }
 
-/// An event: whose it is, when it came, the calls of both disks by then, and what it is.
-fn say_event(out: &mut String, happened: &Happened) -> Result<(), Fault> {
-    let Happened { caller, calls, .. } = happened;
-    let seconds = happened.moment.seconds();
-    let event = event_as(&happened.event);
-    let outcome = outcome_as(happened.outcome);
-    let Calls { a, b } = calls;
-    writeln!(
-        out,
-        "= event of {caller} at {seconds} calls {a} {b} {event}{outcome}"
-    )?;
-    Ok(())
+/// How many calls were made of both disks.
+fn put_calls(out: &mut Text, calls: Calls) {
+    out.put("calls ");
+    out.put_number(calls.a);
+    out.put(" ");
+    out.put_number(calls.b);
 }
 
-/// How many calls were made of both disks.
-fn say_calls(out: &mut String, calls: Calls) -> Result<(), Fault> {
-    let Calls { a, b } = calls;
-    writeln!(out, "= calls {a} {b}")?;
-    Ok(())
+/// An event: whose it is, when it came, the calls of both disks by then, and what it is.
+fn say_event(out: &mut Text, happened: &Happened) {
+    out.put("= event of ");
+    out.put_number(u64::from(happened.caller));
+    out.put(" at ");
+    out.put_number(happened.moment.seconds());
+    out.put(" ");
+    put_calls(out, happened.calls);
+    out.put(event_as(&happened.event));
+    out.put(outcome_as(happened.outcome));
+}
+
+fn say_calls(out: &mut Text, calls: Calls) {
+    out.put("= ");
+    put_calls(out, calls);
+    out.put("\n");
+}
+
+fn disk_of(alloc: Global, failing: Vec<FailAt>) -> Result<MemDisk, NoMemory> {
+    MemDisk::new(alloc, ROOM, CALLS, failing, Vec::new(alloc))
 }
 
 impl Resting {
@@ -134,8 +154,8 @@ impl Resting {
         failing_a: Vec<FailAt>,
         failing_b: Vec<FailAt>,
     ) -> Result<Resting, Fault> {
-        let a = MemDisk::new(alloc, ROOM, CALLS, failing_a, Vec::new(alloc))?;
-        let b = MemDisk::new(alloc, ROOM, CALLS, failing_b, Vec::new(alloc))?;
+        let a = disk_of(alloc, failing_a)?;
+        let b = disk_of(alloc, failing_b)?;
         Ok(Resting::of(alloc, a, b))
     }
 
@@ -150,63 +170,59 @@ impl Resting {
     }
 
     /// What came back with a refusal.
-    pub(crate) fn refused(
-        alloc: Global,
-        fault: StartFault<MemDisk>,
-        out: &mut String,
-    ) -> Result<Resting, Fault> {
+    pub(crate) fn refused(alloc: Global, fault: StartFault<MemDisk>, out: &mut Text) -> Resting {
         let StartFault { why, a, b } = fault;
-        say_why(out, &why)?;
-        Ok(Resting::of(alloc, a, b))
+        say_why(out, why);
+        Resting::of(alloc, a, b)
     }
 
     /// What is left of a database that was closed, of which it is told whether an entry is in flight still, how many events there
     /// are and how many calls were made.
-    pub(crate) fn closed(book: ClosedBook<MemDisk>, out: &mut String) -> Result<Resting, Fault> {
+    pub(crate) fn closed(book: ClosedBook<MemDisk>, out: &mut Text) -> Resting {
         let ClosedBook {
             history,
             fault,
             a,
             b,
         } = book;
-        let count = history.events.len();
         let made = history.made;
-        writeln!(out, "= events {count}")?;
-        say_calls(out, made)?;
+        say_counted(out, "events", history.events.len() as u64);
+        say_calls(out, made);
         if fault {
-            say(out, "in flight")?;
+            say(out, "in flight");
         }
-        Ok(Resting {
+        Resting {
             a,
             b,
             made,
             events: history.events,
-        })
+        }
     }
 
     /// Opens the database that the disks hold, or makes one.
-    pub(crate) fn open(
+    pub(crate) fn open<R: Wait, J: Naming>(
         self,
+        rt: &R,
         alloc: Global,
+        empty: NewBook<J>,
         makes: bool,
         users: Users,
-    ) -> Result<Database<MemDisk>, StartFault<MemDisk>>
+    ) -> Result<Database<MemDisk, J>, StartFault<MemDisk>>
         ensures { IfOk result (λ book. book.users ≡ users) }
     {
         let Resting { a, b, .. } = self;
         if makes {
-            Database::create(alloc, a, b, users, LIMITS)
+            empty.create(rt, alloc, a, b, users)
         } else {
-            Database::start(alloc, a, b, users, LIMITS)
+            empty.start(alloc, a, b, users)
         }
     }
 
     /// events
-    pub(crate) fn say_events(&self, out: &mut String) -> Result<(), Fault> {
+    pub(crate) fn say_events(&self, out: &mut Text) {
         for happened in &self.events {
-            say_event(out, happened)?;
+            say_event(out, happened);
         }
-        Ok(())
     }
 
     /// The image of one of the disks after so many calls since the opening.
@@ -256,22 +272,40 @@ impl Resting {
         calls
     }
 
-    /// found a|b CALL old|new|BYTE: what a start finds after a crash behind that call
-    pub(crate) fn say_found_after(
+    /// What a start finds after a crash behind so many calls.
+    fn say_found_behind<R: Wait>(
         &self,
+        rt: &R,
+        alloc: Global,
+        calls: Calls,
+        left: Left,
+        out: &mut Text,
+    ) -> Result<(), Fault> {
+        let disks = self.crashed(alloc, calls, left)?;
+        say_found(rt, alloc, disks, out);
+        Ok(())
+    }
+
+    /// found a|b CALL old|new|BYTE: what a start finds after a crash behind that call
+    pub(crate) fn say_found_after<R: Wait>(
+        &self,
+        rt: &R,
         alloc: Global,
         which: Which,
         call: u64,
         left: Left,
-        out: &mut String,
+        out: &mut Text,
     ) -> Result<(), Fault> {
-        let Resting { a, b, .. } = self.crashed(alloc, self.calls_by(which, call), left)?;
-        say_found(alloc, a, b, out)
+        self.say_found_behind(rt, alloc, self.calls_by(which, call), left, out)
     }
 
     /// holds: what a start finds on the disks as they are
-    pub(crate) fn say_holds(&self, alloc: Global, out: &mut String) -> Result<(), Fault> {
-        let Resting { a, b, .. } = self.crashed(alloc, self.made, Left::New)?;
-        say_found(alloc, a, b, out)
+    pub(crate) fn say_holds<R: Wait>(
+        &self,
+        rt: &R,
+        alloc: Global,
+        out: &mut Text,
+    ) -> Result<(), Fault> {
+        self.say_found_behind(rt, alloc, self.made, Left::New, out)
     }
 }

@@ -1,8 +1,10 @@
-//! An open database, which several callers ask.
+//! An open database, which several callers ask, and which readers see.
 
 ghost use Rattle.std.specs.Prelude.{◌≡◌, ◌<◌, ◌≤◌, length, IfOk};
 ghost use Rattle.commands.specs.Sound.{IsSound};
 
+use crate::reading::{say_read, say_within, take_in};
+use active_snapshot::{Naming, SnapReader};
 use cfg_base::Moment;
 use commands::Command;
 use config_core::Reply;
@@ -10,26 +12,32 @@ use config_db::{Answered, ClosedBook, Database, Ticked};
 use disk_model::MemDisk;
 use io_edge::VecSink;
 use reply_text::put_reply;
-use script_lines::{Fault, bytes_of, first_and_rest, number, say, say_text, small_number};
+use script_lines::{
+    Arg, Fault, Text, bytes_of, first_and_rest, number, say, say_counted, say_text, small_number,
+};
 use shell_words::{ReadFault, Words0, read_line};
 use std::alloc::Global;
+use std::sync::Wait;
 
-/// A database, and of each caller whether it is in configuration mode.
-#[derive(Drop)]
-pub(crate) struct Running {
-    book: Database<MemDisk>,
+/// A database, of each caller whether it is in configuration mode, and its reader. It is not `Drop`: end it by `close`.
+pub(crate) struct Running<J: Naming> {
+    book: Database<MemDisk, J>,
     configuring: Vec<bool>,
+    readers: Vec<SnapReader<J>>,
     ghost callers: { length configuring.items ≡ length book.users },
 }
 
 /// The most bytes that the text of a reply has.
 const REPLY: u64 = 65_536;
 
+const NO_CALLER: Fault = Fault::Script("a caller is one of the users, counted from 1");
+
 /// The command of a line.
-fn command_of(alloc: Global, configuring: bool, line: &[u8]) -> Result<Command, Fault>
+fn command_of(alloc: Global, configuring: bool, line: &str) -> Result<Command, Fault>
     ensures { IfOk result IsSound }
 {
-    match read_line(alloc, configuring, line) {
+    let line = bytes_of(alloc, line)?;
+    match read_line(alloc, configuring, &line) {
         Ok(Some(Words0::Whole(command))) => Ok(command),
         Err(ReadFault::NoMemory) => Err(Fault::NoMemory),
         _ => Err(Fault::Script("the line of a step is a command without a text")),
@@ -37,10 +45,13 @@ fn command_of(alloc: Global, configuring: bool, line: &[u8]) -> Result<Command, 
 }
 
 /// The text of a reply.
-fn say_reply(alloc: Global, out: &mut String, reply: &Reply) -> Result<(), Fault> {
+fn say_reply(alloc: Global, out: &mut Text, reply: &Reply) -> Result<(), Fault> {
     let mut sink = VecSink::new(alloc, REPLY, Vec::new(alloc))?;
     match put_reply(&mut sink, reply) {
-        Ok(()) => say_text(out, sink.contents()),
+        Ok(()) => {
+            say_text(out, sink.contents());
+            Ok(())
+        }
         Err(_) => Err(Fault::Script("a reply has at most 65536 bytes")),
     }
 }
@@ -55,28 +66,52 @@ fn configures(reply: &Reply, configuring: bool) -> bool {
 }
 
 /// Asks a command.
-fn ask(book: &mut Database<MemDisk>, caller: u32, moment: Moment, command: Command) -> Answered
+fn ask<R: Wait, J: Naming>(
+    rt: &R,
+    book: &mut Database<MemDisk, J>,
+    caller: u32,
+    moment: Moment,
+    command: Command,
+) -> Answered
     requires caller { (0 < caller) × (caller ≤ length book.old.users) }
     requires sound { IsSound command }
     ensures { book.new.users ≡ book.old.users }
 {
-    book.step(caller, moment, command)
+    book.step(rt, caller, moment, command)
 }
 
 /// Looks at the time.
-fn look(book: &mut Database<MemDisk>, moment: Moment) -> Ticked
+fn look<R: Wait, J: Naming>(rt: &R, book: &mut Database<MemDisk, J>, moment: Moment) -> Ticked
     ensures { book.new.users ≡ book.old.users }
 {
-    book.tick(moment)
+    book.tick(rt, moment)
 }
 
-impl Running {
-    /// A database that was opened for so many users, all in operational mode.
-    pub(crate) fn of(alloc: Global, book: Database<MemDisk>, users: usize) -> Result<Running, Fault>
-        requires { users ≡ length book.users }
+impl<J: Naming> Running<J> {
+    /// A database that was opened, of whose users this tells that each is in operational mode. No reader is taken.
+    pub(crate) fn of(
+        alloc: Global,
+        book: Database<MemDisk, J>,
+        configuring: Vec<bool>,
+    ) -> Running<J>
+        requires { length configuring.items ≡ length book.users }
     {
-        let configuring = Vec::from_elem(alloc, false, users)?;
-        Ok(Running { book, configuring })
+        Running {
+            book,
+            configuring,
+            readers: Vec::new(alloc),
+        }
+    }
+
+    /// Takes a reader for each caller.
+    pub(crate) fn take_readers(&mut self) -> Result<(), Fault> {
+        let mut left = self.book.readers();
+        for _ in 0..self.configuring.len() {
+            if let Some(reader) = left.take() {
+                self.readers.push(reader)?;
+            }
+        }
+        Ok(())
     }
 
     /// The place of a caller among the users.
@@ -86,50 +121,163 @@ impl Running {
     {
         match (caller as usize).checked_sub(1) {
             Some(place) if place < self.configuring.len() => Ok(place),
-            _ => Err(Fault::Script("a caller is one of the users, counted from 1")),
+            _ => Err(NO_CALLER),
+        }
+    }
+
+    /// Keeps what a reply says of its caller's mode.
+    fn take_reply(&mut self, place: usize, reply: &Reply)
+        requires { place < length self.old.configuring.items }
+    {
+        self.configuring[place] = configures(reply, self.configuring[place]);
+    }
+
+    /// A command, and its answer.
+    fn ask<R: Wait>(
+        &mut self,
+        rt: &R,
+        alloc: Global,
+        place: usize,
+        caller: u32,
+        moment: Moment,
+        command: Command,
+        out: &mut Text,
+    ) -> Result<(), Fault>
+        requires caller { (0 < caller) × (caller ≤ length self.old.book.users) }
+        requires place { place < length self.old.configuring.items }
+        requires sound { IsSound command }
+    {
+        match ask(rt, &mut self.book, caller, moment, command) {
+            Answered::NoMemory => Err(Fault::NoMemory),
+            Answered::Kept {
+                place: event,
+                reply,
+            } => {
+                self.take_reply(place, &reply);
+                say_counted(out, "at", event);
+                say_reply(alloc, out, &reply)
+            }
         }
     }
 
     /// step CALLER SECONDS LINE
-    pub(crate) fn step(
+    pub(crate) fn step<R: Wait>(
         &mut self,
+        rt: &R,
         alloc: Global,
         text: &str,
-        out: &mut String,
+        out: &mut Text,
     ) -> Result<(), Fault> {
         let (caller, text) = first_and_rest(text);
         let (seconds, line) = first_and_rest(text);
         let caller = small_number(caller.as_bytes())?;
         let moment = Moment::of(number(seconds.as_bytes())?);
         let place = self.place_of(caller)?;
-        let line = bytes_of(alloc, line)?;
-        let command = command_of(alloc, self.configuring[place], &line)?;
-        match ask(&mut self.book, caller, moment, command) {
-            Answered::NoMemory => Err(Fault::NoMemory),
-            Answered::Kept {
-                place: event,
-                reply,
-            } => {
-                self.configuring[place] = configures(&reply, self.configuring[place]);
-                writeln!(out, "= at {event}")?;
-                say_reply(alloc, out, &reply)
-            }
-        }
+        let command = command_of(alloc, self.configuring[place], line)?;
+        self.ask(rt, alloc, place, caller, moment, command, out)
     }
 
     /// tick SECONDS
-    pub(crate) fn tick(&mut self, seconds: &[u8], out: &mut String) -> Result<(), Fault> {
-        match look(&mut self.book, Moment::of(number(seconds)?)) {
+    fn tick<R: Wait>(&mut self, rt: &R, seconds: &[u8], out: &mut Text) -> Result<(), Fault> {
+        let moment = Moment::of(number(seconds)?);
+        match look(rt, &mut self.book, moment) {
             Ticked::Nothing => say(out, "nothing"),
             Ticked::Settled => say(out, "settled"),
             Ticked::Reverted => say(out, "reverted"),
             Ticked::DiskFault => say(out, "disk fault"),
-            Ticked::NoMemory => Err(Fault::NoMemory),
+            Ticked::NoMemory => out.lacks_memory(),
+        }
+        Ok(())
+    }
+
+    /// note: how many views there are, and how many of them are published
+    fn say_note(&self, out: &mut Text) {
+        let note = self.book.note();
+        say_counted(out, "views", note.kept());
+        say_counted(out, "published", note.published());
+    }
+
+    /// read CALLER SECONDS: what the caller's reader shows at that moment
+    fn read(
+        &mut self,
+        alloc: Global,
+        caller: &[u8],
+        seconds: &[u8],
+        out: &mut Text,
+    ) -> Result<(), Fault> {
+        let moment = Moment::of(number(seconds)?);
+        let place = self.place_of(small_number(caller)?)?;
+        match self.readers.get_mut(place) {
+            Some(reader) => say_read(alloc, reader, moment, out),
+            None => return Err(NO_CALLER),
+        }
+        Ok(())
+    }
+
+    /// learn CALLER: the caller's reader is told how far the list goes, and handed the last view
+    fn learn(&mut self, caller: &[u8]) -> Result<(), Fault> {
+        let place = self.place_of(small_number(caller)?)?;
+        match self.readers.get_mut(place) {
+            Some(reader) => take_in(&self.book, reader),
+            None => Err(NO_CALLER),
+        }
+    }
+
+    /// tell CALLER: the caller's reader is told how far the list goes
+    fn tell(&mut self, caller: &[u8]) -> Result<(), Fault> {
+        let place = self.place_of(small_number(caller)?)?;
+        match self.readers.get_mut(place) {
+            Some(reader) => reader.learn(&self.book.note(), None),
+            None => return Err(NO_CALLER),
+        }
+        Ok(())
+    }
+
+    /// within CALLER: whether all that the caller's reader was shown is in the list
+    fn ask_within(&self, caller: &[u8], out: &mut Text) -> Result<(), Fault> {
+        let place = self.place_of(small_number(caller)?)?;
+        match self.readers.get(place) {
+            Some(reader) => say_within(&self.book, reader, out),
+            None => return Err(NO_CALLER),
+        }
+        Ok(())
+    }
+
+    /// Answers a call of an open database.
+    pub(crate) fn answer<R: Wait>(
+        &mut self,
+        rt: &R,
+        alloc: Global,
+        name: &str,
+        args: &[Arg],
+        out: &mut Text,
+    ) -> Result<(), Fault> {
+        match (name, args) {
+            ("tick", [seconds]) => self.tick(rt, seconds, out),
+            ("read", [caller, seconds]) => self.read(alloc, caller, seconds, out),
+            ("learn", [caller]) => self.learn(caller),
+            ("tell", [caller]) => self.tell(caller),
+            ("within", [caller]) => self.ask_within(caller, out),
+            ("note", []) => {
+                self.say_note(out);
+                Ok(())
+            }
+            _ => Err(Fault::Script("no such call, or not with as many words")),
         }
     }
 
     /// What is left of it.
-    pub(crate) fn close(self) -> ClosedBook<MemDisk> {
-        self.book.close()
+    pub(crate) fn close<R: Wait>(self, rt: &R) -> ClosedBook<MemDisk> {
+        let Running {
+            book,
+            configuring: _,
+            readers: _,
+        } = self;
+        book.close(rt)
     }
+}
+
+/// Whether a call is one of an open database.
+pub(crate) fn is_call(name: &str) -> bool {
+    matches!(name, "tick" | "read" | "learn" | "tell" | "within" | "note")
 }

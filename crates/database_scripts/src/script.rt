@@ -1,26 +1,32 @@
 //! What a script keeps between its lines, and what a line answers.
 
-use crate::images::left_of;
-use crate::resting::{Resting, Which, which_of};
-use crate::running::Running;
-use cfg_base::{Calls, Users};
-use disk_model::{FailAt, FailMode};
+ghost use Rattle.std.specs.Prelude.{◌≡◌, [], length};
+
+use crate::book::NewBook;
+use crate::disks::Disks;
+use crate::resting::Resting;
+use crate::running::{Running, is_call};
+use active_snapshot::{Front, Naming, Shelf, open_book};
+use cfg_base::Users;
 use script_lines::{
-    Answers, Arg, Fault, args_of, first_and_rest, number, say, small_number, user_of,
+    Answers, AnswersAll, Arg, Asked, Fault, Text, args_of, first_and_rest, say, user_of,
 };
 use std::alloc::Global;
-use std::mem;
+use std::marker::Brand;
+use std::sync::Wait;
+use std::thread::Threads;
 
-/// Either a database is open, or its disks are at rest.
-#[derive(Drop)]
-pub(crate) struct Script {
+/// What answers lines of which the first may open a database, whose book of views it brings. Either the database is open, or its
+/// disks are at rest. It is not `Drop`: end it by `end`.
+struct Script<J: Naming> {
     alloc: Global,
-    /// The calls that are to fail of the next disks that are made.
-    failing_a: Vec<FailAt>,
-    failing_b: Vec<FailAt>,
-    running: Option<Running>,
-    resting: Option<Resting>,
+    empty: Option<NewBook<J>>,
+    running: Option<Running<J>>,
+    disks: Disks,
 }
+
+/// What answers a script.
+pub(crate) struct Whole;
 
 fn users_of(alloc: Global, names: &[Arg]) -> Result<Users, Fault> {
     let mut users = Users::new(alloc);
@@ -30,129 +36,204 @@ fn users_of(alloc: Global, names: &[Arg]) -> Result<Users, Fault> {
     Ok(users)
 }
 
-fn mode_of(word: &[u8]) -> Result<FailMode, Fault> {
-    match word {
-        b"effect" => Ok(FailMode::Effect),
-        b"nothing" => Ok(FailMode::Nothing),
-        _ => Err(Fault::Script("what fails has its effect or nothing")),
+/// Whether a line opens a database.
+fn opens(line: &[u8]) -> bool {
+    matches!(
+        line.split(|byte| *byte == b' ').next(),
+        Some(b"create" | b"start")
+    )
+}
+
+/// Ends a database, where one is open.
+fn end_running<R: Wait, J: Naming>(rt: &R, running: Option<Running<J>>) {
+    if let Some(running) = running {
+        running.close(rt);
     }
 }
 
-impl Script {
-    /// fail a|b nothing|effect CALL ..
-    fn fail(&mut self, which: &[u8], mode: &[u8], calls: &[Arg]) -> Result<(), Fault> {
-        let mode = mode_of(mode)?;
-        let failing = match which_of(which)? {
-            Which::A => &mut self.failing_a,
-            Which::B => &mut self.failing_b,
-        };
-        for call in calls {
-            let call = small_number(call)?;
-            failing.push(FailAt { call, mode })?;
+impl<J: Naming> Script<J> {
+    fn of(alloc: Global, disks: Disks, empty: NewBook<J>) -> Script<J> {
+        Script {
+            alloc,
+            empty: Some(empty),
+            running: None,
+            disks,
         }
-        Ok(())
     }
 
-    /// The disks that are at rest, in whose place stand none.
-    fn take(&mut self) -> Result<Resting, Fault> {
-        self.resting
-            .take()
-            .ok_or(Fault::Script("the database is closed"))
+    fn running(&mut self) -> Result<&mut Running<J>, Fault> {
+        match &mut self.running {
+            Some(running) => Ok(running),
+            None => Err(Fault::Script("a database is open")),
+        }
     }
 
-    fn resting(&self) -> Result<&Resting, Fault> {
-        self.resting
-            .as_ref()
-            .ok_or(Fault::Script("the database is closed"))
+    /// The database is open from now on.
+    fn begin<R: Wait>(
+        &mut self,
+        rt: &R,
+        mut running: Running<J>,
+        out: &mut Text,
+    ) -> Result<(), Fault> {
+        let taken = running.take_readers();
+        end_running(rt, self.running.replace(running));
+        say(out, "open");
+        taken
     }
 
-    fn running(&mut self) -> Result<&mut Running, Fault> {
-        self.running
-            .as_mut()
-            .ok_or(Fault::Script("a database is open"))
+    /// Opens the database of disks that were at rest.
+    fn open_disks<R: Wait>(
+        &mut self,
+        rt: &R,
+        empty: NewBook<J>,
+        resting: Resting,
+        makes: bool,
+        users: Users,
+        configuring: Vec<bool>,
+        out: &mut Text,
+    ) -> Result<(), Fault>
+        requires { length configuring.items ≡ length users }
+    {
+        match resting.open(rt, self.alloc, empty, makes, users) {
+            Ok(book) => self.begin(rt, Running::of(self.alloc, book, configuring), out),
+            Err(fault) => {
+                self.disks.put(Resting::refused(self.alloc, fault, out));
+                Ok(())
+            }
+        }
     }
 
-    /// disks: two that hold nothing
-    fn make_disks(&mut self) -> Result<(), Fault> {
-        self.take()?;
-        let failing_a = mem::replace(&mut self.failing_a, Vec::new(self.alloc));
-        let failing_b = mem::replace(&mut self.failing_b, Vec::new(self.alloc));
-        self.resting = Some(Resting::fresh(self.alloc, failing_a, failing_b)?);
-        Ok(())
+    fn open_by<R: Wait>(
+        &mut self,
+        rt: &R,
+        empty: NewBook<J>,
+        makes: bool,
+        users: Users,
+        configuring: Vec<bool>,
+        out: &mut Text,
+    ) -> Result<(), Fault>
+        requires { length configuring.items ≡ length users }
+    {
+        match self.disks.take() {
+            Some(resting) => { self.open_disks(rt, empty, resting, makes, users, configuring, out) }
+            None => Err(Fault::Script("the database is closed")),
+        }
     }
 
     /// create USER .. and start USER ..: a database on the disks, or why there is none
-    fn open(&mut self, makes: bool, users: Users, out: &mut String) -> Result<(), Fault> {
-        let count = users.as_slice().len();
-        match self.take()?.open(self.alloc, makes, users) {
-            Err(fault) => self.resting = Some(Resting::refused(self.alloc, fault, out)?),
-            Ok(book) => {
-                self.running = Some(Running::of(self.alloc, book, count)?);
-                say(out, "open")?;
-            }
+    fn open<R: Wait>(
+        &mut self,
+        rt: &R,
+        makes: bool,
+        names: &[Arg],
+        out: &mut Text,
+    ) -> Result<(), Fault> {
+        let users = users_of(self.alloc, names)?;
+        let configuring = Vec::from_elem(self.alloc, false, users.as_slice().len())?;
+        match self.empty.take() {
+            Some(empty) => self.open_by(rt, empty, makes, users, configuring, out),
+            None => Err(Fault::Script("a line opens one database")),
         }
-        Ok(())
     }
 
     /// close
-    fn close(&mut self, out: &mut String) -> Result<(), Fault> {
-        let Some(running) = self.running.take() else {
-            return Err(Fault::Script("a database is open"));
-        };
-        self.resting = Some(Resting::closed(running.close(), out)?);
-        Ok(())
+    fn close<R: Wait>(&mut self, rt: &R, out: &mut Text) -> Result<(), Fault> {
+        match self.running.take() {
+            Some(running) => {
+                self.disks.put(Resting::closed(running.close(rt), out));
+                Ok(())
+            }
+            None => Err(Fault::Script("a database is open")),
+        }
     }
 
-    /// crash CALLS CALLS old|new|BYTE
-    fn crash(&mut self, a: &[u8], b: &[u8], left: &[u8]) -> Result<(), Fault> {
-        let calls = Calls {
-            a: number(a)?,
-            b: number(b)?,
-        };
-        let crashed = self.resting()?.crashed(self.alloc, calls, left_of(left)?)?;
-        self.resting = Some(crashed);
-        Ok(())
+    fn answer_words<R: Wait>(
+        &mut self,
+        rt: &R,
+        name: &str,
+        args: &[Arg],
+        out: &mut Text,
+    ) -> Result<(), Fault> {
+        match name {
+            "create" => self.open(rt, true, args, out),
+            "start" => self.open(rt, false, args, out),
+            "close" => self.close(rt, out),
+            _ if is_call(name) => {
+                let alloc = self.alloc;
+                self.running()?.answer(rt, alloc, name, args, out)
+            }
+            _ => self.disks.answer(rt, self.alloc, name, args, out),
+        }
     }
 
-    fn answer_words(&mut self, name: &str, args: &[Arg], out: &mut String) -> Result<(), Fault> {
-        match (name, args) {
-            ("fail", [which, mode, calls @ ..]) => self.fail(which, mode, calls),
-            ("disks", []) => self.make_disks(),
-            ("create", names) => self.open(true, users_of(self.alloc, names)?, out),
-            ("start", names) => self.open(false, users_of(self.alloc, names)?, out),
-            ("tick", [seconds]) => self.running()?.tick(seconds, out),
-            ("close", []) => self.close(out),
-            ("crash", [a, b, left]) => self.crash(a, b, left),
-            ("events", []) => self.resting()?.say_events(out),
-            ("holds", []) => self.resting()?.say_holds(self.alloc, out),
-            ("found", [which, call, left]) => self.resting()?.say_found_after(
-                self.alloc,
-                which_of(which)?,
-                number(call)?,
-                left_of(left)?,
-                out,
-            ),
-            _ => Err(Fault::Script("no such call, or not with as many words")),
+    /// Ends the database, where it is open, and gives the disks back.
+    fn end<R: Wait>(self, rt: &R) -> Disks {
+        let Script {
+            alloc: _,
+            empty: _,
+            running,
+            disks,
+        } = self;
+        end_running(rt, running);
+        disks
+    }
+}
+
+impl<J: Naming> Answers for Script<J> {
+    fn answer<R: Threads + Wait + Sync>(
+        &mut self,
+        rt: &R,
+        line: &str,
+        out: &mut Text,
+    ) -> Result<(), Fault> {
+        let alloc = self.alloc;
+        match first_and_rest(line) {
+            ("step", rest) => self.running()?.step(rt, alloc, rest, out),
+            (name, rest) => self.answer_words(rt, name, &args_of(alloc, rest)?, out),
         }
     }
 }
 
-impl<R> Answers<R> for Script {
-    fn new(alloc: Global) -> Result<Script, Fault> {
-        Ok(Script {
-            alloc,
-            failing_a: Vec::new(alloc),
-            failing_b: Vec::new(alloc),
-            running: None,
-            resting: Some(Resting::fresh(alloc, Vec::new(alloc), Vec::new(alloc))?),
-        })
-    }
+/// Answers lines over the book of that name.
+fn answer_by<R: Threads + Wait + Sync, J: Naming>(
+    rt: &R,
+    alloc: Global,
+    shelf: Shelf,
+    front: Front,
+    asked: &mut Asked,
+    disks: Disks,
+    lines: &[&[u8]],
+) -> Disks
+    requires { (front.book ≡ J.book) × (shelf ≡ J.book) × (front.list ≡ []) }
+{
+    let mut script = Script::<J>::of(alloc, disks, NewBook::of(shelf, front));
+    asked.take_all(rt, alloc, &mut script, lines);
+    script.end(rt)
+}
 
-    fn answer(&mut self, _: &R, line: &str, out: &mut String) -> Result<(), Fault> {
-        let alloc = self.alloc;
-        match first_and_rest(line) {
-            ("step", rest) => self.running()?.step(alloc, rest, out),
-            (name, rest) => self.answer_words(name, &args_of(alloc, rest)?, out),
+/// Answers lines of which none but the first opens a database.
+fn answer_piece<R: Threads + Wait + Sync>(
+    rt: &R,
+    alloc: Global,
+    asked: &mut Asked,
+    disks: Disks,
+    lines: &[&[u8]],
+) -> Disks {
+    let (shelf, front) = open_book();
+    answer_by::<R, Brand>(rt, alloc, shelf, front, asked, disks, lines)
+}
+
+impl AnswersAll for Whole {
+    fn answer_all<R: Threads + Wait + Sync>(
+        rt: &R,
+        alloc: Global,
+        asked: &mut Asked,
+        lines: &[&[u8]],
+    ) -> Result<(), Fault> {
+        let mut disks = Disks::new(alloc)?;
+        for piece in lines.chunk_by(|_, line| !opens(line)) {
+            disks = answer_piece(rt, alloc, asked, disks, piece);
         }
+        Ok(())
     }
 }
