@@ -2,7 +2,7 @@
 
 use cfg_base::{Bytes, Word};
 use commands::{Command, Form, LoadWay, Mode};
-use script_lines::{Fault, put_bytes, say, say_change, say_number, say_words};
+use script_lines::{Text, put_bytes, say, say_change, say_counted, say_number, say_words};
 
 fn show_active_as(form: Form) -> &'static str {
     match form {
@@ -31,50 +31,53 @@ pub(crate) fn load_as(way: LoadWay) -> &'static str {
 }
 
 /// A load with its text's number of bytes.
-fn say_load(out: &mut String, way: LoadWay, text: &Bytes) -> Result<(), Fault> {
-    let name = load_as(way);
-    let count = text.as_slice().len();
-    writeln!(out, "= {name} of {count}")?;
-    Ok(())
+fn say_load(out: &mut Text, way: LoadWay, text: &Bytes) {
+    out.put("= ");
+    out.put(load_as(way));
+    out.put(" of ");
+    out.put_number(text.as_slice().len() as u64);
+    out.put("\n");
 }
 
 /// The minutes of a commit that is to be confirmed.
-pub(crate) fn put_minutes(out: &mut String, minutes: u32) -> Result<(), Fault> {
+pub(crate) fn put_minutes(out: &mut Text, minutes: u32) {
     if minutes > 0 {
-        write!(out, " confirmed {minutes}")?;
+        out.put(" confirmed ");
+        out.put_number(u64::from(minutes));
     }
-    Ok(())
 }
 
 /// The end of a commit's line, which says whether it leaves configuration mode.
-pub(crate) fn put_quit(out: &mut String, quit: bool) -> Result<(), Fault> {
-    out.push_str(if quit { " and-quit\n" } else { "\n" })?;
-    Ok(())
+pub(crate) fn put_quit(out: &mut Text, quit: bool) {
+    out.put(if quit { " and-quit\n" } else { "\n" });
 }
 
-fn put_comment(out: &mut String, comment: &Word) -> Result<(), Fault> {
+fn put_comment(out: &mut Text, comment: &Word) {
     if !comment.as_bytes().is_empty() {
-        out.push_str(" comment")?;
-        put_bytes(out, comment.as_bytes())?;
+        out.put(" comment");
+        put_bytes(out, comment.as_bytes());
     }
-    Ok(())
 }
 
 /// A commit with the options that it has.
-fn say_commit(out: &mut String, minutes: u32, comment: &Word, quit: bool) -> Result<(), Fault> {
-    out.push_str("= commit")?;
-    put_minutes(out, minutes)?;
-    put_comment(out, comment)?;
-    put_quit(out, quit)
+fn say_commit(out: &mut Text, minutes: u32, comment: &Word, quit: bool) {
+    out.put("= commit");
+    put_minutes(out, minutes);
+    put_comment(out, comment);
+    put_quit(out, quit);
 }
 
-fn say_rollback(out: &mut String, n: u32) -> Result<(), Fault> {
-    writeln!(out, "= rollback {n}")?;
-    Ok(())
+fn say_rollback(out: &mut Text, n: u32) {
+    say_counted(out, "rollback", u64::from(n));
+}
+
+fn say_up(out: &mut Text, levels: u32) {
+    say(out, "up");
+    say_number(out, u64::from(levels));
 }
 
 /// A command with its words.
-pub(crate) fn say_command(out: &mut String, command: &Command) -> Result<(), Fault> {
+pub(crate) fn say_command(out: &mut Text, command: &Command) {
     match command {
         Command::Configure(Mode::Shared) => say(out, "configure"),
         Command::Configure(Mode::Private) => say(out, "configure private"),
@@ -85,10 +88,7 @@ pub(crate) fn say_command(out: &mut String, command: &Command) -> Result<(), Fau
         Command::ShowCommits => say(out, "show commits"),
         Command::Logout => say(out, "log out"),
         Command::Edit(words) => say_words(out, "edit", words.as_slice()),
-        Command::Up(levels) => {
-            say(out, "up")?;
-            say_number(out, u64::from(*levels))
-        }
+        Command::Up(levels) => say_up(out, *levels),
         Command::Top => say(out, "top"),
         Command::Exit => say(out, "exit"),
         Command::ExitAll => say(out, "exit all"),

@@ -2,7 +2,7 @@
 
 use cfg_base::UserName;
 use command_line::{Asked, RunMode, Usage, read_words};
-use script_lines::{Arg, Fault, put_bytes, put_words, say, words_of};
+use script_lines::{Arg, Fault, Text, put_bytes, put_words, say, words_of};
 use std::alloc::Global;
 
 fn name_of(mode: RunMode) -> &'static str {
@@ -14,32 +14,33 @@ fn name_of(mode: RunMode) -> &'static str {
     }
 }
 
-fn put_users(out: &mut String, users: &[UserName]) -> Result<(), Fault> {
+fn put_users(out: &mut Text, users: &[UserName]) {
     for user in users {
-        put_bytes(out, user.as_word().as_bytes())?;
+        put_bytes(out, user.as_word().as_bytes());
     }
-    Ok(())
 }
 
-fn say_asked(out: &mut String, asked: &Asked) -> Result<(), Fault> {
-    let mode = name_of(asked.mode);
-    write!(out, "= {mode}")?;
-    put_bytes(out, asked.place.as_bytes())?;
-    out.push_str(" users [")?;
-    put_users(out, asked.users.as_slice())?;
-    out.push_str(" ] files [")?;
-    put_words(out, asked.files.as_slice())?;
-    let input = asked.limits.input;
-    let journal = asked.limits.journal;
-    writeln!(out, " ] input {input} journal {journal}")?;
-    Ok(())
+fn say_asked(out: &mut Text, asked: &Asked) {
+    out.put("= ");
+    out.put(name_of(asked.mode));
+    put_bytes(out, asked.place.as_bytes());
+    out.put(" users [");
+    put_users(out, asked.users.as_slice());
+    out.put(" ] files [");
+    put_words(out, asked.files.as_slice());
+    out.put(" ] input ");
+    out.put_number(asked.limits.input);
+    out.put(" journal ");
+    out.put_number(asked.limits.journal);
+    out.put("\n");
 }
 
 /// read_words WORDS..: what they ask
-pub(crate) fn ask_words(alloc: Global, args: &[Arg], out: &mut String) -> Result<(), Fault> {
+pub(crate) fn ask_words(alloc: Global, args: &[Arg], out: &mut Text) -> Result<(), Fault> {
     match read_words(alloc, &words_of(alloc, args)?) {
         Ok(asked) => say_asked(out, &asked),
         Err(Usage::Refused) => say(out, "refused"),
-        Err(Usage::NoMemory) => Err(Fault::NoMemory),
+        Err(Usage::NoMemory) => out.lacks_memory(),
     }
+    Ok(())
 }

@@ -2,7 +2,7 @@
 
 use cfg_base::{Bytes, NoMemory};
 use disk_model::{Disk, DiskDone, FailAt, FailMode, MemDisk, Torn};
-use script_lines::{Arg, Fault, number, numbers, say, say_bytes, say_number, small_number};
+use script_lines::{Arg, Fault, Text, number, numbers, say, say_bytes, say_number, small_number};
 use std::alloc::Global;
 use std::mem;
 
@@ -21,14 +21,14 @@ fn empty_disk(alloc: Global, room: u64) -> Result<MemDisk, NoMemory> {
     MemDisk::new(alloc, room, CALLS, Vec::new(alloc), Vec::new(alloc))
 }
 
-fn say_contents(out: &mut String, disk: &MemDisk) -> Result<(), Fault> {
+fn say_contents(out: &mut Text, disk: &MemDisk) {
     let bytes = disk.contents();
-    say_number(out, bytes.len() as u64)?;
-    say_bytes(out, "bytes", bytes)
+    say_number(out, bytes.len() as u64);
+    say_bytes(out, "bytes", bytes);
 }
 
 /// Writes bytes at a place, and syncs.
-fn write(out: &mut String, disk: &mut MemDisk, at: u64, bytes: &[u8]) -> Result<(), Fault> {
+fn write(out: &mut Text, disk: &mut MemDisk, at: u64, bytes: &[u8]) -> Result<(), Fault> {
     if at > disk.contents().len() as u64 {
         return Err(Fault::Script("a place that isn't behind the end of the disk"));
     }
@@ -36,6 +36,7 @@ fn write(out: &mut String, disk: &mut MemDisk, at: u64, bytes: &[u8]) -> Result<
         (DiskDone::Done, DiskDone::Done) => say(out, "done"),
         _ => say(out, "failed"),
     }
+    Ok(())
 }
 
 fn mode_of(arg: &[u8]) -> Result<FailMode, Fault> {
@@ -99,47 +100,62 @@ impl StagedDisk {
     }
 
     /// cut a|b LENGTH
-    fn cut(&mut self, alloc: Global, length: u64, out: &mut String) -> Result<(), Fault> {
-        let left = front_of(alloc, &self.disk, length)?;
+    fn cut(&mut self, alloc: Global, length: &[u8], out: &mut Text) -> Result<(), Fault> {
+        let left = front_of(alloc, &self.disk, number(length)?)?;
         let room = self.disk.room();
         self.make(alloc, room)?;
         write(out, &mut self.disk, 0, &left)
     }
 
-    /// Takes a line of what the next disk is, and tells whether it is one.
-    fn keep(&mut self, alloc: Global, name: &str, args: &[Arg]) -> Result<bool, Fault> {
-        match (name, args) {
-            ("disk-fails", [mode, calls @ ..]) => self.fail(mode, calls)?,
-            ("disk-reads-fail", reads) => self.failing_reads = numbers(alloc, reads)?,
-            ("image", [call, length, bytes]) => {
-                self.disk = image_of(
-                    alloc,
-                    &self.disk,
-                    small_number(call)?,
-                    number(length)?,
-                    bytes,
-                )?;
-            }
-            _ => return Ok(false),
-        }
-        Ok(true)
+    /// disk-reads-fail a|b CALL ..
+    fn fail_reads(&mut self, alloc: Global, reads: &[Arg]) -> Result<(), Fault> {
+        self.failing_reads = numbers(alloc, reads)?;
+        Ok(())
     }
 
-    /// Answers a call of the disk, and tells whether it is one.
+    /// image a|b CALL LENGTH BYTES
+    fn crash(
+        &mut self,
+        alloc: Global,
+        call: &[u8],
+        length: &[u8],
+        bytes: &[u8],
+    ) -> Result<(), Fault> {
+        let call = small_number(call)?;
+        let length = number(length)?;
+        self.disk = image_of(alloc, &self.disk, call, length, bytes)?;
+        Ok(())
+    }
+
+    /// disk a|b
+    fn ask_contents(&self, out: &mut Text) -> Result<(), Fault> {
+        say_contents(out, &self.disk);
+        Ok(())
+    }
+
+    /// write_at a|b PLACE BYTES
+    fn ask_write(&mut self, at: &[u8], bytes: &[u8], out: &mut Text) -> Result<(), Fault> {
+        let at = number(at)?;
+        write(out, &mut self.disk, at, bytes)
+    }
+
+    /// Answers a call of the disk, where it is one.
     fn ask(
         &mut self,
         alloc: Global,
         name: &str,
         args: &[Arg],
-        out: &mut String,
-    ) -> Result<bool, Fault> {
-        match (name, args) {
-            ("disk", []) => say_contents(out, &self.disk)?,
-            ("write_at", [at, bytes]) => write(out, &mut self.disk, number(at)?, bytes)?,
-            ("cut", [length]) => self.cut(alloc, number(length)?, out)?,
-            _ => return self.keep(alloc, name, args),
-        }
-        Ok(true)
+        out: &mut Text,
+    ) -> Option<Result<(), Fault>> {
+        Some(match (name, args) {
+            ("disk", []) => self.ask_contents(out),
+            ("write_at", [at, bytes]) => self.ask_write(at, bytes, out),
+            ("cut", [length]) => self.cut(alloc, length, out),
+            ("disk-fails", [mode, calls @ ..]) => self.fail(mode, calls),
+            ("disk-reads-fail", reads) => self.fail_reads(alloc, reads),
+            ("image", [call, length, bytes]) => self.crash(alloc, call, length, bytes),
+            _ => return None,
+        })
     }
 }
 
@@ -179,40 +195,44 @@ impl Disks {
         self.b.disk = b;
     }
 
-    /// Answers a call of one of the two, and tells whether it is one.
+    /// disks ROOM, or disks ROOM ROOM
+    fn make_of(&mut self, alloc: Global, room_a: &[u8], room_b: &[u8]) -> Result<(), Fault> {
+        let room_a = number(room_a)?;
+        let room_b = number(room_b)?;
+        self.make(alloc, room_a, room_b)?;
+        Ok(())
+    }
+
+    /// Answers a call of one of the two, where it is one.
     fn ask(
         &mut self,
         alloc: Global,
         name: &str,
         args: &[Arg],
-        out: &mut String,
-    ) -> Result<bool, Fault> {
+        out: &mut Text,
+    ) -> Option<Result<(), Fault>> {
         let [which, args @ ..] = args else {
-            return Ok(false);
+            return None;
         };
         match which.as_slice() {
             b"a" => self.a.ask(alloc, name, args, out),
             b"b" => self.b.ask(alloc, name, args, out),
-            _ => Ok(false),
+            _ => None,
         }
     }
 
-    /// Answers a call of the disks, and tells whether it is one.
+    /// Answers a call of the disks, where it is one.
     pub(crate) fn answer(
         &mut self,
         alloc: Global,
         name: &str,
         args: &[Arg],
-        out: &mut String,
-    ) -> Result<bool, Fault> {
+        out: &mut Text,
+    ) -> Option<Result<(), Fault>> {
         match (name, args) {
-            ("disks", [room]) => {
-                let room = number(room)?;
-                self.make(alloc, room, room)?;
-            }
-            ("disks", [room_a, room_b]) => self.make(alloc, number(room_a)?, number(room_b)?)?,
-            _ => return self.ask(alloc, name, args, out),
+            ("disks", [room]) => Some(self.make_of(alloc, room, room)),
+            ("disks", [room_a, room_b]) => Some(self.make_of(alloc, room_a, room_b)),
+            _ => self.ask(alloc, name, args, out),
         }
-        Ok(true)
     }
 }

@@ -2,81 +2,79 @@
 
 use crate::asking::say_command;
 use crate::runs::say_session;
+use cfg_base::Moment;
 use config_core::{Event, Outcome};
 use reply_text::ShellFault;
-use script_lines::{Fault, say, say_bytes};
+use script_lines::{Text, say, say_bytes, say_counted};
 use session_history::{Happened, History};
 use session_shell::{Turn, TurnList};
 
-fn say_turn(out: &mut String, turn: &Turn) -> Result<(), Fault> {
+fn say_seen(out: &mut Text, front: u64, moment: Moment) {
+    out.put("= turn seen ");
+    out.put_number(front);
+    out.put(" ");
+    out.put_number(moment.seconds());
+    out.put("\n");
+}
+
+fn say_turn(out: &mut Text, turn: &Turn) {
     match turn {
-        Turn::Kept(place) => writeln!(out, "= turn event {place}")?,
-        Turn::Seen { front, moment } => {
-            let moment = moment.seconds();
-            writeln!(out, "= turn seen {front} {moment}")?;
+        Turn::Kept(place) => say_counted(out, "turn event", *place),
+        Turn::Seen { front, moment } => say_seen(out, *front, *moment),
+        Turn::Local(ShellFault::Syntax(place)) => {
+            say_counted(out, "turn syntax error at byte", u64::from(*place));
         }
-        Turn::Local(ShellFault::Syntax(place)) => writeln!(
-            out,
-            "= turn syntax error at byte {place}"
-        )?,
-        Turn::Local(ShellFault::LineTooLong) => say(out, "turn line too long")?,
-        Turn::Local(ShellFault::TextTooLong) => say(out, "turn text too long")?,
-        Turn::NoMemory => say(out, "turn no memory")?,
+        Turn::Local(ShellFault::LineTooLong) => say(out, "turn line too long"),
+        Turn::Local(ShellFault::TextTooLong) => say(out, "turn text too long"),
+        Turn::NoMemory => say(out, "turn no memory"),
     }
-    Ok(())
 }
 
-fn say_turns(out: &mut String, turns: &[Turn]) -> Result<(), Fault> {
+fn say_turns(out: &mut Text, turns: &[Turn]) {
     for turn in turns {
-        say_turn(out, turn)?;
+        say_turn(out, turn);
     }
-    Ok(())
 }
 
-fn say_event(out: &mut String, happened: &Happened) -> Result<(), Fault> {
-    let caller = happened.caller;
-    let moment = happened.moment.seconds();
-    let a = happened.calls.a;
-    let b = happened.calls.b;
-    writeln!(out, "= event of {caller} at {moment} calls {a} {b}")?;
+fn say_event(out: &mut Text, happened: &Happened) {
+    out.put("= event of ");
+    out.put_number(u64::from(happened.caller));
+    out.put(" at ");
+    out.put_number(happened.moment.seconds());
+    out.put(" calls ");
+    out.put_number(happened.calls.a);
+    out.put(" ");
+    out.put_number(happened.calls.b);
+    out.put("\n");
     match &happened.event {
-        Event::Settle(true) => say(out, "settle kept")?,
-        Event::Settle(false) => say(out, "settle lost")?,
-        Event::Revert => say(out, "revert")?,
-        Event::Command(command) => say_command(out, command)?,
+        Event::Settle(true) => say(out, "settle kept"),
+        Event::Settle(false) => say(out, "settle lost"),
+        Event::Revert => say(out, "revert"),
+        Event::Command(command) => say_command(out, command),
     }
-    match happened.outcome {
-        Outcome::Done => Ok(()),
-        Outcome::Fault => say(out, "failing"),
+    if let Outcome::Fault = happened.outcome {
+        say(out, "failing");
     }
 }
 
-fn say_history(out: &mut String, history: &History) -> Result<(), Fault> {
+fn say_history(out: &mut Text, history: &History) {
     match &history.opening {
-        Some(ledger) => {
-            let entries = ledger.count();
-            writeln!(out, "= opening entries {entries}")?;
-        }
-        None => say(out, "opening none")?,
+        Some(ledger) => say_counted(out, "opening entries", ledger.count()),
+        None => say(out, "opening none"),
     }
     for user in history.users.as_slice() {
-        say_bytes(out, "user", user.as_word().as_bytes())?;
+        say_bytes(out, "user", user.as_word().as_bytes());
     }
     for happened in &history.events {
-        say_event(out, happened)?;
+        say_event(out, happened);
     }
-    Ok(())
 }
 
 /// The turns of each session's lines, and the history.
-pub(crate) fn say_happened(
-    out: &mut String,
-    turns: &[TurnList],
-    history: &History,
-) -> Result<(), Fault> {
+pub(crate) fn say_happened(out: &mut Text, turns: &[TurnList], history: &History) {
     for (place, list) in turns.iter().enumerate() {
-        say_session(out, turns.len(), place)?;
-        say_turns(out, list.as_slice())?;
+        say_session(out, turns.len(), place);
+        say_turns(out, list.as_slice());
     }
-    say_history(out, history)
+    say_history(out, history);
 }

@@ -3,7 +3,9 @@
 use crate::asking::{load_as, say_command};
 use cfg_lex::is_plain;
 use commands::{Command, Op};
-use script_lines::{Arg, Fault, bytes_of, first_and_rest, say, say_flag, words_of};
+use script_lines::{
+    Arg, Fault, Text, bytes_of, first_and_rest, say, say_counted, say_flag, words_of,
+};
 use shell_words::{ReadFault, Words0, read_line};
 use std::alloc::Global;
 
@@ -16,33 +18,44 @@ pub(crate) fn is_configuration(mode: &str) -> Result<bool, Fault> {
     }
 }
 
-/// read_line operational|configuration LINE
-pub(crate) fn ask_line(alloc: Global, text: &str, out: &mut String) -> Result<(), Fault> {
-    let (mode, line) = first_and_rest(text);
-    let line = bytes_of(alloc, line)?;
-    match read_line(alloc, is_configuration(mode)?, &line) {
+/// What a line is read as.
+fn say_read(alloc: Global, configuring: bool, line: &[u8], out: &mut Text) {
+    match read_line(alloc, configuring, line) {
         Ok(None) => say(out, "nothing"),
         Ok(Some(Words0::Whole(command))) => say_command(out, &command),
         Ok(Some(Words0::NeedsText(way))) => say(out, load_as(way)),
         Err(ReadFault::Syntax(place)) => {
-            writeln!(out, "= syntax error at byte {place}")?;
-            Ok(())
+            say_counted(out, "syntax error at byte", u64::from(place));
         }
-        Err(ReadFault::NoMemory) => Err(Fault::NoMemory),
+        Err(ReadFault::NoMemory) => out.lacks_memory(),
     }
+}
+
+/// read_line operational|configuration LINE
+pub(crate) fn ask_line(alloc: Global, text: &str, out: &mut Text) -> Result<(), Fault> {
+    let (mode, line) = first_and_rest(text);
+    let configuring = is_configuration(mode)?;
+    let line = bytes_of(alloc, line)?;
+    say_read(alloc, configuring, &line, out);
+    Ok(())
 }
 
 /// is_plain BYTES
-pub(crate) fn ask_plain(args: &[Arg], out: &mut String) -> Result<(), Fault> {
+pub(crate) fn ask_plain(args: &[Arg], out: &mut Text) -> Result<(), Fault> {
     match args {
         [bytes] => say_flag(out, is_plain(bytes)),
-        _ => Err(Fault::Script("is_plain BYTES")),
+        _ => return Err(Fault::Script("is_plain BYTES")),
     }
+    Ok(())
 }
 
 /// copy_set WORDS..
-pub(crate) fn copy_set(alloc: Global, args: &[Arg], out: &mut String) -> Result<(), Fault> {
+pub(crate) fn copy_set(alloc: Global, args: &[Arg], out: &mut Text) -> Result<(), Fault> {
     let command = Command::Change(Op::Set(words_of(alloc, args)?));
-    say_flag(out, command.clone()? == command)?;
-    say_flag(out, command == Command::CheckOnly)
+    match command.clone() {
+        Ok(copy) => say_flag(out, copy == command),
+        Err(_) => out.lacks_memory(),
+    }
+    say_flag(out, command == Command::CheckOnly);
+    Ok(())
 }

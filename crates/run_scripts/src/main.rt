@@ -4,7 +4,7 @@
 //! Leaves to others: what the calls answer, each in its crate, and how a script is read and compared (`script_lines`).
 #![tactic(auto)]
 
-use script::Script;
+use script::Whole;
 use script_lines::check_files;
 use std::process::ExitCode;
 
@@ -20,5 +20,5 @@ mod script;
 mod steps;
 
 fn main(rt: HostRuntime) -> ExitCode {
-    check_files::<HostRuntime, Script>(&rt)
+    check_files::<HostRuntime, Whole>(&rt)
 }

@@ -6,37 +6,37 @@ use commands::Mode;
 use config_core::{Refusal, Reply};
 use curly_grammar::TextFault;
 use script_lines::{
-    Fault, put_bytes, say, say_broken, say_fault_of_line, say_line_fault, say_number, say_path,
+    Text, say, say_broken, say_bytes, say_fault_of_line, say_line_fault, say_number, say_path,
     say_text, say_text_fault,
 };
 
-fn say_no_rollback(out: &mut String, n: u32, kept: u32) -> Result<(), Fault> {
-    writeln!(out, "= no rollback {n}, {kept} kept")?;
-    Ok(())
+fn say_no_rollback(out: &mut Text, n: u32, kept: u32) {
+    out.put("= no rollback ");
+    out.put_number(u64::from(n));
+    out.put(", ");
+    out.put_number(u64::from(kept));
+    out.put(" kept\n");
 }
 
 /// The fault of a text, behind the word `text`.
-fn say_unread_text(out: &mut String, fault: TextFault) -> Result<(), Fault> {
-    say(out, "text")?;
-    say_text_fault(out, fault, None)
+fn say_unread_text(out: &mut Text, fault: TextFault) {
+    say(out, "text");
+    say_text_fault(out, fault, None);
 }
 
 /// A commit with the options that it has.
-fn say_committed(out: &mut String, minutes: u32, quit: bool) -> Result<(), Fault> {
-    out.push_str("= committed")?;
-    put_minutes(out, minutes)?;
-    put_quit(out, quit)
+fn say_committed(out: &mut Text, minutes: u32, quit: bool) {
+    out.put("= committed");
+    put_minutes(out, minutes);
+    put_quit(out, quit);
 }
 
 /// The user whose session is in exclusive mode.
-fn say_locked(out: &mut String, user: &UserName) -> Result<(), Fault> {
-    out.push_str("= locked by")?;
-    put_bytes(out, user.as_word().as_bytes())?;
-    out.push_str("\n")?;
-    Ok(())
+fn say_locked(out: &mut Text, user: &UserName) {
+    say_bytes(out, "locked by", user.as_word().as_bytes());
 }
 
-fn say_refusal(out: &mut String, refusal: &Refusal) -> Result<(), Fault> {
+fn say_refusal(out: &mut Text, refusal: &Refusal) {
     match refusal {
         Refusal::WrongMode => say(out, "wrong mode"),
         Refusal::Locked(user) => say_locked(out, user),
@@ -64,14 +64,16 @@ fn say_refusal(out: &mut String, refusal: &Refusal) -> Result<(), Fault> {
     }
 }
 
-pub(crate) fn say_reply(out: &mut String, reply: &Reply) -> Result<(), Fault> {
+fn say_reply_text(out: &mut Text, text: &[u8]) {
+    say_number(out, text.len() as u64);
+    say_text(out, text);
+}
+
+pub(crate) fn say_reply(out: &mut Text, reply: &Reply) {
     match reply {
         Reply::Done => say(out, "done"),
         Reply::LoggedOut => say(out, "logged out"),
-        Reply::Text(text) => {
-            say_number(out, text.as_slice().len() as u64)?;
-            say_text(out, text.as_slice())
-        }
+        Reply::Text(text) => say_reply_text(out, text.as_slice()),
         Reply::Entered(Mode::Shared) => say(out, "entered"),
         Reply::Entered(Mode::Private) => say(out, "entered private"),
         Reply::Entered(Mode::Exclusive) => say(out, "entered exclusive"),

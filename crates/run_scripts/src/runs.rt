@@ -6,11 +6,13 @@ ghost use Rattle.service.specs.Run.{AreEnds};
 
 use crate::disks::Disks;
 use crate::histories::say_happened;
-use cfg_base::{UserName, Words};
+use cfg_base::{NoMemory, UserName, Words};
 use command_line::{Usage, read_words, words_ask_one_thing};
 use disk_model::MemDisk;
 use io_edge::{ListBeat, ListClock, ListSource, VecSink};
-use script_lines::{Fault, Part, Stage, args_of, say, say_bytes, say_text, words_of};
+use script_lines::{
+    Fault, Part, Stage, Text, args_of, say, say_bytes, say_counted, say_text, words_of,
+};
 use service::{Closed, StartWhy0, Ticker, run};
 use session_shell::End;
 use std::alloc::Global;
@@ -88,7 +90,39 @@ fn ticker_of(alloc: Global, part: Option<Part>) -> Result<Ticker<ListBeat, ListC
     })
 }
 
-/// What the words ask, over what is on the stage and on disks without room, which the script's disks replace.
+/// What the words ask, over these ends. Disks without room replace the script's disks.
+fn ran_over<R: Threads + Wait + Sync>(
+    rt: &R,
+    alloc: Global,
+    words: &Words,
+    ends: Vec<StagedEnd>,
+    ticker: Ticker<ListBeat, ListClock>,
+    disks: &mut Disks,
+) -> Result<Ran, Fault>
+    requires { AreEnds words.now ends.items }
+{
+    match disks.take(alloc) {
+        Ok((a, b)) => Ok(run(rt, alloc, words, ends, ticker, a, b)),
+        Err(NoMemory) => Err(Fault::NoMemory),
+    }
+}
+
+/// What the words ask, over the ends that are made of these parts.
+fn ran_of<R: Threads + Wait + Sync>(
+    rt: &R,
+    alloc: Global,
+    words: &Words,
+    parts: &mut IntoIter<Part>,
+    disks: &mut Disks,
+) -> Result<Ran, Fault> {
+    let ends = asked_ends(alloc, words, parts)?;
+    match ticker_of(alloc, parts.next()) {
+        Ok(ticker) => ran_over(rt, alloc, words, ends, ticker, disks),
+        Err(fault) => Err(fault),
+    }
+}
+
+/// What the words of a text ask, over what is on the stage.
 fn ran<R: Threads + Wait + Sync>(
     rt: &R,
     alloc: Global,
@@ -96,27 +130,23 @@ fn ran<R: Threads + Wait + Sync>(
     disks: &mut Disks,
     text: &str,
 ) -> Result<Ran, Fault> {
-    let words = words_of(alloc, &args_of(alloc, text)?)?;
+    let args = args_of(alloc, text)?;
+    let words = words_of(alloc, &args)?;
     let mut parts = stage.into_parts()?.into_iter();
-    let ends = asked_ends(alloc, &words, &mut parts)?;
-    let ticker = ticker_of(alloc, parts.next())?;
-    let (a, b) = disks.take(alloc)?;
-    Ok(run(rt, alloc, &words, ends, ticker, a, b))
+    ran_of(rt, alloc, &words, &mut parts, disks)
 }
 
 /// The number of a session, where there are several.
-pub(crate) fn say_session(out: &mut String, count: usize, place: usize) -> Result<(), Fault> {
+pub(crate) fn say_session(out: &mut Text, count: usize, place: usize) {
     if count > 1 {
-        let number = place.saturating_add(1);
-        writeln!(out, "= session {number}")?;
+        say_counted(out, "session", place.saturating_add(1) as u64);
     }
-    Ok(())
 }
 
 /// Why the start was refused, if it was.
-fn say_why(out: &mut String, why: &StartWhy0) -> Result<(), Fault> {
+fn say_why(out: &mut Text, why: &StartWhy0) {
     let StartWhy0::Why(why) = why else {
-        return Ok(());
+        return;
     };
     match why {
         StartWhy::Exists => say(out, "why exists"),
@@ -126,28 +156,23 @@ fn say_why(out: &mut String, why: &StartWhy0) -> Result<(), Fault> {
             kept,
             computed,
         } => {
-            writeln!(out, "= why damaged at {offset}")?;
-            say_bytes(out, "kept", kept)?;
-            say_bytes(out, "computed", computed)
+            say_counted(out, "why damaged at", *offset);
+            say_bytes(out, "kept", kept);
+            say_bytes(out, "computed", computed);
         }
-        StartWhy::BadRecord { offset } => {
-            writeln!(out, "= why bad record at {offset}")?;
-            Ok(())
-        }
+        StartWhy::BadRecord { offset } => say_counted(out, "why bad record at", *offset),
         StartWhy::DiskFault => say(out, "why disk fault"),
         StartWhy::NoMemory => say(out, "why no memory"),
     }
 }
 
-fn say_output(out: &mut String, ran: &Ran) -> Result<(), Fault> {
-    let status = ran.status;
-    writeln!(out, "= status {status}")?;
-    say_why(out, &ran.why)?;
+fn say_output(out: &mut Text, ran: &Ran) {
+    say_counted(out, "status", u64::from(ran.status));
+    say_why(out, &ran.why);
     for (place, end) in ran.ends.iter().enumerate() {
-        say_session(out, ran.ends.len(), place)?;
-        say_text(out, end.sink.contents())?;
+        say_session(out, ran.ends.len(), place);
+        say_text(out, end.sink.contents());
     }
-    Ok(())
 }
 
 /// How many bytes a disk has that is made for a new journal.
@@ -180,12 +205,12 @@ pub(crate) fn ask_run<R: Threads + Wait + Sync>(
     disks: &mut Disks,
     whole: bool,
     text: &str,
-    out: &mut String,
+    out: &mut Text,
 ) -> Result<(), Fault> {
     let ran = ran(rt, alloc, stage.take(alloc), disks, text)?;
-    say_output(out, &ran)?;
+    say_output(out, &ran);
     if whole {
-        say_happened(out, &ran.turns, &ran.history)?;
+        say_happened(out, &ran.turns, &ran.history);
     }
     let Closed { disk_a, disk_b, .. } = ran;
     disks.put(disk_a, disk_b);

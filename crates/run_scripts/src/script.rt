@@ -6,13 +6,15 @@ use crate::input_calls;
 use crate::line_calls::{ask_line, ask_plain, copy_set};
 use crate::runs::{ask_run, make_fresh};
 use crate::steps::{Machine, ask_step};
-use script_lines::{Answers, Arg, Fault, KeptText, Stage, args_of, first_and_rest};
+use script_lines::{
+    Answers, AnswersAll, Arg, Asked, Fault, KeptText, Stage, Text, args_of, first_and_rest,
+};
 use std::alloc::Global;
 use std::sync::Wait;
 use std::thread::Threads;
 
 #[derive(Drop)]
-pub(crate) struct Script {
+struct Script {
     alloc: Global,
     text: KeptText,
     stage: Stage,
@@ -21,46 +23,56 @@ pub(crate) struct Script {
     machine: Machine,
 }
 
-/// Answers a call that has all that it is asked about in its words, and tells whether it is one.
-fn ask(alloc: Global, name: &str, args: &[Arg], out: &mut String) -> Result<bool, Fault> {
+/// Answers a call that has all that it is asked about in its words, where it is one.
+fn ask(alloc: Global, name: &str, args: &[Arg], out: &mut Text) -> Option<Result<(), Fault>> {
     match name {
-        "is_plain" => ask_plain(args, out)?,
-        "copy_set" => copy_set(alloc, args, out)?,
-        "read_words" => ask_words(alloc, args, out)?,
-        _ => return Ok(false),
+        "is_plain" => Some(ask_plain(args, out)),
+        "copy_set" => Some(copy_set(alloc, args, out)),
+        "read_words" => Some(ask_words(alloc, args, out)),
+        _ => None,
     }
-    Ok(true)
 }
 
 impl Script {
-    /// A line that is cut into words.
-    fn answer_words(&mut self, name: &str, args: &[Arg], out: &mut String) -> Result<(), Fault> {
-        if ask(self.alloc, name, args, out)?
-            || input_calls::ask(self.alloc, &mut self.stage, name, args, out)?
-            || self.disks.answer(self.alloc, name, args, out)?
-            || self.machine.answer(self.alloc, name, args, out)?
-        {
-            return Ok(());
-        }
-        Err(Fault::Script("no such call, or not with as many words"))
-    }
-}
-
-impl<R: Threads + Wait + Sync> Answers<R> for Script {
     fn new(alloc: Global) -> Result<Script, Fault> {
+        let disks = Disks::new(alloc, 0)?;
         Ok(Script {
             alloc,
             text: KeptText::new(alloc),
             stage: Stage::new(alloc),
-            disks: Disks::new(alloc, 0)?,
+            disks,
             machine: Machine::new(alloc)?,
         })
     }
 
-    fn answer(&mut self, rt: &R, line: &str, out: &mut String) -> Result<(), Fault> {
+    /// A line that is cut into words.
+    fn answer_words(&mut self, name: &str, args: &[Arg], out: &mut Text) -> Result<(), Fault> {
+        if let Some(done) = ask(self.alloc, name, args, out) {
+            return done;
+        }
+        if let Some(done) = input_calls::ask(self.alloc, &mut self.stage, name, args, out) {
+            return done;
+        }
+        if let Some(done) = self.disks.answer(self.alloc, name, args, out) {
+            return done;
+        }
+        match self.machine.answer(self.alloc, name, args, out) {
+            Some(done) => done,
+            None => Err(Fault::Script("no such call, or not with as many words")),
+        }
+    }
+}
+
+impl Answers for Script {
+    fn answer<R: Threads + Wait + Sync>(
+        &mut self,
+        rt: &R,
+        line: &str,
+        out: &mut Text,
+    ) -> Result<(), Fault> {
         let alloc = self.alloc;
         let (name, rest) = first_and_rest(line);
-        if self.text.keep(alloc, name, rest)? || self.stage.keep(alloc, name, rest)? {
+        if self.text.keep(name, rest)? || self.stage.keep(alloc, name, rest)? {
             return Ok(());
         }
         match name {
@@ -80,5 +92,31 @@ impl<R: Threads + Wait + Sync> Answers<R> for Script {
             "fresh" => make_fresh(rt, alloc, &mut self.disks),
             _ => self.answer_words(name, &args_of(alloc, rest)?, out),
         }
+    }
+}
+
+/// Answers a script, which keeps nothing at first.
+fn answer_script<R: Threads + Wait + Sync>(
+    rt: &R,
+    alloc: Global,
+    asked: &mut Asked,
+    lines: &[&[u8]],
+) -> Result<(), Fault> {
+    let mut script = Script::new(alloc)?;
+    asked.take_all(rt, alloc, &mut script, lines);
+    Ok(())
+}
+
+/// What answers a script.
+pub(crate) struct Whole;
+
+impl AnswersAll for Whole {
+    fn answer_all<R: Threads + Wait + Sync>(
+        rt: &R,
+        alloc: Global,
+        asked: &mut Asked,
+        lines: &[&[u8]],
+    ) -> Result<(), Fault> {
+        answer_script(rt, alloc, asked, lines)
     }
 }

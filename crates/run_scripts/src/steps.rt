@@ -9,11 +9,11 @@ use crate::line_calls::is_configuration;
 use crate::replies::say_reply;
 use cfg_base::{Bytes, Moment, Users};
 use commands::Command;
-use commit_ledger::{Ledger, Via};
+use commit_ledger::{Commit, Ledger, Via};
 use config_core::{Core, Event, Need, Outcome, Prepared, Reply};
 use script_lines::{
-    Arg, Fault, KeptText, bytes_of, first_and_rest, number, say, say_bytes, say_path, say_pending,
-    small_number, user_of,
+    Arg, Fault, KeptText, Text, bytes_of, first_and_rest, number, say, say_bytes, say_counted,
+    say_path, say_pending, small_number, user_of,
 };
 use shell_words::{Words0, read_line};
 use std::alloc::Global;
@@ -34,6 +34,37 @@ fn caller_of(number: &[u8]) -> Result<u32, Fault>
         return Err(Fault::Script("a caller is 1 to 4"));
     }
     Ok(caller)
+}
+
+/// A reply, where there is one.
+fn say_answer(out: &mut Text, answer: Result<Reply, Fault>) -> Result<(), Fault> {
+    match answer {
+        Ok(reply) => {
+            say_reply(out, &reply);
+            Ok(())
+        }
+        Err(fault) => Err(fault),
+    }
+}
+
+fn name_of(via: Via) -> &'static str {
+    match via {
+        Via::Cli => "cli",
+        Via::Other => "other",
+    }
+}
+
+/// The last commit of a list.
+fn say_last(out: &mut Text, last: &Commit) {
+    out.put("= last ");
+    out.put_number(last.number);
+    out.put(" via ");
+    out.put(name_of(last.via));
+    out.put(" at ");
+    out.put_number(last.moment.seconds());
+    out.put("\n");
+    say_bytes(out, "user", last.user.as_word().as_bytes());
+    say_counted(out, "statements", u64::from(last.tree.count()));
 }
 
 /// That moment, or the last event's where that is later.
@@ -143,110 +174,123 @@ impl Machine {
     }
 
     /// Rolls back what is due, and says so.
-    fn revert_due(&mut self, moment: Moment, out: &mut String) -> Result<(), Fault> {
+    fn revert_due(&mut self, moment: Moment, out: &mut Text) -> Result<(), Fault> {
         if self.need(moment) == Need::Revert {
             self.revert(moment)?;
-            say(out, "reverted")?;
+            say(out, "reverted");
         }
         Ok(())
     }
 
+    /// A command, behind what is due, and its reply.
+    fn step(
+        &mut self,
+        caller: u32,
+        moment: Moment,
+        command: Command,
+        out: &mut Text,
+    ) -> Result<(), Fault>
+        requires caller { (0 < caller) × (caller ≤ 4) }
+        requires sound { IsSound command }
+    {
+        match self.revert_due(moment, out) {
+            Ok(()) => say_answer(out, self.ask(caller, moment, command)),
+            Err(fault) => Err(fault),
+        }
+    }
+
     /// need SECONDS
-    fn ask_need(&self, args: &[Arg], out: &mut String) -> Result<(), Fault> {
+    fn ask_need(&self, args: &[Arg], out: &mut Text) -> Result<(), Fault> {
         let [seconds] = args else {
             return Err(Fault::Script("need SECONDS"));
         };
-        match self.need(Moment::of(number(seconds)?)) {
+        let moment = Moment::of(number(seconds)?);
+        match self.need(moment) {
             Need::Settle => say(out, "settle"),
             Need::Revert => say(out, "revert"),
             Need::Nothing => say(out, "nothing"),
         }
+        Ok(())
     }
 
     /// settle SECONDS kept|lost
-    fn ask_settle(&mut self, args: &[Arg], out: &mut String) -> Result<(), Fault> {
+    fn ask_settle(&mut self, args: &[Arg], out: &mut Text) -> Result<(), Fault> {
         let [seconds, end] = args else {
             return Err(Fault::Script("settle SECONDS kept|lost"));
         };
         let moment = Moment::of(number(seconds)?);
-        let reply = match end.as_slice() {
-            b"kept" => self.settle(moment, true)?,
-            b"lost" => self.settle(moment, false)?,
-            _ => return Err(Fault::Script("settle SECONDS kept|lost")),
-        };
-        say_reply(out, &reply)
+        match end.as_slice() {
+            b"kept" => say_answer(out, self.settle(moment, true)),
+            b"lost" => say_answer(out, self.settle(moment, false)),
+            _ => Err(Fault::Script("settle SECONDS kept|lost")),
+        }
     }
 
     /// revert SECONDS done|failing
-    fn ask_revert(&mut self, args: &[Arg], out: &mut String) -> Result<(), Fault> {
+    fn ask_revert(&mut self, args: &[Arg], out: &mut Text) -> Result<(), Fault> {
         let [seconds, end] = args else {
             return Err(Fault::Script("revert SECONDS done|failing"));
         };
         let moment = Moment::of(number(seconds)?);
-        let reply = match end.as_slice() {
-            b"done" => self.revert(moment)?,
-            b"failing" => self.revert_failing(moment)?,
-            _ => return Err(Fault::Script("revert SECONDS done|failing")),
-        };
-        say_reply(out, &reply)
+        match end.as_slice() {
+            b"done" => say_answer(out, self.revert(moment)),
+            b"failing" => say_answer(out, self.revert_failing(moment)),
+            _ => Err(Fault::Script("revert SECONDS done|failing")),
+        }
     }
 
     /// level_of CALLER
-    fn ask_level(&self, args: &[Arg], out: &mut String) -> Result<(), Fault> {
+    fn ask_level(&self, args: &[Arg], out: &mut Text) -> Result<(), Fault> {
         let [caller] = args else {
             return Err(Fault::Script("level_of CALLER"));
         };
-        say_path(out, "level", self.core.level(caller_of(caller)?))
+        let caller = caller_of(caller)?;
+        say_path(out, "level", self.core.level(caller));
+        Ok(())
     }
 
     /// ledger: what is kept of the list of entries, and the greatest moment
-    fn ask_ledger(&self, out: &mut String) -> Result<(), Fault> {
+    fn ask_ledger(&self, out: &mut Text) -> Result<(), Fault> {
         let ledger = self.core.ledger();
-        let last = ledger.last();
-        let entries = ledger.count();
-        let number = last.number;
-        let via = match last.via {
-            Via::Cli => "cli",
-            Via::Other => "other",
-        };
-        let moment = last.moment.seconds();
-        let statements = last.tree.count();
-        let greatest = self.core.greatest().seconds();
-        writeln!(out, "= entries {entries}")?;
-        writeln!(out, "= last {number} via {via} at {moment}")?;
-        say_bytes(out, "user", last.user.as_word().as_bytes())?;
-        writeln!(out, "= statements {statements}")?;
-        writeln!(out, "= greatest {greatest}")?;
+        say_counted(out, "entries", ledger.count());
+        say_last(out, ledger.last());
+        say_counted(out, "greatest", self.core.greatest().seconds());
         Ok(())
     }
 
     /// pending: the deadline of a commit confirmed, and the commit to which it goes back
-    fn ask_pending(&self, out: &mut String) -> Result<(), Fault> {
+    fn ask_pending(&self, out: &mut Text) -> Result<(), Fault> {
         match self.core.ledger().pending() {
             Some(pending) => say_pending(out, pending.target, pending.deadline),
             None => say(out, "none"),
         }
+        Ok(())
     }
 
-    /// Answers a look at the machine or an event that is no command, and tells whether the call is one.
+    /// machine: a new one
+    fn renew(&mut self, alloc: Global) -> Result<(), Fault> {
+        *self = Machine::new(alloc)?;
+        Ok(())
+    }
+
+    /// Answers a look at the machine or an event that is no command, where the call is one.
     pub(crate) fn answer(
         &mut self,
         alloc: Global,
         call: &str,
         args: &[Arg],
-        out: &mut String,
-    ) -> Result<bool, Fault> {
-        match call {
-            "machine" => *self = Machine::new(alloc)?,
-            "level_of" => self.ask_level(args, out)?,
-            "ledger" => self.ask_ledger(out)?,
-            "pending" => self.ask_pending(out)?,
-            "need" => self.ask_need(args, out)?,
-            "settle" => self.ask_settle(args, out)?,
-            "revert" => self.ask_revert(args, out)?,
-            _ => return Ok(false),
-        }
-        Ok(true)
+        out: &mut Text,
+    ) -> Option<Result<(), Fault>> {
+        Some(match call {
+            "machine" => self.renew(alloc),
+            "level_of" => self.ask_level(args, out),
+            "ledger" => self.ask_ledger(out),
+            "pending" => self.ask_pending(out),
+            "need" => self.ask_need(args, out),
+            "settle" => self.ask_settle(args, out),
+            "revert" => self.ask_revert(args, out),
+            _ => return None,
+        })
     }
 }
 
@@ -276,20 +320,18 @@ pub(crate) fn ask_step(
     kept: &mut KeptText,
     failing: bool,
     text: &str,
-    out: &mut String,
+    out: &mut Text,
 ) -> Result<(), Fault> {
     let (caller, text) = first_and_rest(text);
     let (seconds, text) = first_and_rest(text);
     let (mode, line) = first_and_rest(text);
     let caller = caller_of(caller.as_bytes())?;
     let moment = Moment::of(number(seconds.as_bytes())?);
+    let configuring = is_configuration(mode)?;
     let line = bytes_of(alloc, line)?;
-    let command = command_of(alloc, is_configuration(mode)?, &line, kept)?;
-    let reply = if failing {
-        machine.ask_failing(caller, moment, command)?
-    } else {
-        machine.revert_due(moment, out)?;
-        machine.ask(caller, moment, command)?
-    };
-    say_reply(out, &reply)
+    let command = command_of(alloc, configuring, &line, kept)?;
+    if failing {
+        return say_answer(out, machine.ask_failing(caller, moment, command));
+    }
+    machine.step(caller, moment, command, out)
 }

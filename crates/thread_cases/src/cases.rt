@@ -1,12 +1,14 @@
 //! The cases, and what is told of each.
 
-use crate::edges::{Asked, Counting, Gate, Still, Waiting};
+use crate::edges::{Asked, Counting, Gate, Held, Still, Waiting};
 use crate::runs::{Part, Ran, made_disks, ran};
 use cfg_base::Moment;
 use config_core::Event;
+use disk_model::MemDisk;
 use script_lines::Fault;
 use service::Ticker;
 use session_history::Happened;
+use session_shell::{Turn, TurnList};
 use std::alloc::Global;
 use std::sync::atomic::AtomicU64;
 use std::sync::{Arc, Wait};
@@ -47,7 +49,7 @@ fn count(alloc: Global) -> Result<Arc<AtomicU64>, Fault> {
 }
 
 /// Two sessions, each of which has its second line only once the other was answered its first.
-fn two_wait<R>(rt: &R, alloc: Global) -> Result<Ran<Waiting<R>, Asked<R>>, Fault>
+fn two_wait<R>(rt: &R, alloc: Global) -> Result<Ran<Waiting<R>, Asked<R>, MemDisk>, Fault>
 where
     R: Threads + Wait + Sync + Send + std::rt::Clock + Clone + Drop,
 {
@@ -72,7 +74,7 @@ where
 
 /// A session whose commit isn't confirmed, and that has its next line only once the ticker, by whose clock the deadline
 /// has come, has looked at the time.
-fn one_waits<R>(rt: &R, alloc: Global) -> Result<Ran<Waiting<R>, Asked<R>>, Fault>
+fn one_waits<R>(rt: &R, alloc: Global) -> Result<Ran<Waiting<R>, Asked<R>, MemDisk>, Fault>
 where
     R: Threads + Wait + Sync + Send + std::rt::Clock + Clone + Drop,
 {
@@ -90,6 +92,111 @@ where
     let ticker = ticker(rt, beats, 1060)?;
     let disks = made_disks(rt, alloc)?;
     ran(rt, alloc, "serve d", parts, ticker, disks)
+}
+
+/// A session that commits, and waits for nothing.
+fn committing<R: std::rt::Clock + Clone + Drop>(
+    rt: &R,
+    alloc: Global,
+    lines: &Arc<AtomicU64>,
+    beats: &Arc<AtomicU64>,
+) -> Result<Part<Waiting<R>>, Fault> {
+    let gate = Gate {
+        lines: lines.clone()?,
+        least: 0,
+        beats: beats.clone()?,
+        more: 0,
+    };
+    let text = b"configure\nset system host-name a\ncommit\nexit\n";
+    session(rt, alloc, text, 0, gate, lines.clone()?)
+}
+
+/// A session that shows what is active once a count has come so far.
+fn showing<R: std::rt::Clock + Clone + Drop>(
+    rt: &R,
+    alloc: Global,
+    awaited: &Arc<AtomicU64>,
+    least: u64,
+    beats: &Arc<AtomicU64>,
+    lines: &Arc<AtomicU64>,
+) -> Result<Part<Waiting<R>>, Fault> {
+    let gate = Gate {
+        lines: awaited.clone()?,
+        least,
+        beats: beats.clone()?,
+        more: 0,
+    };
+    let text = b"show configuration\nshow system commit\nexit\n";
+    session(rt, alloc, text, 0, gate, lines.clone()?)
+}
+
+/// A session that shows what is active once another one was answered its commit.
+fn show_behind<R>(rt: &R, alloc: Global) -> Result<Ran<Waiting<R>, Asked<R>, MemDisk>, Fault>
+where
+    R: Threads + Wait + Sync + Send + std::rt::Clock + Clone + Drop,
+{
+    let alice = count(alloc)?;
+    let bob = count(alloc)?;
+    let beats = count(alloc)?;
+    let mut parts = Vec::new(alloc);
+    parts.push(committing(rt, alloc, &alice, &beats)?)?;
+    parts.push(showing(rt, alloc, &alice, 2, &beats, &bob)?)?;
+    let ticker = ticker(rt, beats, 1000)?;
+    let disks = made_disks(rt, alloc)?;
+    ran(rt, alloc, "serve d alice:a bob:b", parts, ticker, disks)
+}
+
+/// A disk whose sync of that number waits until a sink took a line.
+fn held<R: std::rt::Clock + Clone + Drop>(
+    rt: &R,
+    disk: MemDisk,
+    stop: u64,
+    there: &Arc<AtomicU64>,
+    lines: &Arc<AtomicU64>,
+) -> Result<Held<R, MemDisk>, Fault> {
+    Ok(Held {
+        disk,
+        syncs: 0,
+        stop,
+        there: there.clone()?,
+        lines: lines.clone()?,
+        least: 1,
+        in_time: false,
+        clock: rt.clone()?,
+    })
+}
+
+/// A session that shows what is active while the last sync of another one's commit is under way, which waits for it.
+fn shows_within<R>(
+    rt: &R,
+    alloc: Global,
+) -> Result<Ran<Waiting<R>, Asked<R>, Held<R, MemDisk>>, Fault>
+where
+    R: Threads + Wait + Sync + Send + std::rt::Clock + Clone + Drop,
+{
+    let alice = count(alloc)?;
+    let bob = count(alloc)?;
+    let there = count(alloc)?;
+    let beats = count(alloc)?;
+    let mut parts = Vec::new(alloc);
+    parts.push(committing(rt, alloc, &alice, &beats)?)?;
+    parts.push(showing(rt, alloc, &there, 1, &beats, &bob)?)?;
+    let ticker = ticker(rt, beats, 1000)?;
+    let (a, b) = made_disks(rt, alloc)?;
+    let disks = (held(rt, a, 3, &there, &bob)?, held(rt, b, 0, &there, &bob)?);
+    ran(rt, alloc, "serve d alice:a bob:b", parts, ticker, disks)
+}
+
+/// How many entries the lists had that sessions were shown without an event.
+fn say_shown(out: &mut String, turns: &[TurnList]) -> Result<(), Fault> {
+    for list in turns {
+        for turn in list.as_slice() {
+            if let Turn::Seen { front, .. } = turn {
+                writeln!(out, "shown of {front} entries")?;
+            }
+        }
+    }
+    Ok(())
 }
 
 /// The events that go back to an older commit, each with its caller and its moment.
@@ -117,5 +224,20 @@ where
     let ran = one_waits(rt, alloc)?;
     let status = ran.status;
     writeln!(out, "a session that waits for the ticker: status {status}")?;
-    say_reverts(out, &ran.history.events)
+    say_reverts(out, &ran.history.events)?;
+    let ran = show_behind(rt, alloc)?;
+    let status = ran.status;
+    writeln!(
+        out,
+        "a show behind another session's commit: status {status}"
+    )?;
+    say_shown(out, &ran.turns)?;
+    let ran = shows_within(rt, alloc)?;
+    let status = ran.status;
+    let in_time = ran.disk_a.in_time;
+    writeln!(
+        out,
+        "shows within another session's commit: status {status}, in time {in_time}"
+    )?;
+    say_shown(out, &ran.turns)
 }

@@ -1,8 +1,9 @@
-//! Ends that wait for one another: sources, sinks, clocks and beats with counts that all threads see.
+//! Ends that wait for one another: sources, sinks, clocks, beats and disks with counts that all threads see.
 
 ghost use Rattle.std.specs.Prelude.{None};
 
 use cfg_base::Moment;
+use disk_model::{Disk, DiskDone, DiskLen, DiskRead};
 use io_edge::{Beat, Clock, Got, Put, Sink, Source};
 use std::sync::Arc;
 use std::sync::atomic::AtomicU64;
@@ -138,5 +139,48 @@ impl<R: std::rt::Clock + Drop> Beat for Asked<R> {
         self.count.fetch_add(1, SeqCst);
         thread::sleep(&self.clock, Duration::from_millis(1));
         true
+    }
+}
+
+/// A disk one of whose syncs waits until a sink took so many lines, and tells before that it is there.
+#[derive(Drop)]
+pub(crate) struct Held<R: std::rt::Clock + Drop, D: Disk + Drop> {
+    pub disk: D,
+    pub syncs: u64,
+    pub stop: u64,
+    pub there: Arc<AtomicU64>,
+    pub lines: Arc<AtomicU64>,
+    pub least: u64,
+    /// Whether the lines came while it waited.
+    pub in_time: bool,
+    pub clock: R,
+}
+
+impl<R: std::rt::Clock + Drop, D: Disk + Drop> Disk for Held<R, D> {
+    ghost tells = { λ h. D.tells h.disk };
+
+    ghost history = { λ h. D.history h.disk };
+
+    ghost faults = { λ h. D.faults h.disk };
+
+    fn len(&mut self) -> DiskLen {
+        self.disk.len()
+    }
+
+    fn read_at(&mut self, at: u64, into: &mut [u8]) -> DiskRead {
+        self.disk.read_at(at, into)
+    }
+
+    fn write_at(&mut self, at: u64, piece: &[u8]) -> DiskDone {
+        self.disk.write_at(at, piece)
+    }
+
+    fn sync(&mut self) -> DiskDone {
+        self.syncs = self.syncs.saturating_add(1);
+        if self.syncs == self.stop {
+            self.there.fetch_add(1, SeqCst);
+            self.in_time = waits_for(&self.clock, &self.lines, self.least);
+        }
+        self.disk.sync()
     }
 }

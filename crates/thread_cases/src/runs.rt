@@ -7,7 +7,7 @@ ghost use Rattle.service.specs.Run.{AreEnds};
 use crate::edges::{Counting, Still};
 use cfg_base::{Moment, UserName, Words};
 use command_line::{Usage, read_words, words_ask_one_thing};
-use disk_model::MemDisk;
+use disk_model::{Disk, MemDisk};
 use io_edge::{Beat, ListBeat, ListSource, Source};
 use script_lines::{Fault, args_of, words_of};
 use service::{Closed, Ticker, run};
@@ -22,7 +22,7 @@ use std::vec::IntoIter;
 pub(crate) type Part<S> = (S, Counting);
 
 /// What came of a run.
-pub(crate) type Ran<S, B> = Closed<S, Counting, Still, B, MemDisk>;
+pub(crate) type Ran<S, B, D> = Closed<S, Counting, Still, B, D>;
 
 /// The moment that the clock of each session answers.
 const SESSIONS: u64 = 1000;
@@ -75,18 +75,19 @@ fn asked_ends<S: Drop>(
 }
 
 /// What the words ask, over these parts.
-pub(crate) fn ran<R, S, B>(
+pub(crate) fn ran<R, S, B, D>(
     rt: &R,
     alloc: Global,
     text: &str,
     parts: Vec<Part<S>>,
     ticker: Ticker<B, Still>,
-    disks: (MemDisk, MemDisk),
-) -> Result<Ran<S, B>, Fault>
+    disks: (D, D),
+) -> Result<Ran<S, B, D>, Fault>
 where
     R: Threads + Wait + Sync,
     S: Source + Drop + Send,
     B: Beat + Drop + Send,
+    D: Disk + Drop + Send,
 {
     let words = words_of(alloc, &args_of(alloc, text)?)?;
     let ends = asked_ends(alloc, &words, parts)?;
