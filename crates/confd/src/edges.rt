@@ -3,7 +3,7 @@
 ghost use Rattle.std.specs.Prelude.{◌≡◌, IfOk};
 ghost use Rattle.session_threads.specs.Results.{users_of};
 
-use cfg_base::{NoMemory, Word};
+use cfg_base::{NoMemory, UserName, Word};
 use command_line::Asked;
 use io_edge::{StdClock, StdSink, StdSource};
 use session_shell::End;
@@ -92,6 +92,52 @@ fn file_output<R: Files, O>(
     }
 }
 
+/// The end of a session of a user.
+fn end_of<R, I, O>(
+    rt: &R,
+    user: &UserName,
+    source: Input<I, R::File>,
+    sink: Output<O, R::File>,
+) -> Result<StdEnd<R, I, O>, NoMemory>
+where
+    R: Files + Clock + Clone + Drop,
+    I: Read + Drop,
+    O: Write + Drop,
+    ensures { IfOk result (λ end. end.user ≡ user.now) }
+{
+    let clock = StdClock::new(rt.clone()?);
+    Ok(End {
+        user: user.clone()?,
+        source: StdSource::new(source),
+        sink: StdSink::new(sink),
+        clock,
+    })
+}
+
+/// The end of a session over a file, or where none is named over the standard input and output, which one session has.
+fn next_end<R, I, O>(
+    rt: &R,
+    user: &UserName,
+    file: Option<&Word>,
+    standard: &mut Option<(I, O)>,
+) -> Result<StdEnd<R, I, O>, NoMemory>
+where
+    R: Files + Clock + AllocGlobal + Clone + Drop,
+    I: Read + Drop,
+    O: Write + Drop,
+    ensures { IfOk result (λ end. end.user ≡ user.now) }
+{
+    let Some(file) = file else {
+        let (source, sink) = standard_of(standard.take());
+        return end_of(rt, user, source, sink);
+    };
+    let source = file_input(rt, file);
+    match file_output(rt, rt.alloc(), file) {
+        Ok(sink) => end_of(rt, user, source, sink),
+        Err(NoMemory) => Err(NoMemory),
+    }
+}
+
 /// The ends that are asked for, each of its user: over files, or where no session is named over the standard input and output.
 pub(crate) fn ends_of<R, I, O>(
     rt: &R,
@@ -105,21 +151,12 @@ where
     O: Write + Drop,
     ensures { IfOk result (λ ends. users_of ends.items ≡ asked.now.users) }
 {
-    let alloc = rt.alloc();
     let mut standard = Some((input, output));
     let mut files = asked.files.as_slice().iter();
-    let mut ends = Vec::new(alloc);
+    let mut ends = Vec::new(rt.alloc());
     for user in asked.users.as_slice() {
-        let (source, sink) = match files.next() {
-            Some(file) => (file_input(rt, file), file_output(rt, alloc, file)?),
-            None => standard_of(standard.take()),
-        };
-        ends.push(End {
-            user: user.clone()?,
-            source: StdSource::new(source),
-            sink: StdSink::new(sink),
-            clock: StdClock::new(rt.clone()?),
-        })?;
+        let end = next_end(rt, user, files.next(), &mut standard)?;
+        ends.push(end)?;
     }
     Ok(ends)
 }

@@ -73,12 +73,19 @@ fn command_words<R: Env + AllocGlobal>(rt: &R) -> Result<Words, Usage> {
     }
 }
 
+/// The system's clock, and when it is looked at.
+fn ticker_of<R: Clock + Clone + Drop>(rt: &R) -> Result<Ticker<Pace<R>, StdClock<R>>, NoMemory> {
+    let beat = Pace::new(rt.clone()?);
+    let clock = StdClock::new(rt.clone()?);
+    Ok(Ticker { beat, clock })
+}
+
 /// Runs the service over these ends, the system's clock and two disks.
 fn run_over<R, I, O, D>(
     rt: &R,
     words: &Words,
     ends: Vec<StdEnd<R, I, O>>,
-    disks: (D, D),
+    disks: Result<(D, D), NoMemory>,
 ) -> Result<Came, NoMemory>
 where
     R: Threads + Wait + Sync + Send + Clock + Files + AllocGlobal + Clone + Drop,
@@ -89,10 +96,11 @@ where
     requires ends { AreEnds words.now ends.items }
     ensures usage { IfOk result (λ came. (came.status ≡ 1) ↔ ((came.status ≢ 9) × (IsAsking words.now → ⊥))) }
 {
-    let (disk_a, disk_b) = disks;
-    let ticker = Ticker {
-        beat: Pace::new(rt.clone()?),
-        clock: StdClock::new(rt.clone()?),
+    let Ok((disk_a, disk_b)) = disks else {
+        return Err(NoMemory);
+    };
+    let Ok(ticker) = ticker_of(rt) else {
+        return Err(NoMemory);
     };
     let closed = run(rt, rt.alloc(), words, ends, ticker, disk_a, disk_b);
     Ok(Came {
@@ -116,10 +124,10 @@ where
     ensures usage { IfOk result (λ came. (came.status ≡ 1) ↔ ((came.status ≢ 9) × (IsAsking words.now → ⊥))) }
 {
     match asked.mode {
-        RunMode::Init => run_over(rt, words, ends, make_disks(rt, &asked.place)?),
-        RunMode::Serve | RunMode::Check => run_over(rt, words, ends, open_disks(rt, &asked.place)?),
+        RunMode::Init => run_over(rt, words, ends, make_disks(rt, &asked.place)),
+        RunMode::Serve | RunMode::Check => run_over(rt, words, ends, open_disks(rt, &asked.place)),
         // Mode gen calls none of the disks that it is handed.
-        RunMode::Gen => run_over(rt, words, ends, no_disks(rt.alloc())?),
+        RunMode::Gen => run_over(rt, words, ends, no_disks(rt.alloc())),
     }
 }
 
