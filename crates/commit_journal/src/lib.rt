@@ -53,6 +53,3 @@ pub use flight::Flight;
 pub use journal::Journal;
 pub use settling::Settled;
 pub use why::{AttachWhy, CreateFault, CreateWhy};
-
-#[cfg(test)]
-mod tests;
