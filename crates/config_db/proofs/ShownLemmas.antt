@@ -26,7 +26,7 @@ use Rattle.session_history.proofs.KeptLemmas.{WasKept-append, WasKept-last, WasK
 use Rattle.active_snapshot.specs.States.{WriterState, first_written}
 use Rattle.active_snapshot.specs.Views.{IsLast, with_proposal}
 use Rattle.config_db.specs.Writing.{flight_after, kept_after}
-use Rattle.config_db.specs.Shown.{CanFollow, IsShown, Keeps, Proposes, ProposesNext, PublishesLate, Shows, ShowsSettled, waiting_view}
+use Rattle.config_db.specs.Shown.{CanFollow, CanFollowLast, IsShown, Keeps, Proposes, ProposesNext, PublishesLate, Shows, ShowsSettled, waiting_view}
 use Rattle.config_db.proofs.AllLemmas.{All-append, All-map}
 use Rattle.config_db.proofs.MachineLemmas.{kept_settled}
 
@@ -183,6 +183,6 @@ can_follow (effect.Append a) caller moment s applies sound =
 
 -- and so the last view, which is what is kept
 pub follows_last : (made : Option Made) (views : List Kept) (kept : Kept) → IsLast views kept → IfSome made (λ m. CanFollow kept m.entry)
-    → IfSome made (λ m. (view : Kept) → IsLast views view → CanFollow view m.entry)
+    → IfSome made (λ m. CanFollowLast views m.entry)
 follows_last None views kept last can = tt
 follows_last (Some m) views kept last can = λ view is. subst (λ k. CanFollow k m.entry) (last_is_one views kept view last is) can

@@ -36,6 +36,10 @@ pub record CanFollow (view : Kept) (entry : Entry) : Type 0 where
   pub number : NumberFits view entry
   pub accepted : BringsMap Accepts entry
 
+-- an entry may follow the last one of these views
+abbrev pub CanFollowLast : List Kept → Entry → Type 0
+CanFollowLast views entry = (view : Kept) → IsLast views view → CanFollow view entry
+
 -- the view after an entry waits to be kept
 pub record ProposesNext (entry : Entry) (w w' : WriterState) : Type 0 where
   pub on_time : w.late ≡ false

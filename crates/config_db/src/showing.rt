@@ -11,12 +11,11 @@ ghost use Rattle.cfg_tree.specs.Full.{IsWithin};
 ghost use Rattle.group_expand.specs.Expansion.{IsExpansion};
 ghost use Rattle.commit_check.specs.Accepts.{Accepts};
 ghost use Rattle.commit_journal.specs.Journal.{IsIdle};
-ghost use Rattle.commit_ledger.specs.Kept.{Kept, BringsMap, append_entry};
+ghost use Rattle.commit_ledger.specs.Kept.{BringsMap, append_entry};
 ghost use Rattle.active_snapshot.specs.Expanded.{ComesWith};
-ghost use Rattle.active_snapshot.specs.Views.{IsLast};
 ghost use Rattle.config_core.specs.Plan.{made_in};
 ghost use Rattle.config_db.specs.Writing.{IsWritable, IsWritten};
-ghost use Rattle.config_db.specs.Shown.{CanFollow, IsShown, Keeps, Proposes, ProposesNext, Publishes, PublishesLate, ShowsSettled};
+ghost use Rattle.config_db.specs.Shown.{CanFollow, CanFollowLast, IsShown, Keeps, Proposes, ProposesNext, Publishes, PublishesLate, ShowsSettled};
 
 use crate::writing::write;
 use active_snapshot::{Naming, Shown, SnapWriter};
@@ -82,7 +81,7 @@ fn propose<J: Naming>(
     shown: &mut SnapWriter<J>,
     entry: &Entry,
 ) -> Result<(), NoMemory>
-    requires { (view : Kept) → IsLast shown.old.list view → CanFollow view entry.now }
+    requires { CanFollowLast shown.old.list entry.now }
     ensures ok { OnOk result (ProposesNext entry.now shown.old shown.new) }
     ensures err { OnErr result (shown.new ≡ shown.old) }
 {
@@ -99,8 +98,7 @@ fn propose_entry<J: Naming>(
     shown: &mut SnapWriter<J>,
     prepared: &Prepared,
 ) -> Result<(), NoMemory>
-    requires { IfSome (made_in prepared.now.effect)
-        (λ made. (view : Kept) → IsLast shown.old.list view → CanFollow view made.entry) }
+    requires { IfSome (made_in prepared.now.effect) (λ made. CanFollowLast shown.old.list made.entry) }
     ensures ok { OnOk result (Proposes (made_in prepared.now.effect) shown.old shown.new) }
     ensures err { OnErr result (shown.new ≡ shown.old) }
 {
@@ -144,8 +142,7 @@ pub(crate) fn write_shown<D: Disk, J: Naming, R: Wait>(
 ) -> Result<Outcome, NoMemory>
     requires idle { IsIdle journal.old }
     requires writable { IfSome (made_in prepared.now.effect) (λ made. IsWritable made.entry) }
-    requires follows { IfSome (made_in prepared.now.effect)
-        (λ made. (view : Kept) → IsLast shown.old.list view → CanFollow view made.entry) }
+    requires follows { IfSome (made_in prepared.now.effect) (λ made. CanFollowLast shown.old.list made.entry) }
     requires nothing_waits { shown.old.proposal ≡ None }
     ensures written { IfOk result (λ outcome.
         IsWritten D.tells D.history D.faults (made_in prepared.now.effect) outcome journal.old journal.new) }
