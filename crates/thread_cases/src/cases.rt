@@ -14,6 +14,9 @@ use std::sync::atomic::AtomicU64;
 use std::sync::{Arc, Wait};
 use std::thread::Threads;
 
+/// A session that commits a host name.
+const COMMITS: &[u8] = b"configure\nset system host-name a\ncommit\nexit\n";
+
 /// A session whose source has a text, and gives what is behind a place once a gate opens.
 fn session<R: std::rt::Clock + Clone + Drop>(
     rt: &R,
@@ -25,7 +28,7 @@ fn session<R: std::rt::Clock + Clone + Drop>(
 ) -> Result<Part<Waiting<R>>, Fault> {
     let text = Vec::from_slice(alloc, text)?;
     let source = Waiting::new(text, stop, gate, rt.clone()?);
-    Ok((source, Counting { lines }))
+    Ok((source, Counting::new(alloc, lines)))
 }
 
 /// A ticker that counts its beats, and whose clock answers one moment.
@@ -58,12 +61,7 @@ where
     let beats = count(alloc)?;
     let mut parts = Vec::new(alloc);
     for (own, other) in [(&alice, &bob), (&bob, &alice)] {
-        let gate = Gate {
-            lines: other.clone()?,
-            least: 1,
-            beats: beats.clone()?,
-            more: 0,
-        };
+        let gate = Gate::of_lines(other, 1, &beats)?;
         let text = b"configure\nexit\n";
         parts.push(session(rt, alloc, text, 10, gate, own.clone()?)?)?;
     }
@@ -94,43 +92,8 @@ where
     ran(rt, alloc, "serve d", parts, ticker, disks)
 }
 
-/// A session that commits, and waits for nothing.
-fn committing<R: std::rt::Clock + Clone + Drop>(
-    rt: &R,
-    alloc: Global,
-    lines: &Arc<AtomicU64>,
-    beats: &Arc<AtomicU64>,
-) -> Result<Part<Waiting<R>>, Fault> {
-    let gate = Gate {
-        lines: lines.clone()?,
-        least: 0,
-        beats: beats.clone()?,
-        more: 0,
-    };
-    let text = b"configure\nset system host-name a\ncommit\nexit\n";
-    session(rt, alloc, text, 0, gate, lines.clone()?)
-}
-
-/// A session that shows what is active once a count has come so far.
-fn showing<R: std::rt::Clock + Clone + Drop>(
-    rt: &R,
-    alloc: Global,
-    awaited: &Arc<AtomicU64>,
-    least: u64,
-    beats: &Arc<AtomicU64>,
-    lines: &Arc<AtomicU64>,
-) -> Result<Part<Waiting<R>>, Fault> {
-    let gate = Gate {
-        lines: awaited.clone()?,
-        least,
-        beats: beats.clone()?,
-        more: 0,
-    };
-    let text = b"show configuration\nshow system commit\nexit\n";
-    session(rt, alloc, text, 0, gate, lines.clone()?)
-}
-
-/// A session that shows what is active once another one was answered its commit.
+/// A session that has its second show of what is active once another one was answered its commit, which that one makes once the
+/// first show was answered.
 fn show_behind<R>(rt: &R, alloc: Global) -> Result<Ran<Waiting<R>, Asked<R>, MemDisk>, Fault>
 where
     R: Threads + Wait + Sync + Send + std::rt::Clock + Clone + Drop,
@@ -139,8 +102,11 @@ where
     let bob = count(alloc)?;
     let beats = count(alloc)?;
     let mut parts = Vec::new(alloc);
-    parts.push(committing(rt, alloc, &alice, &beats)?)?;
-    parts.push(showing(rt, alloc, &alice, 2, &beats, &bob)?)?;
+    let shown = Gate::of_lines(&bob, 1, &beats)?;
+    parts.push(session(rt, alloc, COMMITS, 0, shown, alice.clone()?)?)?;
+    let committed = Gate::of_lines(&alice, 2, &beats)?;
+    let text = b"show configuration\nshow system commit\nshow configuration\nexit\n";
+    parts.push(session(rt, alloc, text, 38, committed, bob)?)?;
     let ticker = ticker(rt, beats, 1000)?;
     let disks = made_disks(rt, alloc)?;
     ran(rt, alloc, "serve d alice:a bob:b", parts, ticker, disks)
@@ -179,8 +145,11 @@ where
     let there = count(alloc)?;
     let beats = count(alloc)?;
     let mut parts = Vec::new(alloc);
-    parts.push(committing(rt, alloc, &alice, &beats)?)?;
-    parts.push(showing(rt, alloc, &there, 1, &beats, &bob)?)?;
+    let at_once = Gate::of_lines(&alice, 0, &beats)?;
+    parts.push(session(rt, alloc, COMMITS, 0, at_once, alice)?)?;
+    let within = Gate::of_lines(&there, 1, &beats)?;
+    let text = b"show configuration\nshow system commit\nexit\n";
+    parts.push(session(rt, alloc, text, 0, within, bob.clone()?)?)?;
     let ticker = ticker(rt, beats, 1000)?;
     let (a, b) = made_disks(rt, alloc)?;
     let disks = (held(rt, a, 3, &there, &bob)?, held(rt, b, 0, &there, &bob)?);
@@ -194,6 +163,19 @@ fn say_shown(out: &mut String, turns: &[TurnList]) -> Result<(), Fault> {
             if let Turn::Seen { front, .. } = turn {
                 writeln!(out, "shown of {front} entries")?;
             }
+        }
+    }
+    Ok(())
+}
+
+/// What the last session wrote.
+fn say_written<R>(out: &mut String, ran: &Ran<Waiting<R>, Asked<R>, MemDisk>) -> Result<(), Fault>
+where
+    R: std::rt::Clock + Drop,
+{
+    if let Some(end) = ran.ends.last() {
+        if let Ok(text) = str::from_utf8(&end.sink.text) {
+            out.push_str(text)?;
         }
     }
     Ok(())
@@ -229,9 +211,10 @@ where
     let status = ran.status;
     writeln!(
         out,
-        "a show behind another session's commit: status {status}"
+        "shows before and behind another session's commit: status {status}"
     )?;
     say_shown(out, &ran.turns)?;
+    say_written(out, &ran)?;
     let ran = shows_within(rt, alloc)?;
     let status = ran.status;
     let in_time = ran.disk_a.in_time;

@@ -5,6 +5,8 @@ ghost use Rattle.std.specs.Prelude.{None};
 use cfg_base::Moment;
 use disk_model::{Disk, DiskDone, DiskLen, DiskRead};
 use io_edge::{Beat, Clock, Got, Put, Sink, Source};
+use script_lines::Fault;
+use std::alloc::Global;
 use std::sync::Arc;
 use std::sync::atomic::AtomicU64;
 use std::sync::atomic::Ordering::SeqCst;
@@ -35,6 +37,20 @@ pub(crate) struct Gate {
 }
 
 impl Gate {
+    /// Waits for so many lines alone.
+    pub(crate) fn of_lines(
+        lines: &Arc<AtomicU64>,
+        least: u64,
+        beats: &Arc<AtomicU64>,
+    ) -> Result<Gate, Fault> {
+        Ok(Gate {
+            lines: lines.clone()?,
+            least,
+            beats: beats.clone()?,
+            more: 0,
+        })
+    }
+
     fn opens<R: std::rt::Clock>(&self, clock: &R) -> bool {
         if !waits_for(clock, &self.lines, self.least) {
             return false;
@@ -90,18 +106,35 @@ impl<R: std::rt::Clock + Drop> Source for Waiting<R> {
     }
 }
 
-/// A sink that counts the lines that it took.
+/// A sink that keeps what it took, and counts its lines.
 #[derive(Drop)]
 pub(crate) struct Counting {
     pub lines: Arc<AtomicU64>,
+    pub text: Vec<u8>,
+    faults: u64,
+}
+
+impl Counting {
+    /// A sink that took nothing, and counts its lines here.
+    pub(crate) fn new(alloc: Global, lines: Arc<AtomicU64>) -> Counting {
+        Counting {
+            lines,
+            text: Vec::new(alloc),
+            faults: 0,
+        }
+    }
 }
 
 impl Sink for Counting {
     ghost held = { λ _. None };
 
-    ghost faults = { λ _. 0 };
+    ghost faults = { λ s. s.faults };
 
     fn write(&mut self, piece: &[u8]) -> Put {
+        if self.text.extend_from_slice(piece).is_err() {
+            self.faults = self.faults.saturating_add(1);
+            return Put::Failed;
+        }
         for byte in piece {
             if *byte == b'\n' {
                 self.lines.fetch_add(1, SeqCst);

@@ -107,9 +107,7 @@ pub(crate) fn made_disks<R: Threads + Wait + Sync>(
     let mut parts = Vec::new(alloc);
     parts.push((
         ListSource::new(Vec::new(alloc), Vec::new(alloc)),
-        Counting {
-            lines: Arc::new(alloc, AtomicU64::new(0))?,
-        },
+        Counting::new(alloc, Arc::new(alloc, AtomicU64::new(0))?),
     ))?;
     let ticker = Ticker {
         beat: ListBeat::new(Vec::new(alloc)),
