@@ -65,7 +65,7 @@ pub fn shown<J: Naming>(
     let writer: Writer<Slot, Slot, u8, Of<J>> = Writer::new(alloc, one, two, readers as usize)?;
     let factory = writer.factory().another().ok();
     Ok((
-        SnapWriter::of(writer, shelf, slot),
+        SnapWriter::of(alloc, writer, shelf, slot),
         SnapReaders::of(made, factory),
     ))
 }

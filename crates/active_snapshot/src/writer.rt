@@ -14,6 +14,7 @@ use cfg_base::NoMemory;
 use left_right::writer::Writer;
 use std::alloc::Global;
 use std::marker::Model;
+use std::mem::replace;
 use std::sync::{Arc, Wait};
 
 /// Keeps and publishes views, one after another. It is not `Drop`: end it by `end`.
@@ -24,6 +25,8 @@ pub struct SnapWriter<J: Naming> {
     proposal: Option<Arc<Shown, Global>>,
     late: bool,
     published: u64,
+    /// Views that were the last one and that others may have still.
+    past: Vec<Arc<Shown, Global>>,
 }
 
 impl<J: Naming> Model for SnapWriter<J> {
@@ -84,9 +87,20 @@ fn publish_slot<J: Naming, R: Wait>(
     }
 }
 
+/// Lays a view by that was the last one, and drops those that nobody else has any more. So it is the writer that gives the memory of
+/// a view back: readers that did would take what belongs to the writer's thread for their own, and wait there for one another.
+fn lay_by(past: &mut Vec<Arc<Shown, Global>>, last: Slot) {
+    past.retain(|view| Arc::strong_count(view) > 1);
+    let Slot { shown, front: _ } = last;
+    if past.reserve(1).is_ok() {
+        past.push_reserved(shown);
+    }
+}
+
 impl<J: Naming> SnapWriter<J> {
     /// A writer whose first view is published.
     pub(crate) fn of(
+        alloc: Global,
         writer: Writer<Slot, Slot, u8, Of<J>>,
         shelf: Shelf,
         slot: Slot,
@@ -102,6 +116,7 @@ impl<J: Naming> SnapWriter<J> {
             proposal: None,
             late: false,
             published: 1,
+            past: Vec::new(alloc),
         }
     }
 
@@ -170,7 +185,7 @@ impl<J: Naming> SnapWriter<J> {
             for _ in rt.forever() {}
             unreachable!()
         };
-        self.slot = slot;
+        lay_by(&mut self.past, replace(&mut self.slot, slot));
     }
 
     /// Shows readers what was kept.
@@ -199,6 +214,7 @@ impl<J: Naming> SnapWriter<J> {
             proposal: _,
             late: _,
             published: _,
+            past: _,
         } = self;
         match writer {
             Some(writer) => {
