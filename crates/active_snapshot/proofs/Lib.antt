@@ -1,5 +1,6 @@
 mod AddingLemmas
 mod PrefixLemmas
+mod PublishLemmas
 mod ReadLemmas
 pub mod SendLemmas
 mod ViewLemmas

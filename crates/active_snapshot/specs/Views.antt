@@ -1,5 +1,5 @@
 -- The list of views that are kept from an opening on; the last one is what is shown. This is the project's own.
-use Rattle.std.specs.Prelude.{◌≡◌, ◌⊎◌, ⊤, List, [], ◌∷◌, ◌++◌, Option, Some, None}
+use Rattle.std.specs.Prelude.{◌≡◌, ◌⊎◌, ⊤, ℕ, length, List, [], ◌∷◌, ◌++◌, Option, Some, None}
 use Rattle.std.specs.List.{last_or}
 use mathlib.Core.List.{IsPrefix}
 use Rattle.commit_ledger.specs.declared.entry.Entry.{Entry}
@@ -31,6 +31,10 @@ ComesNext views next = (last : Kept) × IsLast views last × IsNextView last nex
 abbrev pub with_proposal : List Kept → Option Kept → List Kept
 with_proposal views None = views
 with_proposal views (Some next) = views ++ next ∷ []
+
+-- these are the first views of a list, so many
+abbrev pub AreFirst : ℕ → List Kept → List Kept → Type 0
+AreFirst count views first = IsPrefix first views × (length first ≡ count)
 
 -- the longer of two beginnings of one list
 abbrev pub IsLonger : List Kept → List Kept → List Kept → Type 0

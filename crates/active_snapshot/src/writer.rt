@@ -1,6 +1,6 @@
 //! The writer.
 
-ghost use Rattle.std.specs.Prelude.{◌≡◌, ◌≤◌, ◌<◌, ◌+◌, ◌^◌, ◌++◌, ◌∷◌, [], length, Some, None, OnOk, OnErr, true, false};
+ghost use Rattle.std.specs.Prelude.{◌≡◌, ◌≤◌, ◌<◌, ◌+◌, ◌^◌, ◌++◌, ◌∷◌, [], length, Some, None, IsSome, MatchOption, OnOk, OnErr, true, false};
 ghost use Rattle.std.specs.Arc.{arc_value};
 ghost use Rattle.active_snapshot.specs.States.{all_published, first_written, with_kept};
 ghost use Rattle.active_snapshot.specs.Views.{AreViews, ComesNext, IsLast, with_proposal};
@@ -30,13 +30,13 @@ pub struct SnapWriter<J: Naming> {
 }
 
 impl<J: Naming> Model for SnapWriter<J> {
-    ghost use Rattle.std.specs.Prelude.{◌≡◌, ◌≤◌, length, false, IfSome};
+    ghost use Rattle.std.specs.Prelude.{◌≡◌, ◌≤◌, length, false, IfSome, MatchOption};
     ghost use Rattle.std.specs.Arc.{arc_value};
     ghost use Rattle.std.specs.Option.{option_map};
     ghost use Rattle.std.specs.Coded.{codes};
     ghost use Rattle.cfg_tree.specs.Statements.{statements_code};
     ghost use Rattle.active_snapshot.specs.States.{WriterState};
-    ghost use Rattle.active_snapshot.specs.Views.{ComesNext};
+    ghost use Rattle.active_snapshot.specs.Views.{AreFirst, ComesNext};
 
     ghost Value = { WriterState };
 
@@ -51,7 +51,8 @@ impl<J: Naming> Model for SnapWriter<J> {
 
     ghost invariant = { λ w. (w.slot.book ≡ J.book) × (w.shelf ≡ J.book)
         × IfSome w.proposal (λ shown. ComesNext w.slot.list (arc_value shown))
-        × (w.published ≤ length w.slot.list) × (w.late ≡ false → w.published ≡ length w.slot.list) };
+        × (w.published ≤ length w.slot.list) × (w.late ≡ false → w.published ≡ length w.slot.list)
+        × MatchOption w.writer ⊥ (λ writer. AreFirst w.published w.slot.list writer.desk.shown.value.list) };
 }
 
 /// Puts a value where there is none.
@@ -69,10 +70,14 @@ fn publish_slot<J: Naming, R: Wait>(
     writer: &mut Option<Writer<Slot, Slot, u8, Of<J>>>,
     slot: Slot,
 ) -> bool
-    requires { slot.book ≡ J.book }
+    requires book { slot.book ≡ J.book }
+    requires there { IsSome writer.old }
+    ensures done { result ≡ true → MatchOption writer.new ⊥ (λ writer. writer.desk.shown.value ≡ slot) }
+    ensures kept { result ≡ false → MatchOption writer.old ⊥ (λ old. MatchOption writer.new ⊥
+        (λ new. new.desk.shown.value ≡ old.desk.shown.value)) }
 {
     let Some(mut open) = writer.take() else {
-        return false;
+        unreachable!()
     };
     match open.append(slot) {
         Ok(()) => {
@@ -107,6 +112,7 @@ impl<J: Naming> SnapWriter<J> {
     ) -> SnapWriter<J>
         requires book { (slot.book ≡ J.book) × (shelf ≡ J.book) }
         requires one { length slot.list ≡ 1 }
+        requires shown { writer.desk.shown.value ≡ slot }
         ensures { result ≡ record { list = slot.list; proposal = None; late = false; published = 1 } }
     {
         SnapWriter {

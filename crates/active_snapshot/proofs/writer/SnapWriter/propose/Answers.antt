@@ -7,4 +7,4 @@ pub invariant_of-self : goal.invariant_of-self
 invariant_of-self g c =
     let same_list = ap (λ (w : WriterState). w.list) c.self.view_is in
     let comes = ComesNext-same c.self.inside.slot.list _ _ c.args.next same_list c.in_ok-new.ensures.ok c.requires.next in
-    (c.self.invariant.0, c.self.invariant.1, comes, c.self.invariant.3, c.self.invariant.4)
+    (c.self.invariant.0, c.self.invariant.1, comes, c.self.invariant.3, c.self.invariant.4, c.self.invariant.5)
