@@ -3,4 +3,4 @@
 set -eu
 . "$(dirname "$0")/router.sh"
 
-time_line 'commit check'
+time_line 'commit check' 120000

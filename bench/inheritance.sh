@@ -3,4 +3,4 @@
 set -eu
 . "$(dirname "$0")/router.sh"
 
-time_line 'show | display inheritance'
+time_line 'show | display inheritance' 60000

@@ -20,19 +20,19 @@ session() {
     }'
 }
 
-# nanoseconds an interface of a line: what a session that asks it 30,000 interfaces' worth takes longer than one that doesn't
+# nanoseconds an interface of a line: what a session that asks it so many interfaces' worth takes longer than one that doesn't
 cost() {
-    echo $((($(least_run "$1-with") - $(least_run "$1-without")) / 30000))
+    echo $((($(least_run "$1-with") - $(least_run "$1-without")) / $2))
 }
 
-# what a line takes at 300 and at 3,000 interfaces: sessions of few and of many that ask it, and that don't, take turns, and often, since
-# what else runs on a machine takes the cache that they share
+# what a line takes at 300 and at 3,000 interfaces, asked so many interfaces' worth: sessions of few and of many that ask it, and that
+# don't, take turns, and often, since what else runs on a machine takes the cache that they share
 time_line() {
-    local line=$1 count round few many
+    local line=$1 worth=$2 count round few many
     rm -f "$work"/*.times
     for count in 300 3000; do
         session "$count" 0 "$line" > "$work/$count-without"
-        session "$count" $((30000 / count)) "$line" > "$work/$count-with"
+        session "$count" $((worth / count)) "$line" > "$work/$count-with"
     done
     for ((round = 0; round < 15; round++)); do
         for count in 300 3000; do
@@ -40,8 +40,8 @@ time_line() {
             serve "$count-with"
         done
     done
-    few=$(cost 300)
-    many=$(cost 3000)
+    few=$(cost 300 "$worth")
+    many=$(cost 3000 "$worth")
     awk -v line="$line" -v few="$few" -v many="$many" 'BEGIN {
         printf "%s: %.2f microseconds an interface of 300, %.2f of 3,000\n", line, few / 1000, many / 1000
         printf "3,000 interfaces take %.1f times as long as 300\n", 10 * many / few

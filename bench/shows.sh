@@ -3,5 +3,5 @@
 set -eu
 . "$(dirname "$0")/router.sh"
 
-time_line 'show'
-time_line 'show | display set'
+time_line 'show' 240000
+time_line 'show | display set' 240000

@@ -36,6 +36,6 @@ session() {
     echo exit
 }
 
-time_line 'load override terminal'
-time_line 'show'
-time_line 'show | display set'
+time_line 'load override terminal' 60000
+time_line 'show' 240000
+time_line 'show | display set' 240000
