@@ -18,10 +18,15 @@ serve() {
     python3 - "$work/$1" "$work/output" taskset -c 0 "$program" serve "$work/journal" << 'END' >> "$work/$1.times"
 import resource, subprocess, sys
 
+def spent():
+    # what a wrapper of python3 ran before is a child's time too
+    times = resource.getrusage(resource.RUSAGE_CHILDREN)
+    return times.ru_utime + times.ru_stime
+
+before = spent()
 with open(sys.argv[1]) as lines, open(sys.argv[2], "w") as output:
     subprocess.run(sys.argv[3:], stdin=lines, stdout=output, check=True)
-spent = resource.getrusage(resource.RUSAGE_CHILDREN)
-print(round((spent.ru_utime + spent.ru_stime) * 1e9))
+print(round((spent() - before) * 1e9))
 END
     if grep -q error "$work/output"; then
         echo "a line was refused" >&2

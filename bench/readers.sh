@@ -52,13 +52,18 @@ rates() {
         END { printf "%.0f %.0f\n", read ? shows / read : 0, written ? commits / written : 0 }'
 }
 
-# the shows alone, then both, as long as each takes alone, and the commits alone
+# the commits alone, the shows alone, then both, each for some three seconds: a first short run tells how many these are, and isn't
+# told, since a run's beginning counts in it
 alone=$(rates 0 0 2000)
+commits=$((3 * ${alone#* }))
+alone=$(rates 0 0 "$commits")
 alone=${alone#* }
 for readers in 1 4; do
     few=$(rates "$readers" $((200000 / readers)) 0)
+    each=$((3 * ${few% *} / readers))
+    few=$(rates "$readers" "$each" 0)
     few=${few% *}
-    both=$(rates "$readers" $((3 * few / readers)) $((3 * alone)))
+    both=$(rates "$readers" "$each" "$commits")
     awk -v readers="$readers" -v few="$few" -v both="${both% *}" -v alone="$alone" -v beside="${both#* }" 'BEGIN {
         printf "%d that show: %d shows a second, beside commits %d, ratio %.2f; commits %d a second, beside shows %d, ratio %.2f\n",
             readers, few, both, both / few, alone, beside, beside / alone }'
