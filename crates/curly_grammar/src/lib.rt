@@ -25,4 +25,4 @@ pub use fault::TextFault;
 pub use laws::texts_say_one_thing;
 pub use level::Level;
 pub use marked::{Marked, Paths};
-pub use reading::parse;
+pub use reading::{parse, parse_beside};

@@ -143,14 +143,14 @@ fn refusal(alloc: Global, reader: Reader, why: Why, byte: usize) -> TextFault
     }
 }
 
-/// What the statements of a whole text make.
-fn made(alloc: Global, reader: Reader) -> Result<Marked, TextFault>
+/// What the statements of a whole text make, beside an older tree.
+fn made(alloc: Global, older: &Tree, reader: Reader) -> Result<Marked, TextFault>
     requires { AreSaid finite.empty reader.items.items }
     ensures { Makes (run_in reader) result }
 {
     let Reader { items, tags, .. } = reader;
     match are_many(alloc, &items) {
-        Ok(false) => match Tree::of_statements(alloc, &Tree::empty(alloc), items) {
+        Ok(false) => match Tree::of_statements(alloc, older, items) {
             Ok(tree) => Ok(Marked {
                 tree,
                 replaced: Paths::of(tags),
@@ -175,6 +175,7 @@ fn byte_of(text: &[u8], tokens: &[Token], at: usize) -> usize
 /// What the tokens of a text say that were read, all of them or up to one.
 fn outcome(
     alloc: Global,
+    older: &Tree,
     text: &[u8],
     tokens: &[Token],
     reader: Reader,
@@ -191,7 +192,7 @@ fn outcome(
         }
         None => {
             if is_final(&reader) {
-                return made(alloc, reader);
+                return made(alloc, older, reader);
             }
             Err(refusal(alloc, reader, Why::Unexpected, text.len()))
         }
@@ -199,14 +200,19 @@ fn outcome(
 }
 
 /// What the tokens of a text say.
-fn parse_tokens(alloc: Global, text: &[u8], tokens: &[Token]) -> Result<Marked, TextFault>
+fn parse_tokens(
+    alloc: Global,
+    older: &Tree,
+    text: &[u8],
+    tokens: &[Token],
+) -> Result<Marked, TextFault>
     requires tokens { IsTokens text.now tokens.now }
     requires placed { All (IsPlaced text.now) tokens.now }
     ensures { Parses text.now result }
 {
     let mut reader = Reader::new(alloc);
     match read(alloc, text, tokens, &mut reader) {
-        Ok(end) => outcome(alloc, text, tokens, reader, end),
+        Ok(end) => outcome(alloc, older, text, tokens, reader, end),
         Err(_) => Err(TextFault::NoMemory),
     }
 }
@@ -217,8 +223,17 @@ pub fn parse(alloc: Global, text: &[u8]) -> Result<Marked, TextFault>
     ensures few { IfOk result (λ marked. size_of marked.tree ≤ MAX_STATEMENTS) }
     ensures fault { IfErr result (λ fault. fault ≢ TextFault.NoMemory → IsLeftmostFault text.now fault) }
 {
+    parse_beside(alloc, &Tree::empty(alloc), text)
+}
+
+/// The same. Statements that the older tree has too are shared with it.
+pub fn parse_beside(alloc: Global, older: &Tree, text: &[u8]) -> Result<Marked, TextFault>
+    ensures read { IfOk result (λ marked. Reads text.now marked.tree marked.replaced) }
+    ensures few { IfOk result (λ marked. size_of marked.tree ≤ MAX_STATEMENTS) }
+    ensures fault { IfErr result (λ fault. fault ≢ TextFault.NoMemory → IsLeftmostFault text.now fault) }
+{
     match tokens(alloc, text) {
-        Ok(tokens) => parse_tokens(alloc, text, tokens.as_slice()),
+        Ok(tokens) => parse_tokens(alloc, older, text, tokens.as_slice()),
         Err(fault) => Err(of_lexical(fault)),
     }
 }

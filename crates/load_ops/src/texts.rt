@@ -12,7 +12,7 @@ use crate::blocked::allowed;
 use crate::fault::LoadFault;
 use crate::left::left_of;
 use cfg_tree::{Draft, Tree};
-use curly_grammar::{Marked, TextFault, parse};
+use curly_grammar::{Marked, TextFault, parse_beside};
 use std::alloc::Global;
 
 /// What a text says.
@@ -21,7 +21,16 @@ fn read(alloc: Global, text: &[u8]) -> Result<Marked, LoadFault>
     ensures few { IfOk result (λ marked. size_of marked.tree ≤ MAX_STATEMENTS) }
     ensures err { IfErr result (IsReadFault text.now) }
 {
-    match parse(alloc, text) {
+    read_beside(alloc, &Tree::empty(alloc), text)
+}
+
+/// The same. Statements that the older tree has too are shared with it.
+fn read_beside(alloc: Global, older: &Tree, text: &[u8]) -> Result<Marked, LoadFault>
+    ensures reads { IfOk result (λ marked. Reads text.now marked.tree marked.replaced) }
+    ensures few { IfOk result (λ marked. size_of marked.tree ≤ MAX_STATEMENTS) }
+    ensures err { IfErr result (IsReadFault text.now) }
+{
+    match parse_beside(alloc, older, text) {
         Ok(marked) => Ok(marked),
         Err(TextFault::NoMemory) => Err(LoadFault::NoMemory),
         Err(fault) => Err(LoadFault::Text(fault)),
@@ -39,12 +48,12 @@ pub fn merged(alloc: Global, tree: &Tree, text: &[u8]) -> Result<Tree, LoadFault
     }
 }
 
-/// The statements of a text in place of all that are there.
+/// The statements of a text in place of all that are there. Most of them are often there already, and are shared.
 pub fn overridden(alloc: Global, tree: &Tree, text: &[u8]) -> Result<Tree, LoadFault>
     ensures ok { IfOk result (IsTextLoad Override tree.now text.now) }
     ensures err { IfErr result (IsTextLoadFault Override tree.now text.now) }
 {
-    match read(alloc, text) {
+    match read_beside(alloc, tree, text) {
         Ok(marked) => allowed(tree, Draft::of(alloc, marked.tree)),
         Err(fault) => Err(fault),
     }
