@@ -7,3 +7,4 @@ pub mod SoundLemmas
 pub mod OtherLemmas
 pub mod RollbackLemmas
 pub mod ModeLemmas
+pub mod ExpansionLemmas

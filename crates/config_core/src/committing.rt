@@ -3,6 +3,8 @@
 ghost use Rattle.std.specs.Prelude.{◌≡◌, IsSome, IfOk};
 ghost use Rattle.std.specs.Option.{option_map};
 ghost use Rattle.cfg_base.specs.Kind.{IsName};
+ghost use Rattle.cfg_tree.specs.Full.{IsWithin};
+ghost use Rattle.group_expand.specs.Expansion.{IsExpansion};
 ghost use Rattle.commit_check.specs.Accepts.{IsCheckFault};
 ghost use Rattle.commit_ledger.specs.Kept.{NumberFits, RoomFor, revert_of};
 ghost use Rattle.config_core.specs.declared.effect.Appending.{Appending};
@@ -19,8 +21,8 @@ use crate::own::fresh_of;
 use crate::prepared::{Prepared, refused, step};
 use crate::reply::{Refusal, Reply};
 use cfg_base::{Moment, NoMemory, Word};
-use cfg_tree::Tree;
-use commit_check::{CheckFault, check};
+use cfg_tree::{Full, Tree};
+use commit_check::{CheckFault, accepted_configurations_fit, check};
 use commit_ledger::{Commit, Confirm, Entry, MAX_ENTRIES, Via};
 use private_merge::merge;
 
@@ -173,6 +175,28 @@ impl Core {
         self.made(caller, moment, Entry::Commit(commit), quit, reply)
     }
 
+    // The same, with the expansion that the check has made.
+    fn committed_with(
+        &self,
+        caller: u32,
+        moment: Moment,
+        tree: &Tree,
+        full: Full,
+        minutes: u32,
+        comment: &Word,
+        quit: bool,
+    ) -> Result<Prepared, NoMemory>
+        requires caller { IsCaller self.now caller }
+        requires expansion { IsExpansion tree.now full × IsWithin full }
+        ensures { IfOk result (Prepares self.now moment (λ turned. turned
+            ≡ committed (later self.now moment) caller tree.now minutes comment.now quit)) }
+    {
+        match self.committed(caller, moment, tree, minutes, comment, quit) {
+            Ok(prepared) => Ok(prepared.with_expansion(full)),
+            Err(NoMemory) => Err(NoMemory),
+        }
+    }
+
     fn commit_of(
         &self,
         caller: u32,
@@ -187,7 +211,10 @@ impl Core {
             (committed (later self.now moment) caller tree.now minutes comment.now quit))) }
     {
         match check(self.alloc, tree) {
-            Ok(_) => self.committed(caller, moment, tree, minutes, comment, quit),
+            Ok(full) => {
+                accepted_configurations_fit();
+                self.committed_with(caller, moment, tree, full, minutes, comment, quit)
+            }
             Err(fault) => self.broken(caller, moment, tree, fault),
         }
     }

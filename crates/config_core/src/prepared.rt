@@ -1,12 +1,13 @@
-ghost use Rattle.std.specs.Prelude.{◌≡◌};
+ghost use Rattle.std.specs.Prelude.{◌≡◌, IfSome};
 ghost use Rattle.std.specs.Option.{option_map};
 ghost use Rattle.config_core.specs.declared.effect.Effect.TheVariants.{Stay};
 ghost use Rattle.config_core.specs.declared.reply.Reply.TheVariants.{Refused};
-ghost use Rattle.config_core.specs.Plan.{made_in};
+ghost use Rattle.config_core.specs.Plan.{ExpandsMade, made_in};
 
 use crate::effect::Effect;
 use crate::reply::{Refusal, Reply};
 use cfg_base::Moment;
+use cfg_tree::Full;
 use commit_ledger::Entry;
 use std::marker::Model;
 
@@ -17,18 +18,23 @@ pub struct Prepared {
     pub(crate) moment: Moment,
     pub(crate) effect: Effect,
     pub(crate) reply: Reply,
+    /// The expansion of the configuration that it commits, which the check of that has made.
+    pub(crate) full: Option<Full>,
 }
 
 impl Model for Prepared {
+    ghost use Rattle.std.specs.Prelude.{IfSome};
     ghost use Rattle.std.specs.Coded.{codes};
     ghost use Rattle.cfg_tree.specs.Statements.{statements_code};
-    ghost use Rattle.config_core.specs.Plan.{Plan};
+    ghost use Rattle.config_core.specs.Plan.{ExpandsMade, Plan};
 
     ghost Value = { Plan };
 
     ghost coded = { Prim.hlevel (codes, statements_code) };
 
     ghost view = { λ p. record { caller = p.caller; moment = p.moment; effect = p.effect; reply = p.reply } };
+
+    ghost invariant = { λ p. IfSome p.full (ExpandsMade p.effect) };
 }
 
 impl Prepared {
@@ -46,6 +52,35 @@ impl Prepared {
             | Effect::Settle(_) => None,
         }
     }
+
+    /// Hands out the expansion of the configuration that it commits, where its check has made it.
+    pub fn take_expansion(&mut self) -> Option<Full>
+        ensures same { self.new ≡ self.old }
+        ensures expansion { IfSome result (ExpandsMade self.old.effect) }
+    {
+        self.full.take()
+    }
+
+    // The same step, with the expansion of the configuration that it commits.
+    pub(crate) fn with_expansion(self, full: Full) -> Prepared
+        requires { ExpandsMade self.effect full }
+        ensures { result ≡ self }
+    {
+        let Prepared {
+            caller,
+            moment,
+            effect,
+            reply,
+            full: _,
+        } = self;
+        Prepared {
+            caller,
+            moment,
+            effect,
+            reply,
+            full: Some(full),
+        }
+    }
 }
 
 // A step with this effect and this reply.
@@ -57,6 +92,7 @@ pub(crate) fn step(caller: u32, moment: Moment, effect: Effect, reply: Reply) ->
         moment,
         effect,
         reply,
+        full: None,
     }
 }
 

@@ -28,6 +28,7 @@ impl Core {
             moment,
             effect,
             reply,
+            full: _,
         } = prepared;
         self.greatest = moment;
         match effect {

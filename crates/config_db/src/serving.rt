@@ -12,7 +12,7 @@ ghost use Rattle.session_history.specs.Events.{is_command};
 use crate::answer::{Answered, Ticked};
 use crate::database::Database;
 use crate::showing::{publish_late, show_settled, write_shown};
-use crate::turning::{let_go, note, settling, unwritten};
+use crate::turning::{let_go, note, prepare, settling, unwritten};
 use crate::writing::find_out;
 use active_snapshot::Naming;
 use cfg_base::{Moment, NoMemory};
@@ -49,14 +49,15 @@ impl<D: Disk, J: Naming> Database<D, J> {
         histories_have_one_outcome();
         // One place more for the settling of what may be in flight then.
         self.events.reserve(2)?;
-        match self.core.prepare(caller, moment, &event) {
+        match prepare(&self.core, caller, moment, &event) {
             Err(NoMemory) => Err(NoMemory),
-            Ok(prepared) => match write_shown(
+            Ok((prepared, full)) => match write_shown(
                 rt,
                 self.alloc,
                 &mut self.journal,
                 &mut self.shown,
                 &prepared,
+                full,
             ) {
                 Err(NoMemory) => Err(unwritten(event, prepared)),
                 Ok(outcome) => {

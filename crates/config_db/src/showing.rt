@@ -13,7 +13,7 @@ ghost use Rattle.commit_check.specs.Accepts.{Accepts};
 ghost use Rattle.commit_journal.specs.Journal.{IsIdle};
 ghost use Rattle.commit_ledger.specs.Kept.{BringsMap, append_entry};
 ghost use Rattle.active_snapshot.specs.Expanded.{ComesWith};
-ghost use Rattle.config_core.specs.Plan.{made_in};
+ghost use Rattle.config_core.specs.Plan.{Expands, ExpandsMade, made_in};
 ghost use Rattle.config_db.specs.Writing.{IsWritable, IsWritten};
 ghost use Rattle.config_db.specs.Shown.{CanFollow, CanFollowLast, IsShown, Keeps, Proposes, ProposesNext, Publishes, PublishesLate, ShowsSettled};
 
@@ -54,24 +54,44 @@ pub(crate) fn first_view(alloc: Global, ledger: &Ledger) -> Result<Shown, NoMemo
     Shown::first(alloc, ledger, full)
 }
 
+/// The expansion of a commit's configuration: the one that is given, where there is one.
+fn given_or_expanded(alloc: Global, tree: &Tree, given: Option<Full>) -> Result<Full, NoMemory>
+    requires accepted { Accepts tree.now }
+    requires given { IfSome given (λ full. IsExpansion tree.now full × IsWithin full) }
+    ensures full { IfOk result (IsExpansion tree.now) }
+    ensures within { IfOk result IsWithin }
+{
+    match given {
+        Some(full) => Ok(full),
+        None => expanded(alloc, tree),
+    }
+}
+
 /// The expansion that an entry brings: of a commit's configuration.
-fn expansion_of(alloc: Global, entry: &Entry) -> Result<Option<Full>, NoMemory>
-    requires { BringsMap Accepts entry.now }
+fn expansion_of(alloc: Global, entry: &Entry, given: Option<Full>) -> Result<Option<Full>, NoMemory>
+    requires accepted { BringsMap Accepts entry.now }
+    requires given { IfSome given (λ full. Expands full entry.now) }
     ensures full { IfOk result (ComesWith entry.now) }
     ensures within { IfOk result (λ full. IfSome full IsWithin) }
 {
     match entry {
-        Entry::Commit(commit) => Ok(Some(expanded(alloc, &commit.tree)?)),
+        Entry::Commit(commit) => Ok(Some(given_or_expanded(alloc, &commit.tree, given)?)),
         Entry::Confirm(_) => Ok(None),
     }
 }
 
 /// The view after an entry.
-fn view_after(alloc: Global, view: &Shown, entry: &Entry) -> Result<Shown, NoMemory>
-    requires { CanFollow view.now entry.now }
+fn view_after(
+    alloc: Global,
+    view: &Shown,
+    entry: &Entry,
+    given: Option<Full>,
+) -> Result<Shown, NoMemory>
+    requires follows { CanFollow view.now entry.now }
+    requires given { IfSome given (λ full. Expands full entry.now) }
     ensures { IfOk result (λ next. next ≡ append_entry view.now entry.now) }
 {
-    let full = expansion_of(alloc, entry)?;
+    let full = expansion_of(alloc, entry, given)?;
     view.then(alloc, entry, full)
 }
 
@@ -80,31 +100,35 @@ fn propose<J: Naming>(
     alloc: Global,
     shown: &mut SnapWriter<J>,
     entry: &Entry,
+    given: Option<Full>,
 ) -> Result<(), NoMemory>
-    requires { CanFollowLast shown.old.list entry.now }
+    requires follows { CanFollowLast shown.old.list entry.now }
+    requires given { IfSome given (λ full. Expands full entry.now) }
     ensures ok { OnOk result (ProposesNext entry.now shown.old shown.new) }
     ensures err { OnErr result (shown.new ≡ shown.old) }
 {
     if shown.is_late() {
         return Err(NoMemory);
     }
-    let next = view_after(alloc, shown.view(), entry)?;
+    let next = view_after(alloc, shown.view(), entry, given)?;
     shown.propose(alloc, next)
 }
 
-/// Proposes the view after the entry that a step makes, if it makes one.
+/// Proposes the view after the entry that a step makes, if it makes one. The expansion that comes with the step is taken.
 fn propose_entry<J: Naming>(
     alloc: Global,
     shown: &mut SnapWriter<J>,
     prepared: &Prepared,
+    given: Option<Full>,
 ) -> Result<(), NoMemory>
-    requires { IfSome (made_in prepared.now.effect) (λ made. CanFollowLast shown.old.list made.entry) }
+    requires given { IfSome given (ExpandsMade prepared.now.effect) }
+    requires follows { IfSome (made_in prepared.now.effect) (λ made. CanFollowLast shown.old.list made.entry) }
     ensures ok { OnOk result (Proposes (made_in prepared.now.effect) shown.old shown.new) }
     ensures err { OnErr result (shown.new ≡ shown.old) }
 {
     match prepared.entry() {
         None => Ok(()),
-        Some(entry) => propose(alloc, shown, entry),
+        Some(entry) => propose(alloc, shown, entry, given),
     }
 }
 
@@ -139,7 +163,9 @@ pub(crate) fn write_shown<D: Disk, J: Naming, R: Wait>(
     journal: &mut Journal<D>,
     shown: &mut SnapWriter<J>,
     prepared: &Prepared,
+    given: Option<Full>,
 ) -> Result<Outcome, NoMemory>
+    requires given { IfSome given (ExpandsMade prepared.now.effect) }
     requires idle { IsIdle journal.old }
     requires writable { IfSome (made_in prepared.now.effect) (λ made. IsWritable made.entry) }
     requires follows { IfSome (made_in prepared.now.effect) (λ made. CanFollowLast shown.old.list made.entry) }
@@ -150,7 +176,7 @@ pub(crate) fn write_shown<D: Disk, J: Naming, R: Wait>(
     ensures err { OnErr result (journal.new ≡ journal.old) }
     ensures withdrawn { OnErr result (shown.new ≡ shown.old) }
 {
-    let Ok(()) = propose_entry(alloc, shown, prepared) else {
+    let Ok(()) = propose_entry(alloc, shown, prepared, given) else {
         return Err(NoMemory);
     };
     match write(alloc, journal, prepared) {

@@ -1,12 +1,34 @@
 //! Steps of the machine.
 
-ghost use Rattle.std.specs.Prelude.{◌≡◌, ◌<◌, ◌+◌, ◌++◌, ◌∷◌, [], vec_len, vec_capacity};
+ghost use Rattle.std.specs.Prelude.{◌≡◌, ◌<◌, ◌+◌, ◌++◌, ◌∷◌, [], IfOk, IfSome, vec_len, vec_capacity};
 ghost use Rattle.config_core.specs.Machine.{Fits};
+ghost use Rattle.config_core.specs.Plan.{ExpandsMade};
 ghost use Rattle.config_core.specs.Prepared.{Follows, IsPrepared, IsSettling, applied, replied};
 
 use cfg_base::{Moment, NoMemory};
+use cfg_tree::Full;
 use config_core::{Core, Event, Prepared, Reply};
 use session_history::Happened;
+
+/// Makes a step ready, and hands out the expansion of the configuration that it commits, where its check has made it.
+pub(crate) fn prepare(
+    core: &Core,
+    caller: u32,
+    moment: Moment,
+    event: &Event,
+) -> Result<(Prepared, Option<Full>), NoMemory>
+    requires { Fits core.now caller moment event.now }
+    ensures ok { IfOk result (λ ready. IsPrepared core.now caller moment event.now ready.0) }
+    ensures expansion { IfOk result (λ ready. IfSome ready.1 (ExpandsMade ready.0.effect)) }
+{
+    match core.prepare(caller, moment, event) {
+        Err(NoMemory) => Err(NoMemory),
+        Ok(mut prepared) => {
+            let full = prepared.take_expansion();
+            Ok((prepared, full))
+        }
+    }
+}
 
 /// Carries a prepared step out, and notes what happened.
 pub(crate) fn note(

@@ -6,7 +6,7 @@ use Rattle.config_core.proofs.core_state.Core.commit_of.Goals as goal
 pub returns-in-Ok : goal.returns-in-Ok
 returns-in-Ok c =
     let s = later c.args.self.now c.args.moment in
-    prepares_as c.args.self.now c.args.moment _ _ c.committed.result
-    (λ turned is. checks_accepted s c.args.tree.now c.in-Ok.field-0
+    prepares_as c.args.self.now c.args.moment _ _ c.committed_with.result
+    (λ turned is. checks_accepted s c.args.tree.now c.in-Ok.full
     (committed s c.args.caller c.args.tree.now c.args.minutes c.args.comment.now c.args.quit) turned c.in-Ok.ensures.ok is)
-    c.committed.ensures
+    c.committed_with.ensures
