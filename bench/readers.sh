@@ -1,7 +1,9 @@
 #!/usr/bin/env bash
 # Shows of the active configuration a second, by 1 and by 4 sessions at once, alone and beside a session each of whose commits is kept
-# on the disk, and what that session keeps of the rate that it has alone. A show takes no turn, so none waits for a commit. The folder
-# named, or this one, decides which file system keeps the commits.
+# on the disk, and what that session keeps of the rate that it has alone. A show takes no turn, so none waits for a commit. What shows
+# keep beside commits of another service, which shares nothing with theirs but the machine, is told beside it. One line has the shows a
+# second of a session that is asked and answers over named pipes. The folder named, or this one, decides which file system keeps the
+# commits.
 set -eu
 place=$(cd "${1:-.}" && pwd)
 . "$(dirname "$0")/measure.sh"
@@ -22,24 +24,36 @@ commits() {
     done
 }
 
-# shows a second of so many sessions together, each with that many, and commits a second of a session with so many beside them: each
-# kind by its own last end
+# a new journal, with one commit
+journal() {
+    mkdir "$1"
+    "$program" init "$1" > "$work/output"
+    printf 'configure\nset system host-name r1\ncommit\n' | "$program" serve "$1" > "$work/output"
+}
+
+# shows a second of so many sessions together, each with that many, and commits a second of a session with so many: beside them in one
+# service, or at the same time in another one. Each kind by its own last end
 rates() {
-    local readers=$1 each=$2 count=$3 number begun words=()
-    rm -rf "$folder/journal" "$work"/reader* "$work"/writer*
-    mkdir "$folder/journal"
-    "$program" init "$folder/journal" > "$work/output"
-    printf 'configure\nset system host-name r1\ncommit\n' | "$program" serve "$folder/journal" > "$work/output"
+    local readers=$1 each=$2 count=$3 where=${4:-beside} number begun words=()
+    rm -rf "$folder"/* "$work"/reader* "$work"/writer*
+    journal "$folder/journal"
+    journal "$folder/other"
     for ((number = 1; number <= readers; number++)); do
         shows "$each" > "$work/reader$number"
         words+=("reader$number:$work/reader$number")
     done
     if [ "$count" -gt 0 ]; then
         commits "$count" > "$work/writer"
-        words+=("writer:$work/writer")
+        if [ "$where" = beside ]; then
+            words+=("writer:$work/writer")
+        fi
     fi
     begun=$(date +%s.%N)
+    if [ "$where" = apart ]; then
+        "$program" serve "$folder/other" "writer:$work/writer" &
+    fi
     "$program" serve "$folder/journal" "${words[@]}"
+    wait
     if grep -q error "$work"/*.out; then
         echo "a line was refused" >&2
         exit 1
@@ -52,19 +66,57 @@ rates() {
         END { printf "%.0f %.0f\n", read ? shows / read : 0, written ? commits / written : 0 }'
 }
 
-# the commits alone, the shows alone, then both, each for some three seconds: a first short run tells how many these are, and isn't
-# told, since a run's beginning counts in it
+# shows a second of a session with so many, over named pipes
+piped() {
+    local begun ended
+    rm -rf "$folder"/* "$work"/piped* "$work"/reader*
+    journal "$folder/journal"
+    mkfifo "$work/piped" "$work/piped.out"
+    shows "$1" > "$work/reader"
+    cat "$work/reader" > "$work/piped" &
+    cat "$work/piped.out" > "$work/output" &
+    begun=$(date +%s%N)
+    "$program" serve "$folder/journal" "piped:$work/piped"
+    ended=$(date +%s%N)
+    wait
+    if grep -q error "$work/output"; then
+        echo "a line was refused" >&2
+        exit 1
+    fi
+    rm "$work/piped" "$work/piped.out"
+    echo $(($1 * 1000000000 / (ended - begun)))
+}
+
+# the greatest of rates that were noted
+greatest() {
+    sort -n "$work/$1" | tail -n 1
+}
+
+# The commits alone, the shows alone, then both, each for some three seconds: a first short run tells how many these are, and isn't
+# told, since a run's beginning counts in it. They take turns five times, and of each kind the greatest rate is told, since what else
+# runs on a machine slows some of the runs.
 alone=$(rates 0 0 2000)
 commits=$((3 * ${alone#* }))
-alone=$(rates 0 0 "$commits")
-alone=${alone#* }
 for readers in 1 4; do
+    rm -f "$work"/*.rates
     few=$(rates "$readers" $((200000 / readers)) 0)
     each=$((3 * ${few% *} / readers))
-    few=$(rates "$readers" "$each" 0)
-    few=${few% *}
-    both=$(rates "$readers" "$each" "$commits")
-    awk -v readers="$readers" -v few="$few" -v both="${both% *}" -v alone="$alone" -v beside="${both#* }" 'BEGIN {
-        printf "%d that show: %d shows a second, beside commits %d, ratio %.2f; commits %d a second, beside shows %d, ratio %.2f\n",
-            readers, few, both, both / few, alone, beside, beside / alone }'
+    for round in 1 2 3 4 5; do
+        few=$(rates "$readers" "$each" 0)
+        both=$(rates "$readers" "$each" "$commits")
+        apart=$(rates "$readers" "$each" "$commits" apart)
+        alone=$(rates 0 0 "$commits")
+        echo "${few% *}" >> "$work/few.rates"
+        echo "${both% *}" >> "$work/both.rates"
+        echo "${both#* }" >> "$work/beside.rates"
+        echo "${apart% *}" >> "$work/apart.rates"
+        echo "${alone#* }" >> "$work/alone.rates"
+    done
+    awk -v readers="$readers" -v few="$(greatest few.rates)" -v both="$(greatest both.rates)" -v apart="$(greatest apart.rates)" \
+        -v alone="$(greatest alone.rates)" -v beside="$(greatest beside.rates)" 'BEGIN {
+        printf "%d that show: %d shows a second, beside commits %d, ratio %.2f, beside those of another service %d, ratio %.2f; ",
+            readers, few, both, both / few, apart, apart / few
+        printf "commits %d a second, beside shows %d, ratio %.2f\n", alone, beside, beside / alone }'
 done
+few=$(piped 200000)
+echo "over pipes: $(piped $((3 * few))) shows a second"
