@@ -87,14 +87,14 @@ piped() {
     echo $(($1 * 1000000000 / (ended - begun)))
 }
 
-# the greatest of rates that were noted
-greatest() {
-    sort -n "$work/$1" | tail -n 1
+# of five rates that were noted the one in the middle
+middle() {
+    sort -n "$work/$1" | sed -n 3p
 }
 
 # The commits alone, the shows alone, then both, each for some three seconds: a first short run tells how many these are, and isn't
-# told, since a run's beginning counts in it. They take turns five times, and of each kind the greatest rate is told, since what else
-# runs on a machine slows some of the runs.
+# told, since a run's beginning counts in it. They take turns five times, and of each kind the rate in the middle is told, since what
+# else runs on a machine makes some of the runs slow, and some of them fast.
 alone=$(rates 0 0 2000)
 commits=$((3 * ${alone#* }))
 for readers in 1 4; do
@@ -112,8 +112,8 @@ for readers in 1 4; do
         echo "${apart% *}" >> "$work/apart.rates"
         echo "${alone#* }" >> "$work/alone.rates"
     done
-    awk -v readers="$readers" -v few="$(greatest few.rates)" -v both="$(greatest both.rates)" -v apart="$(greatest apart.rates)" \
-        -v alone="$(greatest alone.rates)" -v beside="$(greatest beside.rates)" 'BEGIN {
+    awk -v readers="$readers" -v few="$(middle few.rates)" -v both="$(middle both.rates)" -v apart="$(middle apart.rates)" \
+        -v alone="$(middle alone.rates)" -v beside="$(middle beside.rates)" 'BEGIN {
         printf "%d that show: %d shows a second, beside commits %d, ratio %.2f, beside those of another service %d, ratio %.2f; ",
             readers, few, both, both / few, apart, apart / few
         printf "commits %d a second, beside shows %d, ratio %.2f\n", alone, beside, beside / alone }'
