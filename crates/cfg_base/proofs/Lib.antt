@@ -1,3 +1,4 @@
 pub mod FlatLemmas
 pub mod OrderLemmas
+pub mod StepLemmas
 pub mod WordLemmas

@@ -1,6 +1,6 @@
--- Where the bytes of a word stand, few in place and more in memory of their own, and the steps of a path.
+-- Where the bytes of a word stand, few in place and more in memory of their own.
 -- How they are kept is this project's own.
-use Rattle.std.specs.Prelude.{ℕ, ◌≤◌, List, [], take, Option, Some, None}
+use Rattle.std.specs.Prelude.{ℕ, ◌≤◌, List, take}
 use Rattle.cfg_base.specs.declared.word.TheConstants.{IN_PLACE}
 use Rattle.cfg_base.specs.declared.word.Kept.{Kept}
 use Rattle.cfg_base.specs.declared.word.Kept.TheVariants.{InPlace, Apart}
@@ -8,14 +8,9 @@ use Rattle.cfg_base.specs.declared.word.Kept.TheVariants.{InPlace, Apart}
 -- the bytes that are kept
 abbrev pub bytes_of : Kept → List ℕ
 bytes_of (InPlace count places) = take count places
-bytes_of (Apart bytes) = bytes.items
+bytes_of (Apart bytes) = bytes
 
 -- no more are in place than there are places
 abbrev pub IsKept : Kept → Type 0
 IsKept (InPlace count places) = count ≤ IN_PLACE
 IsKept (Apart bytes) = Unit {0}
-
--- the items in a row that is shared, where there are some
-abbrev pub items_of : {X : Type 0} → Option (List X) → List X
-items_of None = []
-items_of (Some items) = items

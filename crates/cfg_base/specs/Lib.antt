@@ -1,5 +1,6 @@
 pub mod Order
 pub mod Kept
+pub mod Steps
 pub mod Kind
 pub mod Counts
 pub mod Blocks

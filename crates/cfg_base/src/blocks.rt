@@ -14,7 +14,7 @@ use std::alloc::Global;
 fn longer(alloc: Global, words: &[Word], word: Word) -> Result<Vec<Word>, NoMemory>
     ensures { IfOk result (λ made. made.items ≡ words.now ++ word ∷ []) }
 {
-    let mut made = Vec::with_capacity(alloc, words.len())?;
+    let mut made = Vec::with_capacity(alloc, words.len().saturating_add(1))?;
     made.extend_with_clones(words)?;
     made.push(word)?;
     Ok(made)

@@ -5,7 +5,7 @@ ghost use Rattle.std.specs.Cmp.{partial_order_from_own_ties};
 ghost use Rattle.std.proofs.Common.{rules};
 ghost use Rattle.cfg_base.specs.declared.path.TheConstants.{MAX_STEPS};
 ghost use Rattle.cfg_base.specs.declared.path.PathFault.TheVariants.{NoMemory};
-ghost use Rattle.cfg_base.specs.Kept.{items_of};
+ghost use Rattle.cfg_base.specs.Steps.{steps_of};
 ghost use Rattle.cfg_base.specs.Order.{path_cmp, is_below, paths_total, paths_equal};
 
 use crate::fault::NoMemory;
@@ -15,6 +15,7 @@ use std::alloc::{AllocError, AllocFailed, Global};
 use std::cmp::Ordering;
 use std::fmt;
 use std::marker::Model;
+use std::sync::Arc;
 use thiserror::Error;
 
 /// The most steps that a path has.
@@ -61,11 +62,113 @@ impl From<NoMemory> for PathFault {
     }
 }
 
+/// The steps of a path. Up to six stand in one block of memory with their count, more in one of
+/// their own.
+enum Steps {
+    None,
+    One(Arc<[Step; 1]>),
+    Two(Arc<[Step; 2]>),
+    Three(Arc<[Step; 3]>),
+    Four(Arc<[Step; 4]>),
+    Five(Arc<[Step; 5]>),
+    Six(Arc<[Step; 6]>),
+    More(Shared<Step>),
+}
+
+/// Steps with one more behind them, in a row of their own.
+fn row_with_last(alloc: Global, above: &[Step], last: Step) -> Result<Shared<Step>, NoMemory>
+    ensures { IfOk result (λ steps. steps ≡ above.now ++ last ∷ []) }
+{
+    let mut steps = Vec::with_capacity(alloc, above.len().saturating_add(1))?;
+    steps.extend_with_clones(above)?;
+    steps.push(last)?;
+    Shared::new(alloc, steps)
+}
+
+/// Steps with one more behind them.
+fn with_last(alloc: Global, above: &[Step], last: Step) -> Result<Steps, NoMemory>
+    ensures { IfOk result (λ steps. steps_of steps ≡ above.now ++ last ∷ []) }
+{
+    match above {
+        [] => Ok(Steps::One(Arc::new(alloc, [last])?)),
+        [a] => Ok(Steps::Two(Arc::new(alloc, [a.clone()?, last])?)),
+        [a, b] => Ok(Steps::Three(Arc::new(alloc, [a.clone()?, b.clone()?, last])?)),
+        [a, b, c] => {
+            let steps = [a.clone()?, b.clone()?, c.clone()?, last];
+            Ok(Steps::Four(Arc::new(alloc, steps)?))
+        }
+        [a, b, c, d] => {
+            let steps = [a.clone()?, b.clone()?, c.clone()?, d.clone()?, last];
+            Ok(Steps::Five(Arc::new(alloc, steps)?))
+        }
+        [a, b, c, d, e] => {
+            let steps = [
+                a.clone()?,
+                b.clone()?,
+                c.clone()?,
+                d.clone()?,
+                e.clone()?,
+                last,
+            ];
+            Ok(Steps::Six(Arc::new(alloc, steps)?))
+        }
+        _ => Ok(Steps::More(row_with_last(alloc, above, last)?)),
+    }
+}
+
+/// The steps, in order.
+fn steps_in(steps: &Steps) -> &[Step]
+    ensures { result.now ≡ steps_of steps.now }
+{
+    match steps {
+        Steps::None => &[],
+        Steps::One(steps) => steps.as_slice(),
+        Steps::Two(steps) => steps.as_slice(),
+        Steps::Three(steps) => steps.as_slice(),
+        Steps::Four(steps) => steps.as_slice(),
+        Steps::Five(steps) => steps.as_slice(),
+        Steps::Six(steps) => steps.as_slice(),
+        Steps::More(steps) => steps.items(),
+    }
+}
+
+/// The same steps once more.
+fn copied(steps: &Steps) -> Result<Steps, AllocError>
+    ensures { IfOk result (λ copy. steps_of copy ≡ steps_of steps.now) }
+{
+    match steps {
+        Steps::None => Ok(Steps::None),
+        Steps::One(steps) => Ok(Steps::One(steps.clone()?)),
+        Steps::Two(steps) => Ok(Steps::Two(steps.clone()?)),
+        Steps::Three(steps) => Ok(Steps::Three(steps.clone()?)),
+        Steps::Four(steps) => Ok(Steps::Four(steps.clone()?)),
+        Steps::Five(steps) => Ok(Steps::Five(steps.clone()?)),
+        Steps::Six(steps) => Ok(Steps::Six(steps.clone()?)),
+        Steps::More(steps) => Ok(Steps::More(steps.clone()?)),
+    }
+}
+
+// Written out, so that a drop of what holds a path is a call.
+impl Drop for Steps {
+    fn drop(self) {
+        match self {
+            Steps::None => {}
+            Steps::One(steps) => drop(steps),
+            Steps::Two(steps) => drop(steps),
+            Steps::Three(steps) => drop(steps),
+            Steps::Four(steps) => drop(steps),
+            Steps::Five(steps) => drop(steps),
+            Steps::Six(steps) => drop(steps),
+            Steps::More(steps) => drop(steps),
+        }
+    }
+}
+
 /// Where a statement stands: its steps from the top, which itself is the path without steps.
 /// Copies share the steps, and the top has none to share.
 pub struct Path {
     alloc: Global,
-    steps: Option<Shared<Step>>,
+    steps: Steps,
 }
 
 // Written out, so that a drop of what holds a path is a call.
@@ -80,13 +183,13 @@ impl Model for Path {
     ghost use Rattle.std.specs.Prelude.{List, length, ◌≤◌};
     ghost use Rattle.cfg_base.specs.declared.path.Step.{Step};
     ghost use Rattle.cfg_base.specs.declared.path.TheConstants.{MAX_STEPS};
-    ghost use Rattle.cfg_base.specs.Kept.{items_of};
+    ghost use Rattle.cfg_base.specs.Steps.{steps_of};
 
     ghost Value = { List Step };
 
-    ghost view = { λ p. items_of p.steps };
+    ghost view = { λ p. steps_of p.steps };
 
-    ghost invariant = { λ p. length (items_of p.steps) ≤ MAX_STEPS };
+    ghost invariant = { λ p. length (steps_of p.steps) ≤ MAX_STEPS };
 }
 
 impl Path {
@@ -94,21 +197,10 @@ impl Path {
     pub fn top(alloc: Global) -> Path
         ensures { result ≡ [] }
     {
-        Path { alloc, steps: None }
-    }
-
-    /// The path of these steps.
-    fn of(alloc: Global, steps: Vec<Step>) -> Result<Path, NoMemory>
-        requires { length steps.items ≤ MAX_STEPS }
-        ensures { IfOk result (λ path. path ≡ steps.items) }
-    {
-        if steps.is_empty() {
-            return Ok(Path::top(alloc));
-        }
-        Ok(Path {
+        Path {
             alloc,
-            steps: Some(Shared::new(alloc, steps)?),
-        })
+            steps: Steps::None,
+        }
     }
 
     /// This path with one more step at its end.
@@ -120,10 +212,10 @@ impl Path {
         if above.len() >= MAX_STEPS {
             return Err(PathFault::TooDeep);
         }
-        let mut steps = Vec::with_capacity(self.alloc, above.len() + 1)?;
-        steps.extend_with_clones(above)?;
-        steps.push(step)?;
-        Ok(Path::of(self.alloc, steps)?)
+        Ok(Path {
+            alloc: self.alloc,
+            steps: with_last(self.alloc, above, step)?,
+        })
     }
 
     /// The path of its first steps.
@@ -131,10 +223,13 @@ impl Path {
         requires { count ≤ length self.now }
         ensures { IfOk result (λ path. path ≡ take count self.now) }
     {
-        Path::of(
-            self.alloc,
-            Vec::from_clones(self.alloc, self.steps().split_at(count).0)?,
-        )
+        match self.steps().split_at(count).0.split_last() {
+            None => Ok(Path::top(self.alloc)),
+            Some((last, above)) => Ok(Path {
+                alloc: self.alloc,
+                steps: with_last(self.alloc, above, last.clone()?)?,
+            }),
+        }
     }
 
     /// Whether this path is another one or below it.
@@ -149,10 +244,7 @@ impl Path {
         ensures steps { result.now ≡ self.now }
         ensures within { length self.now ≤ MAX_STEPS }
     {
-        match &self.steps {
-            Some(steps) => steps.items(),
-            None => &[],
-        }
+        steps_in(&self.steps)
     }
 }
 
@@ -170,7 +262,7 @@ impl Clone for Path {
     fn clone(&self) -> Result<Path, AllocError> {
         Ok(Path {
             alloc: self.alloc,
-            steps: self.steps.clone()?,
+            steps: copied(&self.steps)?,
         })
     }
 }

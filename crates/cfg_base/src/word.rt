@@ -10,6 +10,7 @@ ghost use Rattle.cfg_base.specs.Kept.{bytes_of, IsKept};
 ghost use Rattle.cfg_base.specs.declared.word.TheConstants.{IN_PLACE};
 
 use crate::fault::NoMemory;
+use crate::shared::Shared;
 use std::alloc::{AllocError, Global};
 use std::cmp::Ordering;
 use std::fmt;
@@ -20,7 +21,7 @@ use thiserror::Error;
 pub const MAX_BYTES: usize = 255;
 
 /// The most bytes that stand in a word itself, and not in memory of their own.
-const IN_PLACE: usize = 22;
+const IN_PLACE: usize = 14;
 
 /// Why bytes are no word.
 #[derive(Clone, Copy, Debug, PartialEq, Eq, Error)]
@@ -31,10 +32,10 @@ pub enum WordFault {
     NoMemory,
 }
 
-impl From<AllocError> for WordFault {
+impl From<NoMemory> for WordFault {
     ghost from_gives = { λ _ fault. fault ≡ NoMemory };
 
-    fn from(_: AllocError) -> WordFault {
+    fn from(_: NoMemory) -> WordFault {
         WordFault::NoMemory
     }
 }
@@ -43,8 +44,8 @@ impl From<AllocError> for WordFault {
 enum Kept {
     /// So many of these places, from the first one.
     InPlace(u8, [u8; IN_PLACE]),
-    /// In memory of their own.
-    Apart(Vec<u8>),
+    /// In memory of their own, which copies share.
+    Apart(Shared<u8>),
 }
 
 // Written out, so that a drop of what holds a word is a call.
@@ -70,14 +71,14 @@ fn in_place(bytes: &[u8]) -> Kept
 }
 
 /// Bytes, in place where they are few.
-fn keeping(alloc: Global, bytes: &[u8]) -> Result<Kept, AllocError>
+fn keeping(alloc: Global, bytes: &[u8]) -> Result<Kept, NoMemory>
     ensures bytes { IfOk result (λ kept. bytes_of kept ≡ bytes.now) }
     ensures kept { IfOk result IsKept }
 {
     if bytes.len() <= IN_PLACE {
         return Ok(in_place(bytes));
     }
-    Ok(Kept::Apart(Vec::from_slice(alloc, bytes)?))
+    Ok(Kept::Apart(Shared::new(alloc, Vec::from_slice(alloc, bytes)?)?))
 }
 
 /// The bytes that are kept.
@@ -87,7 +88,7 @@ fn bytes_in(kept: &Kept) -> &[u8]
 {
     match kept {
         Kept::InPlace(count, places) => &places[..*count as usize],
-        Kept::Apart(bytes) => bytes,
+        Kept::Apart(bytes) => bytes.items(),
     }
 }
 
