@@ -5,3 +5,4 @@ pub mod Kind
 pub mod Counts
 pub mod Blocks
 pub mod Words
+pub mod Listed

@@ -20,6 +20,7 @@ mod shared;
 mod user;
 mod value;
 mod word;
+mod word_blocks;
 mod word_list;
 mod words;
 

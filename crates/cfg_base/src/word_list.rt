@@ -1,38 +1,63 @@
 //! Lists of words whose copies share all but what is changed.
 
 ghost use Rattle.std.specs.Prelude.{◌≡◌, ◌==◌, ◌∷◌, [], ◌++◌, length, OnOk, OnErr, IfOk, MatchOption};
-ghost use Rattle.std.specs.List.{list_any};
-ghost use Rattle.cfg_base.specs.Blocks.{flat, IsSized, AreSized};
+ghost use Rattle.cfg_base.specs.Blocks.{flat, AreSized};
+ghost use Rattle.cfg_base.specs.Listed.{words_of};
 ghost use Rattle.cfg_base.specs.Order.{words_eq, words_per, words_alike};
 ghost use Rattle.cfg_base.specs.Words.{lists, words_without};
 
-use crate::blocks::{in_blocks, push_block, push_word};
+use crate::blocks::in_blocks;
 use crate::fault::NoMemory;
 use crate::lookup::Lookup;
 use crate::shared::Shared;
 use crate::word::Word;
+use crate::word_blocks::WordBlocks;
 use std::alloc::{AllocError, Global};
+use std::fmt;
 use std::marker::Model;
+use std::slice::from_ref;
 
-/// The words of a value, or the names of its ordered children. A copy and a push cost one count for each
-/// block of words.
-#[derive(Debug, Drop)]
+/// Where the words of a list stand.
+enum Listed {
+    None,
+    /// In the list itself.
+    One(Word),
+    /// In blocks.
+    More(Box<WordBlocks>),
+}
+
+// Written out, so that a drop of what holds a list is a call.
+impl Drop for Listed {
+    fn drop(self) {
+        match self {
+            Listed::None => {}
+            Listed::One(word) => drop(word),
+            Listed::More(words) => drop(words),
+        }
+    }
+}
+
+/// The words of a value, or the names of its ordered children. A list of none or one takes no memory; a
+/// copy and a push of more cost one count for each block of words.
 pub struct WordList {
     alloc: Global,
-    blocks: Vec<Shared<Word>>,
-    len: usize,
+    listed: Listed,
+}
+
+impl Drop for WordList {
+    fn drop(self) {
+        let WordList { alloc: _, listed } = self;
+        drop(listed);
+    }
 }
 
 impl Model for WordList {
     ghost use Rattle.std.specs.Prelude.{List, ℕ};
-    ghost use Rattle.cfg_base.specs.Blocks.{flat};
-    ghost use Rattle.cfg_base.specs.Words.{AreListed};
+    ghost use Rattle.cfg_base.specs.Listed.{words_of};
 
     ghost Value = { List (List ℕ) };
 
-    ghost view = { λ w. flat w.blocks.items };
-
-    ghost invariant = { λ w. AreListed w.blocks.items w.len };
+    ghost view = { λ w. words_of w.listed };
 }
 
 impl WordList {
@@ -42,8 +67,7 @@ impl WordList {
     {
         WordList {
             alloc,
-            blocks: Vec::new(alloc),
-            len: 0,
+            listed: Listed::None,
         }
     }
 
@@ -58,30 +82,39 @@ impl WordList {
     pub fn len(&self) -> usize
         ensures { result ≡ length self.now }
     {
-        self.len
+        match &self.listed {
+            Listed::None => 0,
+            Listed::One(_) => 1,
+            Listed::More(words) => words.len(),
+        }
     }
 
     /// Whether there are none.
     pub fn is_empty(&self) -> bool
         ensures { result ≡ (length self.now == 0) }
     {
-        self.len == 0
+        self.len() == 0
     }
 
     /// Whether a word is in the list.
     pub fn has(&self, word: &Word) -> bool
         ensures { result ≡ lists self.now word.now }
     {
-        in_blocks(&self.blocks, word)
+        match &self.listed {
+            Listed::None => false,
+            Listed::One(other) => word.as_bytes() == other.as_bytes(),
+            Listed::More(words) => in_blocks(words.blocks(), word),
+        }
     }
 
     /// The words, in order.
     pub fn iter(&self) -> WordsLeft<'_>
         ensures { result ≡ self.now }
     {
-        WordsLeft {
-            words: &[],
-            blocks: &self.blocks,
+        match &self.listed {
+            Listed::None => WordsLeft::of(&[], &[]),
+            Listed::One(word) => WordsLeft::of(from_ref(word), &[]),
+            Listed::More(words) => WordsLeft::of(&[], words.blocks()),
         }
     }
 
@@ -90,11 +123,18 @@ impl WordList {
         ensures ok { OnOk result (self.new ≡ self.old ++ word ∷ []) }
         ensures unchanged { OnErr result (self.new ≡ self.old) }
     {
-        // There is no memory for as many words as no number counts.
-        let len = self.len.checked_add(1).ok_or(NoMemory)?;
-        push_word(self.alloc, &mut self.blocks, word)?;
-        self.len = len;
-        Ok(())
+        match &mut self.listed {
+            Listed::None => {
+                self.listed = Listed::One(word);
+                Ok(())
+            }
+            Listed::One(first) => {
+                let words = WordBlocks::two(self.alloc, first.clone()?, word)?;
+                self.listed = Listed::More(Box::new(self.alloc, words)?);
+                Ok(())
+            }
+            Listed::More(words) => words.push(word),
+        }
     }
 
     /// This list with more words behind it.
@@ -113,72 +153,34 @@ impl WordList {
         ensures { IfOk result (λ left. left ≡ words_without self.now gone.now) }
     {
         let gone = Lookup::of(self.alloc, gone)?;
-        left_of(self.alloc, &self.blocks, &gone)
-    }
-
-    /// Puts a block of words at the end.
-    fn append(&mut self, block: Shared<Word>) -> Result<(), NoMemory>
-        requires { IsSized block }
-        ensures { OnOk result (self.new ≡ self.old ++ block) }
-    {
-        // There is no memory for as many words as no number counts.
-        let len = self.len.checked_add(block.items().len()).ok_or(NoMemory)?;
-        push_block(&mut self.blocks, block)?;
-        self.len = len;
-        Ok(())
+        Ok(WordList {
+            alloc: self.alloc,
+            listed: left_in(self.alloc, &self.listed, &gone)?,
+        })
     }
 }
 
-/// Whether any of these words goes.
-fn loses(words: &[Word], gone: &Lookup<'_>) -> bool
-    ensures { result ≡ list_any (lists gone.now) words.now }
+/// The words that don't go.
+fn left_in(alloc: Global, listed: &Listed, gone: &Lookup<'_>) -> Result<Listed, NoMemory>
+    ensures { IfOk result (λ left. words_of left ≡ words_without (words_of listed.now) gone.now) }
 {
-    words.iter().any(|word| gone.has(word))
+    match listed {
+        Listed::None => Ok(Listed::None),
+        Listed::One(word) if gone.has(word) => Ok(Listed::None),
+        Listed::One(word) => Ok(Listed::One(word.clone()?)),
+        Listed::More(words) => Ok(Listed::More(Box::new(alloc, words.without(gone)?)?)),
+    }
 }
 
-/// The words of a block that don't go.
-fn kept(alloc: Global, words: &[Word], gone: &Lookup<'_>) -> Result<Vec<Word>, NoMemory>
-    ensures { IfOk result (λ left. left.items ≡ words_without words.now gone.now) }
+/// The same words once more.
+fn copied(listed: &Listed) -> Result<Listed, AllocError>
+    ensures { IfOk result (λ copy. words_of copy ≡ words_of listed.now) }
 {
-    let mut left = Vec::new(alloc);
-    for word in words {
-        if !gone.has(word) {
-            left.push(word.clone()?)?;
-        }
+    match listed {
+        Listed::None => Ok(Listed::None),
+        Listed::One(word) => Ok(Listed::One(word.clone()?)),
+        Listed::More(words) => Ok(Listed::More(words.clone()?)),
     }
-    Ok(left)
-}
-
-/// Puts those words of a block that don't go at the end of a list.
-fn keep(
-    alloc: Global,
-    left: &mut WordList,
-    block: &Shared<Word>,
-    gone: &Lookup<'_>,
-) -> Result<(), NoMemory>
-    requires { IsSized block.now }
-    ensures { OnOk result (left.new ≡ left.old ++ words_without block.now gone.now) }
-{
-    if !loses(block.items(), gone) {
-        return left.append(block.clone()?);
-    }
-    let words = kept(alloc, block.items(), gone)?;
-    if words.is_empty() {
-        return Ok(());
-    }
-    left.append(Shared::new(alloc, words)?)
-}
-
-/// The words of these blocks that don't go.
-fn left_of(alloc: Global, blocks: &[Shared<Word>], gone: &Lookup<'_>) -> Result<WordList, NoMemory>
-    requires { AreSized blocks.now }
-    ensures { IfOk result (λ left. left ≡ words_without (flat blocks.now) gone.now) }
-{
-    let mut left = WordList::new(alloc);
-    for block in blocks {
-        keep(alloc, &mut left, block, gone)?;
-    }
-    Ok(left)
 }
 
 impl Clone for WordList {
@@ -187,9 +189,16 @@ impl Clone for WordList {
     fn clone(&self) -> Result<WordList, AllocError> {
         Ok(WordList {
             alloc: self.alloc,
-            blocks: self.blocks.clone()?,
-            len: self.len,
+            listed: copied(&self.listed)?,
         })
+    }
+}
+
+impl fmt::Debug for WordList {
+    fn fmt<W: fmt::Write>(&self, f: &mut fmt::Formatter<W>) -> fmt::Result {
+        f.debug_struct("WordList")
+            .field("words", &self.iter())
+            .finish()
     }
 }
 
@@ -226,6 +235,14 @@ impl<'a> Model for WordsLeft<'a> {
 }
 
 impl<'a> WordsLeft<'a> {
+    /// These words, and then those of the blocks.
+    fn of(words: &'a [Word], blocks: &'a [Shared<Word>]) -> WordsLeft<'a>
+        requires { AreSized blocks.now }
+        ensures { result ≡ words.now ++ flat blocks.now }
+    {
+        WordsLeft { words, blocks }
+    }
+
     /// The next word.
     pub fn next(&mut self) -> Option<&'a Word>
         ensures { MatchOption result (self.old ≡ []) (λ word. self.old ≡ word.now ∷ self.new) }

@@ -1,5 +1,5 @@
 -- A statement holds others where the next one in the order of paths stands below it.
-use Rattle.std.proofs.Common.{◌≡◌, ℕ, ◌+◌, ◌^◌, ◌<◌, Bool, true, false, List, [], ◌∷◌, ◌++◌, length, refl, sym, ap, subst, ◌∙◌, inl, is_some, arith, append-nil}
+use Rattle.std.proofs.Common.{◌≡◌, ℕ, ◌+◌, ◌^◌, ◌≤◌, ◌<◌, nat_lt, Bool, true, false, List, [], ◌∷◌, ◌++◌, length, refl, sym, ap, subst, ◌∙◌, inl, is_some, arith, append-nil, length-append}
 use Rattle.std.specs.Prelude.{IsSome}
 use Rattle.std.specs.FinMap as map
 use Rattle.std.specs.List.{sum_by}
@@ -10,11 +10,12 @@ use Rattle.cfg_base.specs.Order.{path_cmp, paths_total}
 use Rattle.cfg_base.specs.declared.path.Step.{Step}
 use Rattle.cfg_base.specs.declared.value.Value.{Value}
 use Rattle.cfg_entries.specs.EntryMap.{Pair}
-use Rattle.cfg_tree.specs.Statements.{Statements, size_of, is_below}
+use Rattle.cfg_tree.specs.Statements.{Statements, size_of, is_below, last_of, parent_of}
 use Rattle.cfg_tree.specs.Tree.{IsTree}
 use Rattle.cfg_tree.specs.After.{IsNext, IsLast}
 use Rattle.cfg_tree.specs.Children.{children_of}
 use Rattle.cfg_tree.proofs.MapLemmas.{path_same}
+use Rattle.cfg_tree.proofs.PathLemmas.{child_longer, split}
 use Rattle.cfg_tree.proofs.BelowLemmas.{below_between, below_self, below_more}
 use Rattle.cfg_tree.proofs.OnceLemmas.{below_rest}
 use Rattle.curly_print.specs.Printed.{printed}
@@ -68,6 +69,62 @@ module _ (m : Statements) (tree : IsTree m) (p : List Step) where
           let child = child_held f
           in let below = by_place (p ++ child.0 ∷ []) child.1 (child_after p child.0) (below_more p p child.0 (below_self p)) _ refl
           in cc
+
+  -- above the next statement stand statements, so it is below where it has more steps
+  pub next_longer : (q : List Step) (v : Value) → IsNext m p q v → nat_lt (length p) (length q) ≡ holds m p
+  next_longer q v next = by_tests (nat_lt (length p) (length q)) (is_below p q) refl refl ∙ next_holds q v next
+    where
+      above : List Step
+      above = parent_of q
+
+      more : 0 < length q
+      more = (tree.statements.parents q (ap is_some next.found)).steps
+
+      whole : q ≡ above ++ last_of q ∷ []
+      whole = split q more
+
+      long : length q ≡ length above + 1
+      long = ap (λ (ss : List Step). length ss) whole ∙ child_longer above (last_of q)
+
+      before : path_cmp above q ≡ Less
+      before = subst (λ (k : List Step). path_cmp above k ≡ Less) (sym whole) (child_after above (last_of q))
+
+      below_above : is_below above q ≡ true
+      below_above = subst (λ (k : List Step). is_below above k ≡ true) (sym whole) (below_more above above (last_of q) (below_self above))
+
+      is_above : p ≡ above → is_below p q ≡ true
+      is_above same = subst (λ (k : List Step). is_below k q ≡ true) (sym same) below_above
+
+      as_long : (rest : List Step) → p ≡ above ++ rest → length p ≤ length above → p ≡ above
+      as_long [] e few = e ∙ append-nil above
+      as_long (t ∷ rest) e few =
+          let k = ap (λ (ss : List Step). length ss) e in absurd (omega (arith, k, few, length-append above (t ∷ rest)))
+
+      by_order : length p < length q → (o : Ordering) → path_cmp p above ≡ o → is_below p q ≡ true
+      by_order longer Less e = by_length p longer e
+        where
+          by_length : (k : List Step) → length k < length q → path_cmp k above ≡ Less → is_below k q ≡ true
+          by_length [] l f = refl
+          by_length (s ∷ k) l f = absurd (next.first above ((tree.statements.parents q (ap is_some next.found)).parent (omega (arith, l))) e before)
+      by_order longer Equal e = is_above (path_same p above e)
+      by_order longer Greater e =
+          let turned = paths_total.antisymm above p ∙ ap ordering_reverse e
+          in let between = below_between above p q (less_le _ turned) next.after below_above
+          in let rest = below_rest above p between
+          in is_above (as_long rest.0 rest.1 (omega (arith, long, longer)))
+
+      longer_below : is_below p q ≡ true → length p < length q
+      longer_below e = let rest = below_rest p q e in by_rest rest.0 rest.1
+        where
+          by_rest : (rest : List Step) → q ≡ p ++ rest → length p < length q
+          by_rest [] f = absurd (itself p (ap (λ (x : List Step). path_cmp p x) (sym (f ∙ append-nil p)) ∙ next.after))
+          by_rest (t ∷ rest) f = let k = ap (λ (ss : List Step). length ss) f in omega (arith, k, length-append p (t ∷ rest))
+
+      by_tests : (l b : Bool) → nat_lt (length p) (length q) ≡ l → is_below p q ≡ b → l ≡ b
+      by_tests true true e f = refl
+      by_tests false false e f = refl
+      by_tests true false e f = let below = by_order (lt_told (length p) (length q) e) _ refl in cc
+      by_tests false true e f = let longer = lt_is (length p) (length q) (longer_below f) in cc
 
   pub last_holds : IsLast m p → false ≡ holds m p
   last_holds last = by_test (holds m p) refl

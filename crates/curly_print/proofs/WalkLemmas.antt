@@ -1,5 +1,5 @@
 -- The walk over a tree that counts the bytes of its text, one statement ahead.
-use Rattle.std.proofs.Common.{◌≡◌, ℕ, ◌+◌, ◌^◌, ◌<◌, Bool, false, List, [], ◌∷◌, ◌++◌, refl, sym, ap, ◌∙◌, Option, Some, None, Bor, arith}
+use Rattle.std.proofs.Common.{◌≡◌, ℕ, ◌+◌, ◌^◌, ◌<◌, nat_lt, Bool, false, List, [], ◌∷◌, ◌++◌, length, refl, sym, ap, ◌∙◌, Option, Some, None, Bor, arith}
 use Rattle.std.specs.Prelude.{MatchOption}
 use Rattle.std.specs.FinMap as map
 use Rattle.std.specs.List.{sum_by}
@@ -8,11 +8,11 @@ use Rattle.std.proofs.lemmas.List.Sums.{sum_by-cons}
 use Rattle.cfg_base.specs.declared.path.Step.{Step}
 use Rattle.cfg_base.specs.declared.value.Value.{Value}
 use Rattle.cfg_entries.specs.EntryMap.{Pair}
-use Rattle.cfg_tree.specs.Statements.{Statements, is_below}
+use Rattle.cfg_tree.specs.Statements.{Statements}
 use Rattle.cfg_tree.specs.Tree.{IsTree}
 use Rattle.curly_print.specs.Length.{holds, own_len, entry_len, capped}
 use Rattle.printing_order.proofs.FollowedLemmas.{followed, unfollowed}
-use Rattle.curly_print.proofs.HoldsLemmas.{next_holds, last_holds}
+use Rattle.curly_print.proofs.HoldsLemmas.{next_longer, last_holds}
 
 -- what is left of a walk that has one statement in hand
 abbrev pub pending : Option (Bor (List Step) × Bor Value) → List (Pair Value) → List (Pair Value)
@@ -41,18 +41,18 @@ walk_begins m new next e = record {
   are = sym (pending_is _ new next e);
 }
 
--- whether the next statement stands below one tells whether this one holds others
+-- whether the next statement has more steps than one tells whether this one holds others
 pub held : (m : Statements) → IsTree m → (front old new : List (Pair Value)) (e : Pair Value) (next : Option (Bor (List Step) × Bor Value)) (b : Bool)
-    → map.entries m ≡ front ++ e ∷ old → IsNextOf old new next → MatchOption next (b ≡ false) (λ found. b ≡ is_below e.0 found.0.now) → b ≡ holds m e.0
+    → map.entries m ≡ front ++ e ∷ old → IsNextOf old new next → MatchOption next (b ≡ false) (λ found. b ≡ nat_lt (length e.0) (length found.0.now)) → b ≡ holds m e.0
 held m tree front old new e None b are is told =
     told ∙ last_holds m tree e.0 (unfollowed m front e (are ∙ ap (λ (es : List (Pair Value)). front ++ e ∷ es) is))
 held m tree front old new e (Some found) b are is told =
-    told ∙ next_holds m tree e.0 found.0.now found.1.now
+    told ∙ next_longer m tree e.0 found.0.now found.1.now
     (followed m front new e (found.0.now, found.1.now) (are ∙ ap (λ (es : List (Pair Value)). front ++ e ∷ es) is))
 
 -- one more statement is counted
 pub walk_goes_on : (m : Statements) → IsTree m → (total new_total : ℕ) (old new : List (Pair Value)) (e : Pair Value) (next : Option (Bor (List Step) × Bor Value)) (b : Bool)
-    → IsWalk m total (e ∷ old) → IsNextOf old new next → MatchOption next (b ≡ false) (λ found. b ≡ is_below e.0 found.0.now)
+    → IsWalk m total (e ∷ old) → IsNextOf old new next → MatchOption next (b ≡ false) (λ found. b ≡ nat_lt (length e.0) (length found.0.now))
     → new_total ≡ capped (total + capped (own_len b e.0 e.1)) → IsWalk m new_total (pending next new)
 walk_goes_on m tree total new_total old new e next b walk is told sum = record {
   counted = count _ refl;

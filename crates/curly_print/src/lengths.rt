@@ -1,7 +1,6 @@
 //! How long the whole printed text is, told without memory.
 
-ghost use Rattle.std.specs.Prelude.{◌≡◌, ◌≤◌, ◌+◌, [], ◌∷◌, length, min, false, MatchOption};
-ghost use Rattle.cfg_base.specs.Order.{is_below};
+ghost use Rattle.std.specs.Prelude.{◌≡◌, ◌≤◌, ◌+◌, [], ◌∷◌, length, min, nat_lt, false, MatchOption};
 ghost use Rattle.cfg_tree.specs.OwnWords.{own_words, word_if_any};
 ghost use Rattle.cfg_tree.specs.Statements.{last_of};
 ghost use Rattle.curly_print.specs.Length.{capped, indent_of, own_len};
@@ -111,12 +110,12 @@ fn own_len(steps: &[Step], value: &Value, holds: bool) -> u64
     value_len(&value.words).saturating_add(all as u64)
 }
 
-/// Whether the next statement, where there is one, stands below a path.
+/// Whether the next statement, where there is one, has more steps than a path. Then it stands below.
 fn is_followed_below(path: &Path, next: Option<(&Path, &Value)>) -> bool
-    ensures { MatchOption next.entry (result ≡ false) (λ found. result ≡ is_below path.now found.0.now) }
+    ensures { MatchOption next.entry (result ≡ false) (λ found. result ≡ nat_lt (length path.now) (length found.0.now)) }
 {
     match next {
-        Some((next, _)) => next.is_below(path),
+        Some((next, _)) => path.steps().len() < next.steps().len(),
         None => false,
     }
 }

@@ -3,7 +3,7 @@ use Rattle.std.proofs.lemmas.Result.{on_ok_weaker}
 use Rattle.std.specs.List.{list_any}
 use Rattle.cfg_base.specs.Words.{lists}
 use Rattle.cfg_base.proofs.WordLemmas.{keeps_all, left_sized}
-use Rattle.cfg_base.proofs.word_list.keep.Goals as goal
+use Rattle.cfg_base.proofs.word_blocks.keep.Goals as goal
 
 pub returns-then-not-loses : goal.returns-then-not-loses
 returns-then-not-loses c =

@@ -2,7 +2,7 @@ use Rattle.std.proofs.Common.{List, ℕ, ◌++◌, ap, sym, ◌∙◌, take, add
 use Rattle.cfg_base.specs.Blocks.{flat}
 use Rattle.cfg_base.specs.Words.{words_without}
 use Rattle.cfg_base.proofs.WordLemmas.{without-more}
-use Rattle.cfg_base.proofs.word_list.left_of.Goals as goal
+use Rattle.cfg_base.proofs.word_blocks.left_of.Goals as goal
 
 pub loop-block-preserved : goal.loop-block-preserved
 loop-block-preserved c =
