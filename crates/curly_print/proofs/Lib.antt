@@ -1,6 +1,7 @@
 pub mod PrintingLemmas
 pub mod TopLemmas
 pub mod LengthLemmas
+pub mod EntryLemmas
 pub mod HoldsLemmas
 pub mod InheritedLemmas
 pub mod TreeTextLemmas

@@ -1,13 +1,16 @@
 -- What the private functions that print an expansion give and print.
-use Rattle.std.specs.Prelude.{ℕ, ◌+◌, List, [], ◌∷◌, ◌++◌, filter, Some, if◌then◌else◌}
-use Rattle.std.specs.List.{flat_map}
+use Rattle.std.specs.Prelude.{◌≡◌, ℕ, ◌+◌, nat_lt, T, List, [], ◌∷◌, ◌++◌, length, take, filter, Some, if◌then◌else◌}
+use Rattle.std.specs.List.{flat_map, prefix_len}
 use Rattle.std.specs.FinMap as finite
+use Rattle.std.specs.FinMap.Entries.{is_sorted}
+use Rattle.cfg_base.specs.Order.{path_cmp}
 use Rattle.cfg_base.specs.declared.path.Step.{Step}
 use Rattle.cfg_schema.specs.Profile.{same_word}
 use Rattle.cfg_tree.specs.declared.full.Given.{Given}
 use Rattle.cfg_tree.specs.Statements.{last_of}
 use Rattle.cfg_tree.specs.Children.{is_child, row_steps}
 use Rattle.cfg_tree.specs.Full.{Expansion}
+use Rattle.printing_order.specs.Inside.{is_inside}
 use Rattle.curly_print.specs.Inherited.{given_below, given_order, given_steps, given_text}
 
 -- a path of an expansion, and what is given there
@@ -18,6 +21,19 @@ FullEntry = List Step × Given
 abbrev pub given_entries : Expansion → List Step → List FullEntry
 given_entries full path = filter (λ e. is_child path e.0) (finite.entries full)
 
+-- those below a path
+abbrev pub given_inside : Expansion → List Step → List FullEntry
+given_inside full path = filter (λ e. is_inside path e.0) (finite.entries full)
+
+-- of those behind a path the ones up to the first that isn't longer
+abbrev pub front_longer : List Step → List FullEntry → List FullEntry
+front_longer path behind = take (prefix_len (λ e. nat_lt (length path) (length e.0)) behind) behind
+
+-- entries in their order have all that stand below a path, and may have others
+pub record HasInside (full : Expansion) (path : List Step) (entries : List FullEntry) : Type 0 where
+  pub all : filter (λ e. is_inside path e.0) entries ≡ given_inside full path
+  pub sorted : T (is_sorted path_cmp entries)
+
 -- what is given at a path, behind so many spaces, with so many levels below it
 abbrev pub entry_text : ℕ → Expansion → ℕ → FullEntry → List ℕ
 entry_text levels full indent e = given_text indent (last_of e.0) (Some e.1) (given_below levels full e.0 (indent + 4))
@@ -26,6 +42,11 @@ entry_text levels full indent e = given_text indent (last_of e.0) (Some e.1) (gi
 abbrev pub headed_text : List ℕ → ℕ → Expansion → ℕ → List FullEntry → List ℕ
 headed_text head levels full indent es =
     flat_map (λ e. if same_word head (last_of e.0).head then entry_text levels full indent e else []) es
+
+-- of an entry, where it is right below a path and has a head
+abbrev pub entry_if : List Step → List ℕ → ℕ → Expansion → ℕ → FullEntry → List ℕ
+entry_if path head levels full indent e =
+    if is_child path e.0 then (if same_word head (last_of e.0).head then entry_text levels full indent e else []) else []
 
 -- what is given at a step below a path, where something is
 abbrev pub given_child_text : ℕ → Expansion → List Step → ℕ → Step → List ℕ

@@ -5,7 +5,7 @@ ghost use Rattle.std.specs.FinMap as finite;
 ghost use Rattle.cfg_tree.specs.Statements.{last_of};
 ghost use Rattle.curly_print.specs.Inherited.{given_text, printed_full};
 
-use crate::entries::Entry;
+use crate::entries::{Entry, entries_inside};
 use crate::line::push_bytes;
 use crate::printer::{Printer, push_front};
 use crate::printing::is_level;
@@ -35,7 +35,8 @@ fn push_text(alloc: Global, text: &mut Vec<u8>, full: &Full, path: &Path) -> Res
         None => Ok(()),
         Some(here) => {
             if is_level(row(here.row).shape) {
-                Printer::of(alloc, full).push_below(text, path, MAX_STEPS, 0)
+                let inside = entries_inside(alloc, full, path)?;
+                Printer::of(alloc, full).push_below(text, path, &inside, MAX_STEPS, 0)
             } else {
                 push_at(text, full, path)
             }

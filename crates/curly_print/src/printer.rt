@@ -1,16 +1,17 @@
 //! What is given below a path of an expansion, as curly text.
 
-ghost use Rattle.std.specs.Prelude.{◌≡◌, ◌<◌, ◌≤◌, ◌+◌, ◌*◌, [], ◌++◌, ◌∷◌, length, map, IfOk, OnOk};
+ghost use Rattle.std.specs.Prelude.{◌≡◌, ◌<◌, ◌≤◌, ◌+◌, ◌*◌, [], ◌++◌, ◌∷◌, length, map, true, OnOk};
 ghost use Rattle.std.specs.List.{flat_map};
 ghost use Rattle.std.specs.FinMap as finite;
 ghost use Rattle.cfg_base.specs.declared.path.TheConstants.{MAX_STEPS};
+ghost use Rattle.cfg_tree.specs.Children.{is_child};
 ghost use Rattle.cfg_tree.specs.Statements.{last_of};
 ghost use Rattle.cfg_tree.specs.Tree.{step_of};
 ghost use Rattle.curly_print.specs.Printed.{ended, spaces};
 ghost use Rattle.curly_print.specs.Inherited.{given_below, given_order, note_of, unmarked_line};
-ghost use Rattle.curly_print.specs.Inheriting.{entry_text, given_child_text, given_entries, headed_text, row_text};
+ghost use Rattle.curly_print.specs.Inheriting.{HasInside, entry_if, entry_text, front_longer, given_child_text, row_text};
 
-use crate::entries::{Entry, entries_below};
+use crate::entries::{Entry, entries_inside, front_longer};
 use crate::line::{push_bytes, push_spaces, push_unmarked_line};
 use crate::note::push_note;
 use crate::printing::INDENT;
@@ -57,17 +58,18 @@ impl<'a> Printer<'a> {
         &self,
         text: &mut Vec<u8>,
         path: &Path,
+        inside: &[Entry<'a>],
         levels: usize,
         indent: usize,
     ) -> Result<(), NoMemory>
-        requires { indent + 4 * levels ≤ 64 }
+        requires inside { HasInside self.now.full.now path.now inside.now }
+        requires near { indent + 4 * levels ≤ 64 }
         ensures { OnOk result (text.new.items ≡ text.old.items ++ given_below levels self.now.full.now path.now indent) }
     {
         if levels == 0 {
             return Ok(());
         }
-        let entries = entries_below(self.alloc, self.full, path)?;
-        if entries.is_empty() {
+        if inside.is_empty() {
             return Ok(());
         }
         let here = match Place::of(path.steps()) {
@@ -75,7 +77,7 @@ impl<'a> Printer<'a> {
             Some(here) => here,
         };
         let rows = rows_below(self.alloc, here.row, here.in_group)?;
-        self.push_rows(text, path, &entries, &rows, levels - 1, indent)
+        self.push_rows(text, path, inside, &rows, levels - 1, indent)
     }
 
     /// Puts what is given below a path by these rows at the end of a text.
@@ -84,18 +86,18 @@ impl<'a> Printer<'a> {
         &self,
         text: &mut Vec<u8>,
         path: &Path,
-        entries: &[Entry<'a>],
+        inside: &[Entry<'a>],
         rows: &[RowId],
         levels: usize,
         indent: usize,
     ) -> Result<(), NoMemory>
         requires short { length path.now < MAX_STEPS }
-        requires below { entries.now ≡ given_entries self.now.full.now path.now }
+        requires inside { HasInside self.now.full.now path.now inside.now }
         requires near { indent + 4 * levels ≤ 60 }
         ensures { OnOk result (text.new.items ≡ text.old.items ++ flat_map (row_text levels self.now.full.now path.now indent) rows.now) }
     {
         for id in rows {
-            self.push_row(text, path, entries, *id, levels, indent)?;
+            self.push_row(text, path, inside, *id, levels, indent)?;
         }
         Ok(())
     }
@@ -105,20 +107,20 @@ impl<'a> Printer<'a> {
         &self,
         text: &mut Vec<u8>,
         path: &Path,
-        entries: &[Entry<'a>],
+        inside: &[Entry<'a>],
         id: RowId,
         levels: usize,
         indent: usize,
     ) -> Result<(), NoMemory>
         requires short { length path.now < MAX_STEPS }
-        requires below { entries.now ≡ given_entries self.now.full.now path.now }
+        requires inside { HasInside self.now.full.now path.now inside.now }
         requires near { indent + 4 * levels ≤ 60 }
         ensures { OnOk result (text.new.items ≡ text.old.items ++ row_text levels self.now.full.now path.now indent id) }
     {
         if row(id).ordered {
             self.push_named(text, path, head(id), levels, indent)
         } else {
-            self.push_headed(text, entries, head(id), levels, indent)
+            self.push_headed(text, path, inside, head(id), levels, indent)
         }
     }
 
@@ -166,29 +168,59 @@ impl<'a> Printer<'a> {
         let child = named_child(self.alloc, path, head, name)?;
         match self.full.at(&child) {
             None => Ok(()),
-            Some(given) => self.push_entry(text, &Entry::of(&child, given), levels, indent),
+            Some(given) => {
+                let inside = entries_inside(self.alloc, self.full, &child)?;
+                self.push_entry(text, &Entry::of(&child, given), &inside, levels, indent)
+            }
         }
     }
 
-    /// Puts those with a head at the end of a text.
+    /// Puts the children with a head at the end of a text, in the order of paths.
     #[cycle(inherited)]
     fn push_headed(
         &self,
         text: &mut Vec<u8>,
-        entries: &[Entry<'a>],
+        path: &Path,
+        inside: &[Entry<'a>],
         head: &[u8],
         levels: usize,
         indent: usize,
     ) -> Result<(), NoMemory>
-        requires { indent + 4 * levels ≤ 60 }
-        ensures { OnOk result (text.new.items ≡ text.old.items ++ headed_text head.now levels self.now.full.now indent entries.now) }
+        requires inside { HasInside self.now.full.now path.now inside.now }
+        requires near { indent + 4 * levels ≤ 60 }
+        ensures { OnOk result (text.new.items
+            ≡ text.old.items ++ flat_map (entry_if path.now head.now levels self.now.full.now indent) inside.now) }
     {
-        for entry in entries {
-            if head == entry.step().head.as_bytes() {
-                self.push_entry(text, entry, levels, indent)?;
-            }
+        let count = path.steps().len() + 1;
+        for at in 0..inside.len() {
+            let (_, behind) = inside.split_at(at + 1);
+            self.push_if_headed(text, path, &inside[at], behind, count, head, levels, indent)?;
         }
         Ok(())
+    }
+
+    /// Puts an entry at the end of a text, where it is right below a path and has this head.
+    #[cycle(inherited)]
+    fn push_if_headed(
+        &self,
+        text: &mut Vec<u8>,
+        path: &Path,
+        entry: &Entry<'a>,
+        behind: &[Entry<'a>],
+        count: usize,
+        head: &[u8],
+        levels: usize,
+        indent: usize,
+    ) -> Result<(), NoMemory>
+        requires inside { is_child path.now entry.now.0 ≡ true → HasInside self.now.full.now entry.now.0 (front_longer entry.now.0 behind.now) }
+        requires count { count ≡ length path.now + 1 }
+        requires near { indent + 4 * levels ≤ 60 }
+        ensures { OnOk result (text.new.items ≡ text.old.items ++ entry_if path.now head.now levels self.now.full.now indent entry.now) }
+    {
+        if !entry.is_headed(path, count, head) {
+            return Ok(());
+        }
+        self.push_entry(text, entry, front_longer(entry, behind), levels, indent)
     }
 
     /// Puts what is given at a path at the end of a text, with what stands in it.
@@ -197,14 +229,16 @@ impl<'a> Printer<'a> {
         &self,
         text: &mut Vec<u8>,
         entry: &Entry<'_>,
+        inside: &[Entry<'a>],
         levels: usize,
         indent: usize,
     ) -> Result<(), NoMemory>
-        requires { indent + 4 * levels ≤ 60 }
+        requires inside { HasInside self.now.full.now entry.now.0 inside.now }
+        requires near { indent + 4 * levels ≤ 60 }
         ensures { OnOk result (text.new.items ≡ text.old.items ++ entry_text levels self.now.full.now indent entry.now) }
     {
         push_front(text, entry, indent)?;
-        self.push_end(text, entry.path(), levels, indent)
+        self.push_end(text, entry.path(), inside, levels, indent)
     }
 
     /// Puts the end of a statement's line at the end of a text, and what stands in it before that.
@@ -213,18 +247,20 @@ impl<'a> Printer<'a> {
         &self,
         text: &mut Vec<u8>,
         path: &Path,
+        inside: &[Entry<'a>],
         levels: usize,
         indent: usize,
     ) -> Result<(), NoMemory>
-        requires { indent + 4 * levels ≤ 60 }
+        requires inside { HasInside self.now.full.now path.now inside.now }
+        requires near { indent + 4 * levels ≤ 60 }
         ensures { OnOk result (text.new.items ≡ text.old.items ++ ended indent (given_below levels self.now.full.now path.now (indent + 4))) }
     {
         let end = text.len();
         push_bytes(text, b" {\n".as_slice())?;
-        let inside = text.len();
-        self.push_below(text, path, levels, indent + INDENT)?;
+        let within = text.len();
+        self.push_below(text, path, inside, levels, indent + INDENT)?;
         // What its order names may not be there, so that only the text tells whether something stands in it.
-        if text.len() == inside {
+        if text.len() == within {
             text.truncate(end);
             return push_bytes(text, b";\n".as_slice());
         }

@@ -24,10 +24,6 @@ use Rattle.printing_order.proofs.NumberLemmas.{lt_is}
 abbrev pub IsPart : List Step → (List Step → Bool) → Type 0
 IsPart path test = (k : List Step) → is_below path k ≡ false → test k ≡ false
 
--- what is right below a path is below it
-pub child_part : (path : List Step) → IsPart path (is_child path)
-child_part path k other = ap (λ (b : Bool). b && (length k == length path + 1)) other
-
 -- what is below a path and longer is below it
 pub inside_part : (path : List Step) → IsPart path (is_inside path)
 inside_part path k other = ap (λ (b : Bool). b && nat_lt (length path) (length k)) other

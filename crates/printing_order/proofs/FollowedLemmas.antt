@@ -60,7 +60,7 @@ later_found (e ∷ es) a q all there =
     (λ more. later_found es a q (back_of _ _ all) more)
 
 -- a path before a list stands before each of it
-pub all_in : (a : List Step) (front back : List (Pair Value)) (e : Pair Value) → T (below_all path_cmp a (front ++ e ∷ back)) → path_cmp a e.0 ≡ Less
+pub all_in : {V : Type 0} (a : List Step) (front back : List (Pair V)) (e : Pair V) → T (below_all path_cmp a (front ++ e ∷ back)) → path_cmp a e.0 ≡ Less
 all_in a [] back e all = less _ (front_of _ _ all)
 all_in a (g ∷ front) back e all = all_in a front back e (back_of _ _ all)
 
@@ -74,7 +74,7 @@ found_behind (g ∷ front) back e q sorted there after =
     (λ same. absurd (not_both g.0 e.0 (all_in g.0 front back e (front_of _ _ sorted)) (subst (λ (x : List Step). path_cmp e.0 x ≡ Less) same after)))
     (λ more. found_behind front back e q (back_of _ _ sorted) more after)
 
-pub back_sorted : (front back : List (Pair Value)) → T (is_sorted path_cmp (front ++ back)) → T (is_sorted path_cmp back)
+pub back_sorted : {V : Type 0} (front back : List (Pair V)) → T (is_sorted path_cmp (front ++ back)) → T (is_sorted path_cmp back)
 back_sorted [] back sorted = sorted
 back_sorted (g ∷ front) back sorted = back_sorted front back (back_of _ _ sorted)
 

@@ -27,7 +27,7 @@ use Rattle.printing_order.proofs.FollowedLemmas.{child_after}
 use Rattle.printing_order.proofs.NumberLemmas.{lt_is, lt_not, lt_told}
 
 -- what passes a test passes a weaker one before it
-twice : {X : Type 0} (p q : X → Bool) → ((x : X) → q x ≡ true → p x ≡ true) → (xs : List X) → filter q (filter p xs) ≡ filter q xs
+pub twice : {X : Type 0} (p q : X → Bool) → ((x : X) → q x ≡ true → p x ≡ true) → (xs : List X) → filter q (filter p xs) ≡ filter q xs
 twice p q h [] = refl
 twice {X} p q h (x ∷ xs) = by_tests (p x) (q x) refl refl (twice p q h xs)
   where
@@ -48,7 +48,7 @@ below_below (s ∷ a) (t ∷ b) (u ∷ c) h k =
     in both_true _ _ ((same_step s u).1 ((same_step s t).0 one.0 ∙ (same_step t u).0 two.0)) (below_below a b c one.1 two.1)
 
 -- what is inside a path that is inside another one is inside that
-inside_inside : (a b c : List Step) → is_inside a b ≡ true → is_inside b c ≡ true → is_inside a c ≡ true
+pub inside_inside : (a b c : List Step) → is_inside a b ≡ true → is_inside b c ≡ true → is_inside a c ≡ true
 inside_inside a b c h k =
     let one = both (is_below a b) _ h
     in let two = both (is_below b c) _ k
@@ -73,7 +73,7 @@ self_apart e = both_false (is_below e e) (nat_lt (length e) (length e)) (lt_not 
     both_false false b f = refl
 
 -- what is below a path and behind it is inside
-behind_inside : (e x : List Step) → path_cmp e x ≡ Less → is_below e x ≡ true → is_inside e x ≡ true
+pub behind_inside : (e x : List Step) → path_cmp e x ≡ Less → is_below e x ≡ true → is_inside e x ≡ true
 behind_inside e x behind below = let rest = below_rest e x below in by_rest rest.0 rest.1
   where
     by_rest : (rest : List Step) → x ≡ e ++ rest → is_inside e x ≡ true
@@ -114,17 +114,23 @@ behind_is e (x ∷ rest) sorted behind = by_test (is_below e x.0) refl (behind_i
         (none_later e x.0 (keys_of rest) (ap is_le behind.0) f (later x.0 rest (head_of _ _ sorted)))
         ∙ ap (λ (c : Bool). take (cond c (1 + count) 0) (x ∷ rest)) (sym f)
 
+-- of entries in order those inside one of them stand behind it
+pub only_behind : {V : Type 0} (front rest : List (Pair V)) (e : Pair V) → T (is_sorted path_cmp (front ++ e ∷ rest))
+    → filter (λ x. is_inside e.0 x.0) (front ++ e ∷ rest) ≡ filter (λ x. is_inside e.0 x.0) rest
+only_behind {V} [] rest e sorted =
+    ap (λ (c : Bool). cond c (e ∷ filter (λ (x : Pair V). is_inside e.0 x.0) rest) (filter (λ (x : Pair V). is_inside e.0 x.0) rest)) (self_apart e.0)
+only_behind {V} (g ∷ front) rest e sorted =
+    ap
+    (λ (c : Bool). cond c (g ∷ filter (λ (x : Pair V). is_inside e.0 x.0) (front ++ e ∷ rest)) (filter (λ (x : Pair V). is_inside e.0 x.0) (front ++ e ∷ rest)))
+    (before_apart e.0 g.0 (all_in g.0 front rest e (head_of _ _ sorted)))
+    ∙ only_behind front rest e (tail_of _ _ sorted)
+
 -- of statements in order those inside one of them stand right behind it
 right_behind : (front rest : List (Pair Value)) (e : Pair Value) → T (is_sorted path_cmp (front ++ e ∷ rest))
     → filter (λ x. is_inside e.0 x.0) (front ++ e ∷ rest) ≡ front_below e.0 rest
-right_behind [] rest e sorted =
-    ap (λ (c : Bool). cond c (e ∷ filter (λ (x : Pair Value). is_inside e.0 x.0) rest) (filter (λ (x : Pair Value). is_inside e.0 x.0) rest)) (self_apart e.0)
-    ∙ behind_is e.0 rest (tail_of _ _ sorted) (later e.0 rest (head_of _ _ sorted))
-right_behind (g ∷ front) rest e sorted =
-    ap
-    (λ (c : Bool). cond c (g ∷ filter (λ (x : Pair Value). is_inside e.0 x.0) (front ++ e ∷ rest)) (filter (λ (x : Pair Value). is_inside e.0 x.0) (front ++ e ∷ rest)))
-    (before_apart e.0 g.0 (all_in g.0 front rest e (head_of _ _ sorted)))
-    ∙ right_behind front rest e (tail_of _ _ sorted)
+right_behind front rest e sorted =
+    let here = back_sorted front (e ∷ rest) sorted
+    in only_behind front rest e sorted ∙ behind_is e.0 rest (tail_of _ _ here) (later e.0 rest (head_of _ _ here))
 
 -- what is kept of a list, and of the end of a list
 pub kept_pass : {X : Type 0} (P : X → Type 0) (p : X → Bool) (xs : List X) → AllByRecursion P xs → AllByRecursion (λ x. (p x ≡ true) × P x) (filter p xs)

@@ -3,32 +3,35 @@ use Rattle.std.specs.List.{flat_map}
 use Rattle.std.specs.FinMap as finite
 use Rattle.cfg_tree.specs.Tree.{step_of}
 use Rattle.curly_print.specs.Inherited.{given_order}
-use Rattle.curly_print.specs.Inheriting.{given_child_text, headed_text, row_text}
+use Rattle.curly_print.specs.Inheriting.{entry_if, given_child_text, row_text}
 use Rattle.curly_print.proofs.printer.Printer.+inherited.Given as goal
 
 abbrev pub decreases-push_rows : goal.decreases-push_rows
-decreases-push_rows l = 7 * l.levels + 6
+decreases-push_rows l = 8 * l.levels + 7
 
 abbrev pub decreases-push_row : goal.decreases-push_row
-decreases-push_row l = 7 * l.levels + 5
+decreases-push_row l = 8 * l.levels + 6
 
 abbrev pub decreases-push_named : goal.decreases-push_named
-decreases-push_named l = 7 * l.levels + 4
+decreases-push_named l = 8 * l.levels + 5
 
 abbrev pub decreases-push_child : goal.decreases-push_child
-decreases-push_child l = 7 * l.levels + 3
+decreases-push_child l = 8 * l.levels + 4
 
 abbrev pub decreases-push_headed : goal.decreases-push_headed
-decreases-push_headed l = 7 * l.levels + 3
+decreases-push_headed l = 8 * l.levels + 5
+
+abbrev pub decreases-push_if_headed : goal.decreases-push_if_headed
+decreases-push_if_headed l = 8 * l.levels + 4
 
 abbrev pub decreases-push_entry : goal.decreases-push_entry
-decreases-push_entry l = 7 * l.levels + 2
+decreases-push_entry l = 8 * l.levels + 3
 
 abbrev pub decreases-push_end : goal.decreases-push_end
-decreases-push_end l = 7 * l.levels + 1
+decreases-push_end l = 8 * l.levels + 2
 
 abbrev pub decreases-push_below : goal.decreases-push_below
-decreases-push_below l = 7 * l.levels
+decreases-push_below l = 8 * l.levels
 
 abbrev pub invariant-push_rows-loop-id : goal.invariant-push_rows-loop-id
 invariant-push_rows-loop-id l =
@@ -44,6 +47,6 @@ invariant-push_named-loop-name l =
 abbrev pub decreases-push_named-loop-name : goal.decreases-push_named-loop-name
 decreases-push_named-loop-name l = length l.left
 
-abbrev pub invariant-push_headed-loop-entry : goal.invariant-push_headed-loop-entry
-invariant-push_headed-loop-entry l =
-    l.text.items ≡ l.fn.text.items ++ headed_text l.head l.levels l.self.full.now l.indent (take l.entry-index l.entries)
+abbrev pub invariant-push_headed-loop-at : goal.invariant-push_headed-loop-at
+invariant-push_headed-loop-at l =
+    l.text.items ≡ l.fn.text.items ++ flat_map (entry_if l.path l.head l.levels l.self.full.now l.indent) (take l.at l.inside)
