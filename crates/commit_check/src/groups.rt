@@ -1,6 +1,6 @@
 //! The rule of groups: what a live statement applies or excepts is a live group.
 
-ghost use Rattle.std.specs.Prelude.{◌≡◌, not, [], ◌∷◌, take, drop, codes, true, IfOk, MatchOption};
+ghost use Rattle.std.specs.Prelude.{◌≡◌, not, [], ◌∷◌, take, drop, codes, true, Some, IfOk, MatchOption};
 ghost use Rattle.std.specs.FinMap as map;
 ghost use Rattle.std.specs.List.{list_any};
 ghost use Rattle.std.specs.Option.{option_copied};
@@ -106,13 +106,31 @@ fn names_no_group(alloc: Global, tree: &Tree, path: &Path) -> Result<bool, NoMem
     }
 }
 
+/// The same of a statement that is there.
+#[tactic(auto, using(crate::proofs::GroupLemmas::wordless))]
+fn names_no_group_at(
+    alloc: Global,
+    tree: &Tree,
+    path: &Path,
+    value: &Value,
+) -> Result<bool, NoMemory>
+    requires { map.get tree.now path.now ≡ Some value.now }
+    ensures { IfOk result (λ told. told ≡ names_no_group tree.now path.now) }
+{
+    // Most statements have no words, and their paths aren't read.
+    if value.words.is_empty() {
+        return Ok(false);
+    }
+    names_no_group(alloc, tree, path)
+}
+
 /// The first path of a live statement that applies or excepts a group which isn't there.
 fn first_unknown(alloc: Global, tree: &Tree) -> Result<Option<Path>, NoMemory>
     ensures { IfOk result (λ found. found ≡ first_of (λ e. names_no_group tree.now e.0) (map.entries tree.now)) }
 {
     let mut left = tree.walk();
-    while let Some((path, _)) = left.next() {
-        if names_no_group(alloc, tree, path)? {
+    while let Some((path, value)) = left.next() {
+        if names_no_group_at(alloc, tree, path, value)? {
             return Ok(Some(path.clone()?));
         }
     }
