@@ -9,6 +9,11 @@ place=$(cd "${1:-.}" && pwd)
 . "$(dirname "$0")/measure.sh"
 folder=$(mktemp -d "$place/readers.XXXXXX")
 trap 'rm -rf "$work" "$folder"' EXIT
+# bytes that a session may have: more than the longest has
+input=1000000000
+# which processor takes the disk's interrupts, and the others, once it is known
+busy=
+free=()
 
 # a session that shows the active configuration so many times
 shows() {
@@ -31,10 +36,30 @@ journal() {
     printf 'configure\nset system host-name r1\ncommit\n' | "$program" serve "$1" > "$work/output"
 }
 
+# how many interrupts of devices each processor has taken
+interrupts() {
+    awk 'NR == 1 { count = NF; next }
+        $1 ~ /^[0-9]+:$/ { for (n = 0; n < count; n++) taken[n] += $(n + 2) }
+        END { for (n = 0; n < count; n++) print taken[n] }' /proc/interrupts
+}
+
+# gives each session of a service that is starting, so many of them, a processor of its own: those named, in their order
+place_sessions() {
+    local service=$1 threads=() number
+    shift
+    # the ticker has a thread too
+    while [ "${#threads[@]}" -le "$#" ] && kill -0 "$service" 2> /dev/null; do
+        threads=($(ls "/proc/$service/task" 2> /dev/null | sort -n)) || true
+    done
+    for ((number = 0; number < $#; number++)); do
+        taskset -pc "${@:number + 1:1}" "${threads[number]}" > "$work/output" 2>&1 || true
+    done
+}
+
 # shows a second of so many sessions together, each with that many, and commits a second of a session with so many: beside them in one
 # service, or at the same time in another one. Each kind by its own last end
 rates() {
-    local readers=$1 each=$2 count=$3 where=${4:-beside} number begun words=()
+    local readers=$1 each=$2 count=$3 where=${4:-beside} number begun service places=() words=()
     rm -rf "$folder"/* "$work"/reader* "$work"/writer*
     journal "$folder/journal"
     journal "$folder/other"
@@ -42,19 +67,26 @@ rates() {
         shows "$each" > "$work/reader$number"
         words+=("reader$number:$work/reader$number")
     done
+    if [ "$readers" -le "${#free[@]}" ]; then
+        places=("${free[@]:0:readers}")
+    fi
     if [ "$count" -gt 0 ]; then
         commits "$count" > "$work/writer"
         if [ "$where" = beside ]; then
             words+=("writer:$work/writer")
+            places+=(${busy:+"$busy"})
         fi
     fi
     begun=$(date +%s.%N)
     if [ "$where" = apart ]; then
-        "$program" serve "$folder/other" "writer:$work/writer" &
+        ${busy:+taskset -c "$busy"} "$program" --input "$input" serve "$folder/other" "writer:$work/writer" &
     fi
-    "$program" serve "$folder/journal" "${words[@]}"
-    wait
-    if grep -q error "$work"/*.out; then
+    "$program" --input "$input" serve "$folder/journal" "${words[@]}" &
+    service=$!
+    if [ "${#places[@]}" -eq "${#words[@]}" ]; then
+        place_sessions "$service" "${places[@]}"
+    fi
+    if ! wait "$service" || ! wait || grep -q error "$work"/*.out; then
         echo "a line was refused" >&2
         exit 1
     fi
@@ -76,7 +108,7 @@ piped() {
     cat "$work/reader" > "$work/piped" &
     cat "$work/piped.out" > "$work/output" &
     begun=$(date +%s%N)
-    "$program" serve "$folder/journal" "piped:$work/piped"
+    "$program" --input "$input" serve "$folder/journal" "piped:$work/piped"
     ended=$(date +%s%N)
     wait
     if grep -q error "$work/output"; then
@@ -95,7 +127,12 @@ middle() {
 # The commits alone, the shows alone, then both, each for some three seconds: a first short run tells how many these are, and isn't
 # told, since a run's beginning counts in it. They take turns five times, and of each kind the rate in the middle is told, since what
 # else runs on a machine makes some of the runs slow, and some of them fast.
+interrupts > "$work/before"
 alone=$(rates 0 0 2000)
+interrupts > "$work/after"
+placing=$(paste "$work/before" "$work/after" | awk '{ print $2 - $1, NR - 1 }' | sort -rn | awk '{ print $2 }')
+busy=$(head -n 1 <<< "$placing")
+free=($(tail -n +2 <<< "$placing" | sort -n))
 commits=$((3 * ${alone#* }))
 for readers in 1 4; do
     rm -f "$work"/*.rates
