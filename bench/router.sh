@@ -1,23 +1,31 @@
 # What the scripts share that time a line over a router's interfaces: each has an address, and one wildcard group gives each an MTU.
 . "$(dirname "$0")/measure.sh"
 
+# a load of so many interfaces, with a host name of that number
+load() {
+    awk -v count="$1" -v number="$2" 'BEGIN {
+        print "load override terminal"
+        print "groups {\n    JUMBO {\n        interfaces {\n            <ge-*> {\n                mtu 9000;\n            }"
+        print "        }\n    }\n}"
+        print "apply-groups JUMBO;"
+        print "system {\n    host-name gen" number ";\n}"
+        print "interfaces {"
+        for (n = 0; n < count; n++) {
+            print "    ge-0/0/" n " {\n        description \"port " n "\";\n        unit 0 {\n            family inet {"
+            print "                address 10." int(n / 256) "." (n % 256) ".1/24;\n            }\n        }\n    }"
+        }
+        print "}"
+        printf "\004\n"
+    }'
+}
+
 # one session over so many interfaces, which asks so often what the line asks
 session() {
-    awk -v count="$1" -v times="$2" -v line="$3" 'BEGIN {
-        print "configure"
-        print "set groups JUMBO interfaces <ge-*> mtu 9000"
-        print "set apply-groups JUMBO"
-        print "set system host-name gen"
-        for (n = 0; n < count; n++) {
-            print "set interfaces ge-0/0/" n " description \"port " n "\""
-            print "set interfaces ge-0/0/" n " unit 0 family inet address 10." int(n / 256) "." (n % 256) ".1/24"
-        }
-        for (n = 0; n < times; n++) {
-            print line
-        }
-        print "exit"
-        print "exit"
-    }'
+    echo configure
+    load "$1" 0
+    yes "$3" | head -n "$2" || true
+    echo exit
+    echo exit
 }
 
 # nanoseconds an interface of a line: what a session that asks it so many interfaces' worth takes longer than one that doesn't
