@@ -3,21 +3,18 @@
 set -eu
 . "$(dirname "$0")/router.sh"
 
-# one session that loads so many interfaces once, and then asks so often what the line asks
+time_line 'show' 240000
+time_line 'show | display set' 240000
+
+# one session that loads so many interfaces once, and then so often again, each time with another host name
 session() {
     local round
     echo configure
-    load "$1" 0
-    for ((round = 1; round <= $2; round++)); do
-        case $3 in
-            load*) load "$1" "$round" ;;
-            *) echo "$3" ;;
-        esac
+    for ((round = 0; round <= $2; round++)); do
+        load "$1" "$round"
     done
     echo exit
     echo exit
 }
 
 time_line 'load override terminal' 60000
-time_line 'show' 240000
-time_line 'show | display set' 240000
