@@ -1,7 +1,8 @@
 -- What a contract sees of a journal on two disks.
 use Rattle.std.specs.Prelude.{◌≡◌, ◌≤◌, ◌<◌, ◌+◌, ◌-◌, ◌^◌, ◌⊎◌, min, Bool, IsTrue, ℕ, List, [], ◌∷◌, ◌++◌, length}
 use Rattle.cfg_base.specs.Counts.{Rose}
-use Rattle.disk_model.specs.Disk.{History, state_of, contents_of, IsImage}
+use Rattle.disk_model.specs.Disk.{DiskView, History, state_of, contents_of, IsImage}
+use Rattle.disk_model.specs.Pair.{DiskPair}
 use Rattle.record_code.specs.Record.{Record, body}
 use Rattle.commit_journal.specs.declared.flight.Flight.{Flight}
 use Rattle.commit_journal.specs.declared.flight.Flight.TheVariants.{Nothing, Record as InFlight}
@@ -10,9 +11,9 @@ use Rattle.commit_journal.specs.declared.settling.Settled.TheVariants.{Kept, Not
 use Rattle.commit_journal.specs.Pair.{first_of, second_of, IsSettled, IsBeforeOrAfter, Rests, Waits, LeavesPair}
 
 -- the disk that counts and the other one, and what is in flight
-pub record JournalView (D : Type 0) : Type 0 where
-  pub counting : D
-  pub other : D
+pub record JournalView : Type 0 where
+  pub counting : DiskView
+  pub other : DiskView
   pub b_counts : Bool
   pub gate : ℕ
   pub flight : Flight
@@ -22,11 +23,11 @@ pub record JournalView (D : Type 0) : Type 0 where
   pub other_calls : ℕ
 
 -- both disks tell what they hold
-abbrev pub Tell : {D : Type 0} → (D → Bool) → JournalView D → Type 0
-Tell tells v = IsTrue (tells v.counting) × IsTrue (tells v.other)
+abbrev pub Tell : JournalView → Type 0
+Tell v = IsTrue v.counting.tells × IsTrue v.other.tells
 
 -- nothing is in flight
-abbrev pub IsIdle : {D : Type 0} → JournalView D → Type 0
+abbrev pub IsIdle : JournalView → Type 0
 IsIdle v = v.flight ≡ Nothing
 
 -- a record or an image is in flight
@@ -39,14 +40,14 @@ abbrev pub gate_behind : ℕ → Record → ℕ
 gate_behind gate r = min (gate + length (body 0 r)) (2 ^ 62 - 1)
 
 -- the journal has these records, and nothing is in flight
-pub record Has {D : Type 0} (history : D → History) (v : JournalView D) (rs : List Record) : Type 0 where
+pub record Has (v : JournalView) (rs : List Record) : Type 0 where
   pub idle : v.flight ≡ Nothing
-  pub rests : Rests v.b_counts (history v.counting) (history v.other) v.gate rs
+  pub rests : Rests v.b_counts v.counting.history v.other.history v.gate rs
 
 -- the journal has these records, and this one is in flight
-pub record Awaits {D : Type 0} (history : D → History) (v : JournalView D) (rs : List Record) (r : Record) : Type 0 where
+pub record Awaits (v : JournalView) (rs : List Record) (r : Record) : Type 0 where
   pub flight : v.flight ≡ InFlight (gate_behind v.gate r)
-  pub waits : Waits v.b_counts (history v.counting) (history v.other) v.gate rs r
+  pub waits : Waits v.b_counts v.counting.history v.other.history v.gate rs r
 
 -- a count that goes on, and stands still at its last value
 abbrev pub counted : ℕ → ℕ → ℕ
@@ -58,40 +59,43 @@ CountsCalls h h' count count' =
     length h'.calls < 2 ^ 64 - 1 → count' ≡ counted count (length h'.calls - length h.calls)
 
 -- the history of A, and that of B
-abbrev pub a_of : {D : Type 0} → (D → History) → JournalView D → History
-a_of history v = first_of v.b_counts (history v.counting) (history v.other)
+abbrev pub a_of : JournalView → History
+a_of v = first_of v.b_counts v.counting.history v.other.history
 
-abbrev pub b_of : {D : Type 0} → (D → History) → JournalView D → History
-b_of history v = second_of v.b_counts (history v.counting) (history v.other)
+abbrev pub b_of : JournalView → History
+b_of v = second_of v.b_counts v.counting.history v.other.history
 
 -- the disk of A, and that of B
-abbrev pub disk_a : {D : Type 0} → JournalView D → D
+abbrev pub disk_a : JournalView → DiskView
 disk_a v = first_of v.b_counts v.counting v.other
 
-abbrev pub disk_b : {D : Type 0} → JournalView D → D
+abbrev pub disk_b : JournalView → DiskView
 disk_b v = second_of v.b_counts v.counting v.other
 
+abbrev pub disks_of : JournalView → DiskPair
+disks_of v = record { a = disk_a v; b = disk_b v }
+
 -- how many calls the disk of A made since the journal was opened, and that of B
-abbrev pub calls_a : {D : Type 0} → JournalView D → ℕ
+abbrev pub calls_a : JournalView → ℕ
 calls_a v = first_of v.b_counts v.counting_calls v.other_calls
 
-abbrev pub calls_b : {D : Type 0} → JournalView D → ℕ
+abbrev pub calls_b : JournalView → ℕ
 calls_b v = second_of v.b_counts v.counting_calls v.other_calls
 
 -- each pair of images since the old journal has P
-abbrev pub LeavesBoth : {D : Type 0} → (D → History) → JournalView D → JournalView D → (List ℕ → List ℕ → Type 0) → Type 0
-LeavesBoth history old new P = LeavesPair (a_of history old) (b_of history old) (a_of history new) (b_of history new) P
+abbrev pub LeavesBoth : JournalView → JournalView → (List ℕ → List ℕ → Type 0) → Type 0
+LeavesBoth old new P = LeavesPair (a_of old) (b_of old) (a_of new) (b_of new) P
 
 -- what is true of the file that counts and its gate
-abbrev pub IsWhole : {D : Type 0} → (D → Bool) → (D → History) → D → ℕ → Flight → Type 0
-IsWhole tells history counting gate Nothing =
-    (gate < 2 ^ 62) × (IsTrue (tells counting) → (rs : List Record) × IsSettled (history counting) rs gate)
-IsWhole tells history counting gate (InFlight next) =
+abbrev pub IsWhole : DiskView → ℕ → Flight → Type 0
+IsWhole counting gate Nothing =
+    (gate < 2 ^ 62) × (IsTrue counting.tells → (rs : List Record) × IsSettled counting.history rs gate)
+IsWhole counting gate (InFlight next) =
     (gate < 2 ^ 62)
     × (next < 2 ^ 62)
-    × (IsTrue (tells counting) → (rs : List Record) × (r : Record)
+    × (IsTrue counting.tells → (rs : List Record) × (r : Record)
     × (next ≡ gate_behind gate r)
-    × ((c : List ℕ) → IsImage (state_of (history counting)) c → IsBeforeOrAfter (contents_of (history counting)) rs r gate c))
+    × ((c : List ℕ) → IsImage (state_of counting.history) c → IsBeforeOrAfter (contents_of counting.history) rs r gate c))
 
 -- no count of faults of two disks fell, and a failure comes only where one of them rose
 pub record PairCause (a a' b b' : ℕ) (failed : Type 0) : Type 0 where
@@ -105,9 +109,9 @@ next_of Nothing gate = gate
 next_of (InFlight next) gate = next
 
 -- what the journal has once it is settled
-abbrev pub HasSettled : {D : Type 0} → (D → History) → JournalView D → List Record → Record → Settled → Type 0
-HasSettled history v rs r Kept = Has history v (rs ++ r ∷ [])
-HasSettled history v rs r NotKept = Has history v rs
+abbrev pub HasSettled : JournalView → List Record → Record → Settled → Type 0
+HasSettled v rs r Kept = Has v (rs ++ r ∷ [])
+HasSettled v rs r NotKept = Has v rs
 
 -- the list that a settled journal has
 abbrev pub settled_list : List Record → Record → Settled → List Record

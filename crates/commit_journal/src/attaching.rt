@@ -25,10 +25,10 @@ impl<D: Disk> Journal<D> {
         b: D,
         limit: u64,
     ) -> Result<(Journal<D>, Payloads), AttachFault<D>>
-        ensures ok { IfOk result (λ opened. IsOpened D.tells D.faults a b limit opened.0) }
-        ensures read { IfOk result (λ opened. IsAttached D.tells D.history a b opened.1 opened.0) }
+        ensures ok { IfOk result (λ opened. IsOpened (D.view a) (D.view b) limit opened.0) }
+        ensures read { IfOk result (λ opened. IsAttached (D.view a) (D.view b) opened.1 opened.0) }
         ensures err { IfErr result (λ fault.
-            IsNotAttached D.tells D.history D.faults a b fault.why fault.a fault.b) }
+            IsNotAttached (D.view a) (D.view b) fault.why (D.view fault.a) (D.view fault.b)) }
     {
         let mut a = a;
         let mut b = b;

@@ -17,17 +17,17 @@ use std::alloc::{AllocError, Global};
 
 /// Writes a piece, and syncs.
 pub(crate) fn write_and_sync<D: Disk>(disk: &mut D, at: u64, piece: &[u8]) -> DiskDone
-    requires { IsTrue (D.tells disk.old) → at ≤ length (contents_of (D.history disk.old)) }
-    ensures tells { D.tells disk.new ≡ D.tells disk.old }
-    ensures contents { result ≡ DiskDone.Done → IsTrue (D.tells disk.old) →
-        contents_of (D.history disk.new) ≡ put at piece.now (contents_of (D.history disk.old)) }
-    ensures quiet { result ≡ DiskDone.Done → IsTrue (D.tells disk.old) → IsQuiet (D.history disk.new) }
-    ensures made { result ≡ DiskDone.Done → IsTrue (D.tells disk.old) →
-        GoesOn (D.history disk.old) (Write at piece.now ∷ (Sync true ∷ [])) (D.history disk.new) }
-    ensures part { IsTrue (D.tells disk.old) →
-        MadePart (D.history disk.old) (Write at piece.now ∷ (Sync true ∷ [])) (D.history disk.new) }
+    requires { IsTrue (D.view disk.old).tells → at ≤ length (contents_of (D.view disk.old).history) }
+    ensures tells { (D.view disk.new).tells ≡ (D.view disk.old).tells }
+    ensures contents { result ≡ DiskDone.Done → IsTrue (D.view disk.old).tells →
+        contents_of (D.view disk.new).history ≡ put at piece.now (contents_of (D.view disk.old).history) }
+    ensures quiet { result ≡ DiskDone.Done → IsTrue (D.view disk.old).tells → IsQuiet (D.view disk.new).history }
+    ensures made { result ≡ DiskDone.Done → IsTrue (D.view disk.old).tells →
+        GoesOn (D.view disk.old).history (Write at piece.now ∷ (Sync true ∷ [])) (D.view disk.new).history }
+    ensures part { IsTrue (D.view disk.old).tells →
+        MadePart (D.view disk.old).history (Write at piece.now ∷ (Sync true ∷ [])) (D.view disk.new).history }
     ensures bound { result ≡ DiskDone.Done → at + length piece.now ≤ 2 ^ 62 }
-    ensures cause { HasCause (D.faults disk.old) (D.faults disk.new) (result ≡ DiskDone.Failed) }
+    ensures cause { HasCause (D.view disk.old).faults (D.view disk.new).faults (result ≡ DiskDone.Failed) }
 {
     if let DiskDone::Failed = disk.write_at(at, piece) {
         return DiskDone::Failed;
@@ -43,14 +43,14 @@ fn is_there(a: &Header, b: &Header) -> bool
 
 /// Whether a journal is there already.
 pub(crate) fn find_journal<D: Disk>(a: &mut D, b: &mut D) -> Option<bool>
-    ensures tells { D.tells a.new ≡ D.tells a.old }
-    ensures other_tells { D.tells b.new ≡ D.tells b.old }
-    ensures history { D.history a.new ≡ D.history a.old }
-    ensures other_history { D.history b.new ≡ D.history b.old }
-    ensures there { IsTrue (D.tells a.old) → IsTrue (D.tells b.old) → IfSome result (λ is_there.
-        IsTrue is_there ↔ IsThere (contents_of (D.history a.old)) (contents_of (D.history b.old))) }
-    ensures cause { PairCause (D.faults a.old) (D.faults a.new)
-        (D.faults b.old) (D.faults b.new) (IsNone result) }
+    ensures tells { (D.view a.new).tells ≡ (D.view a.old).tells }
+    ensures other_tells { (D.view b.new).tells ≡ (D.view b.old).tells }
+    ensures history { (D.view a.new).history ≡ (D.view a.old).history }
+    ensures other_history { (D.view b.new).history ≡ (D.view b.old).history }
+    ensures there { IsTrue (D.view a.old).tells → IsTrue (D.view b.old).tells → IfSome result (λ is_there.
+        IsTrue is_there ↔ IsThere (contents_of (D.view a.old).history) (contents_of (D.view b.old).history)) }
+    ensures cause { PairCause (D.view a.old).faults (D.view a.new).faults
+        (D.view b.old).faults (D.view b.new).faults (IsNone result) }
 {
     match (read_header(a), read_header(b)) {
         (Some(first), Some(second)) => Some(is_there(&first, &second)),
@@ -78,27 +78,27 @@ fn image_of(alloc: Global, entry: &[u8]) -> Result<Vec<u8>, AllocError>
 
 fn write_files<D: Disk>(a: &mut D, b: &mut D, image: &[u8]) -> DiskDone
     requires { 17 ≤ length image.now }
-    ensures tells { D.tells a.new ≡ D.tells a.old }
-    ensures other_tells { D.tells b.new ≡ D.tells b.old }
-    ensures contents { result ≡ DiskDone.Done → IsTrue (D.tells a.old) → contents_of (D.history a.new)
-        ≡ put 16 (1 ∷ []) (put 0 image.now (contents_of (D.history a.old))) }
-    ensures other_contents { result ≡ DiskDone.Done → IsTrue (D.tells b.old) →
-        contents_of (D.history b.new) ≡ put 0 head_b (contents_of (D.history b.old)) }
-    ensures quiet { result ≡ DiskDone.Done → IsTrue (D.tells a.old) → IsQuiet (D.history a.new) }
-    ensures other_quiet { result ≡ DiskDone.Done → IsTrue (D.tells b.old) → IsQuiet (D.history b.new) }
-    ensures made { result ≡ DiskDone.Done → IsTrue (D.tells a.old) →
-        GoesOn (D.history a.old) (making image.now) (D.history a.new) }
-    ensures other_made { result ≡ DiskDone.Done → IsTrue (D.tells b.old) →
-        GoesOn (D.history b.old) making_b (D.history b.new) }
-    ensures part { IsTrue (D.tells a.old) →
-        MadePart (D.history a.old) (making image.now) (D.history a.new) }
-    ensures other_part { IsTrue (D.tells b.old) →
-        MadePart (D.history b.old) making_b (D.history b.new) }
-    ensures other_first { IsTrue (D.tells b.old) → (D.history a.new ≡ D.history a.old)
-        ⊎ GoesOn (D.history b.old) making_b (D.history b.new) }
+    ensures tells { (D.view a.new).tells ≡ (D.view a.old).tells }
+    ensures other_tells { (D.view b.new).tells ≡ (D.view b.old).tells }
+    ensures contents { result ≡ DiskDone.Done → IsTrue (D.view a.old).tells → contents_of (D.view a.new).history
+        ≡ put 16 (1 ∷ []) (put 0 image.now (contents_of (D.view a.old).history)) }
+    ensures other_contents { result ≡ DiskDone.Done → IsTrue (D.view b.old).tells →
+        contents_of (D.view b.new).history ≡ put 0 head_b (contents_of (D.view b.old).history) }
+    ensures quiet { result ≡ DiskDone.Done → IsTrue (D.view a.old).tells → IsQuiet (D.view a.new).history }
+    ensures other_quiet { result ≡ DiskDone.Done → IsTrue (D.view b.old).tells → IsQuiet (D.view b.new).history }
+    ensures made { result ≡ DiskDone.Done → IsTrue (D.view a.old).tells →
+        GoesOn (D.view a.old).history (making image.now) (D.view a.new).history }
+    ensures other_made { result ≡ DiskDone.Done → IsTrue (D.view b.old).tells →
+        GoesOn (D.view b.old).history making_b (D.view b.new).history }
+    ensures part { IsTrue (D.view a.old).tells →
+        MadePart (D.view a.old).history (making image.now) (D.view a.new).history }
+    ensures other_part { IsTrue (D.view b.old).tells →
+        MadePart (D.view b.old).history making_b (D.view b.new).history }
+    ensures other_first { IsTrue (D.view b.old).tells → ((D.view a.new).history ≡ (D.view a.old).history)
+        ⊎ GoesOn (D.view b.old).history making_b (D.view b.new).history }
     ensures bound { result ≡ DiskDone.Done → length image.now ≤ 2 ^ 62 }
-    ensures cause { PairCause (D.faults a.old) (D.faults a.new)
-        (D.faults b.old) (D.faults b.new) (result ≡ DiskDone.Failed) }
+    ensures cause { PairCause (D.view a.old).faults (D.view a.new).faults
+        (D.view b.old).faults (D.view b.new).faults (result ≡ DiskDone.Failed) }
 {
     if let DiskDone::Failed = write_and_sync(b, 0, &HEADER_B) {
         return DiskDone::Failed;
@@ -117,38 +117,38 @@ pub(crate) fn make_files<D: Disk>(
     entry: &[u8],
 ) -> Result<(), CreateWhy>
     requires { length entry.now < 2 ^ 62 }
-    ensures tells { D.tells a.new ≡ D.tells a.old }
-    ensures other_tells { D.tells b.new ≡ D.tells b.old }
+    ensures tells { (D.view a.new).tells ≡ (D.view a.old).tells }
+    ensures other_tells { (D.view b.new).tells ≡ (D.view b.old).tells }
     ensures bound { OnOk result (16 + length entry.now < 2 ^ 62) }
-    ensures made { IsTrue (D.tells a.old) → OnOk result
-        (GoesOn (D.history a.old) (making (head_a ++ entry.now)) (D.history a.new)) }
-    ensures other_made { IsTrue (D.tells b.old) → OnOk result
-        (GoesOn (D.history b.old) making_b (D.history b.new)) }
-    ensures part { IsTrue (D.tells a.old) →
-        MadePart (D.history a.old) (making (head_a ++ entry.now)) (D.history a.new) }
-    ensures other_part { IsTrue (D.tells b.old) →
-        MadePart (D.history b.old) making_b (D.history b.new) }
-    ensures other_first { IsTrue (D.tells b.old) → (D.history a.new ≡ D.history a.old)
-        ⊎ GoesOn (D.history b.old) making_b (D.history b.new) }
-    ensures settled { IsTrue (D.tells a.old) → OnOk result ((r : Record) → IsSound r
+    ensures made { IsTrue (D.view a.old).tells → OnOk result
+        (GoesOn (D.view a.old).history (making (head_a ++ entry.now)) (D.view a.new).history) }
+    ensures other_made { IsTrue (D.view b.old).tells → OnOk result
+        (GoesOn (D.view b.old).history making_b (D.view b.new).history) }
+    ensures part { IsTrue (D.view a.old).tells →
+        MadePart (D.view a.old).history (making (head_a ++ entry.now)) (D.view a.new).history }
+    ensures other_part { IsTrue (D.view b.old).tells →
+        MadePart (D.view b.old).history making_b (D.view b.new).history }
+    ensures other_first { IsTrue (D.view b.old).tells → ((D.view a.new).history ≡ (D.view a.old).history)
+        ⊎ GoesOn (D.view b.old).history making_b (D.view b.new).history }
+    ensures settled { IsTrue (D.view a.old).tells → OnOk result ((r : Record) → IsSound r
         → entry.now ≡ gated (body 0 r)
-        → IsSettled (D.history a.new) (r ∷ []) (16 + length entry.now)) }
-    ensures other_quiet { IsTrue (D.tells b.old) → OnOk result (IsQuiet (D.history b.new)) }
-    ensures chosen { IsTrue (D.tells a.old) → IsTrue (D.tells b.old) → OnOk result ((r : Record)
+        → IsSettled (D.view a.new).history (r ∷ []) (16 + length entry.now)) }
+    ensures other_quiet { IsTrue (D.view b.old).tells → OnOk result (IsQuiet (D.view b.new).history) }
+    ensures chosen { IsTrue (D.view a.old).tells → IsTrue (D.view b.old).tells → OnOk result ((r : Record)
         → IsSound r → entry.now ≡ gated (body 0 r)
-        → IsChosen false (contents_of (D.history a.new)) (contents_of (D.history b.new))) }
-    ensures free { IsTrue (D.tells a.old) → IsTrue (D.tells b.old) → OnOk result
-        (IsThere (contents_of (D.history a.old)) (contents_of (D.history b.old)) → ⊥) }
-    ensures exists { IsTrue (D.tells a.old) → IsTrue (D.tells b.old)
+        → IsChosen false (contents_of (D.view a.new).history) (contents_of (D.view b.new).history)) }
+    ensures free { IsTrue (D.view a.old).tells → IsTrue (D.view b.old).tells → OnOk result
+        (IsThere (contents_of (D.view a.old).history) (contents_of (D.view b.old).history) → ⊥) }
+    ensures exists { IsTrue (D.view a.old).tells → IsTrue (D.view b.old).tells
         → IsErrOf result CreateWhy.Exists
-        → IsThere (contents_of (D.history a.old)) (contents_of (D.history b.old)) }
+        → IsThere (contents_of (D.view a.old).history) (contents_of (D.view b.old).history) }
     ensures unchanged { IsErrOf result CreateWhy.Exists ⊎ IsErrOf result CreateWhy.NoMemory
-        → (D.history a.new ≡ D.history a.old) × (D.history b.new ≡ D.history b.old) }
-    ensures spared { IsTrue (D.tells a.old) → IsTrue (D.tells b.old)
-        → IsThere (contents_of (D.history a.old)) (contents_of (D.history b.old))
-        → (D.history a.new ≡ D.history a.old) × (D.history b.new ≡ D.history b.old) }
-    ensures cause { PairCause (D.faults a.old) (D.faults a.new)
-        (D.faults b.old) (D.faults b.new) (IsErrOf result CreateWhy.DiskFault) }
+        → ((D.view a.new).history ≡ (D.view a.old).history) × ((D.view b.new).history ≡ (D.view b.old).history) }
+    ensures spared { IsTrue (D.view a.old).tells → IsTrue (D.view b.old).tells
+        → IsThere (contents_of (D.view a.old).history) (contents_of (D.view b.old).history)
+        → ((D.view a.new).history ≡ (D.view a.old).history) × ((D.view b.new).history ≡ (D.view b.old).history) }
+    ensures cause { PairCause (D.view a.old).faults (D.view a.new).faults
+        (D.view b.old).faults (D.view b.new).faults (IsErrOf result CreateWhy.DiskFault) }
 {
     match find_journal(a, b) {
         Some(false) => {}
@@ -175,10 +175,10 @@ impl<D: Disk> Journal<D> {
         limit: u64,
     ) -> Result<Journal<D>, CreateFault<D>>
         requires { length first.now ≡ 1 }
-        ensures ok { IfOk result (λ journal. IsOpened D.tells D.faults a b limit journal) }
-        ensures made { IfOk result (λ journal. IsCreated D.tells D.history a b first.now journal) }
+        ensures ok { IfOk result (λ journal. IsOpened (D.view a) (D.view b) limit journal) }
+        ensures made { IfOk result (λ journal. IsCreated (D.view a) (D.view b) first.now journal) }
         ensures err { IfErr result (λ fault.
-            IsNotCreated D.tells D.history D.faults a b first.now fault.why fault.a fault.b) }
+            IsNotCreated (D.view a) (D.view b) first.now fault.why (D.view fault.a) (D.view fault.b)) }
     {
         let mut a = a;
         let mut b = b;

@@ -28,11 +28,11 @@ pub struct Header {
 
 /// Reads the first bytes of a file.
 pub(crate) fn read_header<D: Disk>(disk: &mut D) -> Option<Header>
-    ensures tells { D.tells disk.new ≡ D.tells disk.old }
-    ensures history { D.history disk.new ≡ D.history disk.old }
-    ensures header { IsTrue (D.tells disk.old) → IfSome result (λ h.
-        IsHeaderOf (contents_of (D.history disk.old)) h) }
-    ensures cause { HasCause (D.faults disk.old) (D.faults disk.new) (IsNone result) }
+    ensures tells { (D.view disk.new).tells ≡ (D.view disk.old).tells }
+    ensures history { (D.view disk.new).history ≡ (D.view disk.old).history }
+    ensures header { IsTrue (D.view disk.old).tells → IfSome result (λ h.
+        IsHeaderOf (contents_of (D.view disk.old).history) h) }
+    ensures cause { HasCause (D.view disk.old).faults (D.view disk.new).faults (IsNone result) }
 {
     let len = match disk.len() {
         DiskLen::Len(len) => len,

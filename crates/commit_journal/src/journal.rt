@@ -30,11 +30,11 @@ pub struct Journal<D: Disk> {
 impl<D: Disk> Model for Journal<D> {
     ghost use Rattle.commit_journal.specs.Journal.{JournalView, IsWhole};
 
-    ghost Value = { JournalView D };
+    ghost Value = { JournalView };
 
     ghost view = { λ j. record {
-      counting = j.counting;
-      other = j.other;
+      counting = D.view j.counting;
+      other = D.view j.other;
       b_counts = j.b_counts;
       gate = j.gate;
       flight = j.flight;
@@ -43,7 +43,7 @@ impl<D: Disk> Model for Journal<D> {
       other_calls = j.other_calls;
     } };
 
-    ghost invariant = { λ j. IsWhole D.tells D.history j.counting j.gate j.flight };
+    ghost invariant = { λ j. IsWhole (D.view j.counting) j.gate j.flight };
 }
 
 impl<D: Disk> Journal<D> {
@@ -51,13 +51,13 @@ impl<D: Disk> Journal<D> {
     pub fn append(&mut self, body: &Encoded) -> Result<(), DiskFault>
         requires idle { IsIdle self.old }
         requires one { length body.now ≡ 1 }
-        ensures ok { OnOk result (IsAppended D.tells D.history self.old body.now self.new) }
-        ensures err { OnErr result (IsAppendFaulted D.tells D.history self.old body.now self.new) }
-        ensures safe { IsAppendSafe D.tells D.history self.old body.now self.new }
-        ensures counts { Counts D.tells D.history self.old self.new }
-        ensures stays { Stays D.tells self.old self.new }
-        ensures cause { PairCause (D.faults (disk_a self.old)) (D.faults (disk_a self.new))
-            (D.faults (disk_b self.old)) (D.faults (disk_b self.new)) (IsErr result) }
+        ensures ok { OnOk result (IsAppended self.old body.now self.new) }
+        ensures err { OnErr result (IsAppendFaulted self.old body.now self.new) }
+        ensures safe { IsAppendSafe self.old body.now self.new }
+        ensures counts { Counts self.old self.new }
+        ensures stays { Stays self.old self.new }
+        ensures cause { PairCause (disk_a self.old).faults (disk_a self.new).faults
+            (disk_b self.old).faults (disk_b self.new).faults (IsErr result) }
     {
         let entry = body.as_bytes();
         let tried = append_to(&mut self.counting, self.gate, entry);
@@ -78,13 +78,13 @@ impl<D: Disk> Journal<D> {
     /// Finds out whether what is in flight is kept; after a fault all is as before.
     pub fn settle(&mut self) -> Result<Settled, DiskFault>
         requires { IsInFlight self.old.flight }
-        ensures ok { IfOk result (λ settled. IsSettledAs D.tells D.history self.old settled self.new) }
-        ensures err { OnErr result (IsSettleFaulted D.tells D.history self.old self.new) }
-        ensures safe { IsSettleSafe D.tells D.history self.old self.new }
-        ensures counts { Counts D.tells D.history self.old self.new }
-        ensures stays { Stays D.tells self.old self.new }
-        ensures cause { PairCause (D.faults (disk_a self.old)) (D.faults (disk_a self.new))
-            (D.faults (disk_b self.old)) (D.faults (disk_b self.new)) (IsErr result) }
+        ensures ok { IfOk result (λ settled. IsSettledAs self.old settled self.new) }
+        ensures err { OnErr result (IsSettleFaulted self.old self.new) }
+        ensures safe { IsSettleSafe self.old self.new }
+        ensures counts { Counts self.old self.new }
+        ensures stays { Stays self.old self.new }
+        ensures cause { PairCause (disk_a self.old).faults (disk_a self.new).faults
+            (disk_b self.old).faults (disk_b self.new).faults (IsErr result) }
     {
         self.counting_calls = self.counting_calls.saturating_add(1);
         self.other_calls = self.other_calls.saturating_add(1);
@@ -136,8 +136,8 @@ impl<D: Disk> Journal<D> {
 
     /// The disks A and B.
     pub fn into_disks(self) -> (D, D)
-        ensures a { result.0 ≡ disk_a self }
-        ensures b { result.1 ≡ disk_b self }
+        ensures a { D.view result.0 ≡ disk_a self }
+        ensures b { D.view result.1 ≡ disk_b self }
     {
         let Journal {
             counting,

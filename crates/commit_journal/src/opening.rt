@@ -15,20 +15,20 @@ use std::alloc::Global;
 
 /// Syncs both files, after which a crash leaves what a read gives.
 pub(crate) fn sync_both<D: Disk>(a: &mut D, b: &mut D) -> DiskDone
-    ensures tells { D.tells a.new ≡ D.tells a.old }
-    ensures other_tells { D.tells b.new ≡ D.tells b.old }
-    ensures settles { IsTrue (D.tells a.old) → FileSettles (D.history a.old) (D.history a.new) }
-    ensures other_settles { IsTrue (D.tells b.old) → FileSettles (D.history b.old) (D.history b.new) }
-    ensures synced { result ≡ DiskDone.Done → IsTrue (D.tells a.old) →
-        Called (D.history a.old) (Sync true) (D.history a.new) }
-    ensures other_synced { result ≡ DiskDone.Done → IsTrue (D.tells b.old) →
-        Called (D.history b.old) (Sync true) (D.history b.new) }
-    ensures may { IsTrue (D.tells a.old) → MaySync (D.history a.old) (D.history a.new) }
-    ensures other_may { IsTrue (D.tells b.old) → MaySync (D.history b.old) (D.history b.new) }
-    ensures quiet { result ≡ DiskDone.Done → IsTrue (D.tells a.old) → IsQuiet (D.history a.new) }
-    ensures other_quiet { result ≡ DiskDone.Done → IsTrue (D.tells b.old) → IsQuiet (D.history b.new) }
-    ensures cause { PairCause (D.faults a.old) (D.faults a.new)
-        (D.faults b.old) (D.faults b.new) (result ≡ DiskDone.Failed) }
+    ensures tells { (D.view a.new).tells ≡ (D.view a.old).tells }
+    ensures other_tells { (D.view b.new).tells ≡ (D.view b.old).tells }
+    ensures settles { IsTrue (D.view a.old).tells → FileSettles (D.view a.old).history (D.view a.new).history }
+    ensures other_settles { IsTrue (D.view b.old).tells → FileSettles (D.view b.old).history (D.view b.new).history }
+    ensures synced { result ≡ DiskDone.Done → IsTrue (D.view a.old).tells →
+        Called (D.view a.old).history (Sync true) (D.view a.new).history }
+    ensures other_synced { result ≡ DiskDone.Done → IsTrue (D.view b.old).tells →
+        Called (D.view b.old).history (Sync true) (D.view b.new).history }
+    ensures may { IsTrue (D.view a.old).tells → MaySync (D.view a.old).history (D.view a.new).history }
+    ensures other_may { IsTrue (D.view b.old).tells → MaySync (D.view b.old).history (D.view b.new).history }
+    ensures quiet { result ≡ DiskDone.Done → IsTrue (D.view a.old).tells → IsQuiet (D.view a.new).history }
+    ensures other_quiet { result ≡ DiskDone.Done → IsTrue (D.view b.old).tells → IsQuiet (D.view b.new).history }
+    ensures cause { PairCause (D.view a.old).faults (D.view a.new).faults
+        (D.view b.old).faults (D.view b.new).faults (result ≡ DiskDone.Failed) }
 {
     if let DiskDone::Failed = sync_file(a) {
         return DiskDone::Failed;
@@ -54,19 +54,19 @@ fn counts_b(a: &Header, b: &Header) -> bool
 
 /// Whether B counts, where these are a journal's files.
 pub(crate) fn choose<D: Disk>(a: &mut D, b: &mut D) -> Result<bool, AttachWhy>
-    ensures tells { D.tells a.new ≡ D.tells a.old }
-    ensures other_tells { D.tells b.new ≡ D.tells b.old }
-    ensures history { D.history a.new ≡ D.history a.old }
-    ensures other_history { D.history b.new ≡ D.history b.old }
-    ensures ok { IsTrue (D.tells a.old) → IsTrue (D.tells b.old) → IfOk result (λ choice.
-        IsPair (contents_of (D.history a.old)) (contents_of (D.history b.old))
-        × (choice ≡ b_counts (contents_of (D.history a.old)) (contents_of (D.history b.old)))) }
-    ensures no { IsTrue (D.tells a.old) → IsTrue (D.tells b.old)
+    ensures tells { (D.view a.new).tells ≡ (D.view a.old).tells }
+    ensures other_tells { (D.view b.new).tells ≡ (D.view b.old).tells }
+    ensures history { (D.view a.new).history ≡ (D.view a.old).history }
+    ensures other_history { (D.view b.new).history ≡ (D.view b.old).history }
+    ensures ok { IsTrue (D.view a.old).tells → IsTrue (D.view b.old).tells → IfOk result (λ choice.
+        IsPair (contents_of (D.view a.old).history) (contents_of (D.view b.old).history)
+        × (choice ≡ b_counts (contents_of (D.view a.old).history) (contents_of (D.view b.old).history))) }
+    ensures no { IsTrue (D.view a.old).tells → IsTrue (D.view b.old).tells
         → IsErrOf result AttachWhy.NotAJournal
-        → IsPair (contents_of (D.history a.old)) (contents_of (D.history b.old)) → ⊥ }
+        → IsPair (contents_of (D.view a.old).history) (contents_of (D.view b.old).history) → ⊥ }
     ensures why { IfErr result (λ why. (why ≡ AttachWhy.NotAJournal) ⊎ (why ≡ AttachWhy.DiskFault)) }
-    ensures cause { PairCause (D.faults a.old) (D.faults a.new)
-        (D.faults b.old) (D.faults b.new) (IsErrOf result AttachWhy.DiskFault) }
+    ensures cause { PairCause (D.view a.old).faults (D.view a.new).faults
+        (D.view b.old).faults (D.view b.new).faults (IsErrOf result AttachWhy.DiskFault) }
 {
     match (read_header(a), read_header(b)) {
         (Some(first), Some(second)) if is_pair(&first, &second) => Ok(counts_b(&first, &second)),
@@ -88,22 +88,22 @@ fn list_counting<D: Disk>(
     b: &mut D,
     choice: bool,
 ) -> Result<Listed, AttachWhy>
-    ensures tells { D.tells a.new ≡ D.tells a.old }
-    ensures other_tells { D.tells b.new ≡ D.tells b.old }
-    ensures history { D.history a.new ≡ D.history a.old }
-    ensures other_history { D.history b.new ≡ D.history b.old }
+    ensures tells { (D.view a.new).tells ≡ (D.view a.old).tells }
+    ensures other_tells { (D.view b.new).tells ≡ (D.view b.old).tells }
+    ensures history { (D.view a.new).history ≡ (D.view a.old).history }
+    ensures other_history { (D.view b.new).history ≡ (D.view b.old).history }
     ensures bound { IfOk result (λ listed. listed.gate < 2 ^ 62) }
     ensures places { IfOk result (λ listed. PlacedFrom 17 listed.payloads listed.gate) }
-    ensures ok_a { choice ≡ false → IsTrue (D.tells a.old) → IfOk result (λ listed.
-        Spells (contents_of (D.history a.old)) (records_of listed.payloads) listed.gate) }
-    ensures ok_b { choice ≡ true → IsTrue (D.tells b.old) → IfOk result (λ listed.
-        Spells (contents_of (D.history b.old)) (records_of listed.payloads) listed.gate) }
-    ensures err_a { choice ≡ false → IsTrue (D.tells a.old) → IfErr result (λ why.
-        ExplainsFile (contents_of (D.history a.old)) why) }
-    ensures err_b { choice ≡ true → IsTrue (D.tells b.old) → IfErr result (λ why.
-        ExplainsFile (contents_of (D.history b.old)) why) }
-    ensures cause { PairCause (D.faults a.old) (D.faults a.new)
-        (D.faults b.old) (D.faults b.new) (IsErrOf result AttachWhy.DiskFault) }
+    ensures ok_a { choice ≡ false → IsTrue (D.view a.old).tells → IfOk result (λ listed.
+        Spells (contents_of (D.view a.old).history) (records_of listed.payloads) listed.gate) }
+    ensures ok_b { choice ≡ true → IsTrue (D.view b.old).tells → IfOk result (λ listed.
+        Spells (contents_of (D.view b.old).history) (records_of listed.payloads) listed.gate) }
+    ensures err_a { choice ≡ false → IsTrue (D.view a.old).tells → IfErr result (λ why.
+        ExplainsFile (contents_of (D.view a.old).history) why) }
+    ensures err_b { choice ≡ true → IsTrue (D.view b.old).tells → IfErr result (λ why.
+        ExplainsFile (contents_of (D.view b.old).history) why) }
+    ensures cause { PairCause (D.view a.old).faults (D.view a.new).faults
+        (D.view b.old).faults (D.view b.new).faults (IsErrOf result AttachWhy.DiskFault) }
 {
     if choice {
         list_file(alloc, b)
@@ -114,37 +114,37 @@ fn list_counting<D: Disk>(
 
 /// Syncs both files, chooses the one that counts, and reads its records.
 pub(crate) fn open_files<D: Disk>(alloc: Global, a: &mut D, b: &mut D) -> Result<Opened, AttachWhy>
-    ensures tells { D.tells a.new ≡ D.tells a.old }
-    ensures other_tells { D.tells b.new ≡ D.tells b.old }
-    ensures settles { IsTrue (D.tells a.old) → FileSettles (D.history a.old) (D.history a.new) }
-    ensures other_settles { IsTrue (D.tells b.old) → FileSettles (D.history b.old) (D.history b.new) }
-    ensures synced { IsTrue (D.tells a.old) → IsOk result →
-        Called (D.history a.old) (Sync true) (D.history a.new) }
-    ensures other_synced { IsTrue (D.tells b.old) → IsOk result →
-        Called (D.history b.old) (Sync true) (D.history b.new) }
-    ensures may { IsTrue (D.tells a.old) → MaySync (D.history a.old) (D.history a.new) }
-    ensures other_may { IsTrue (D.tells b.old) → MaySync (D.history b.old) (D.history b.new) }
+    ensures tells { (D.view a.new).tells ≡ (D.view a.old).tells }
+    ensures other_tells { (D.view b.new).tells ≡ (D.view b.old).tells }
+    ensures settles { IsTrue (D.view a.old).tells → FileSettles (D.view a.old).history (D.view a.new).history }
+    ensures other_settles { IsTrue (D.view b.old).tells → FileSettles (D.view b.old).history (D.view b.new).history }
+    ensures synced { IsTrue (D.view a.old).tells → IsOk result →
+        Called (D.view a.old).history (Sync true) (D.view a.new).history }
+    ensures other_synced { IsTrue (D.view b.old).tells → IsOk result →
+        Called (D.view b.old).history (Sync true) (D.view b.new).history }
+    ensures may { IsTrue (D.view a.old).tells → MaySync (D.view a.old).history (D.view a.new).history }
+    ensures other_may { IsTrue (D.view b.old).tells → MaySync (D.view b.old).history (D.view b.new).history }
     ensures bound { IfOk result (λ opened. opened.listed.gate < 2 ^ 62) }
     ensures places { IfOk result (λ opened.
         PlacedFrom 17 opened.listed.payloads opened.listed.gate) }
-    ensures spells_a { IsTrue (D.tells a.old) → IfOk result (λ opened. opened.b_counts ≡ false →
-        Spells (contents_of (D.history a.new)) (records_of opened.listed.payloads) opened.listed.gate) }
-    ensures spells_b { IsTrue (D.tells b.old) → IfOk result (λ opened. opened.b_counts ≡ true →
-        Spells (contents_of (D.history b.new)) (records_of opened.listed.payloads) opened.listed.gate) }
-    ensures quiet { IsTrue (D.tells a.old) → IsOk result → IsQuiet (D.history a.new) }
-    ensures other_quiet { IsTrue (D.tells b.old) → IsOk result → IsQuiet (D.history b.new) }
-    ensures choice { IsTrue (D.tells a.old) → IsTrue (D.tells b.old) → IfOk result (λ opened.
-        IsPair (contents_of (D.history a.new)) (contents_of (D.history b.new))
-        × (opened.b_counts ≡ b_counts (contents_of (D.history a.new)) (contents_of (D.history b.new)))) }
-    ensures spelled { IsTrue (D.tells a.old) → IsTrue (D.tells b.old) → IfOk result (λ opened.
-        PairSpells (contents_of (D.history a.old)) (contents_of (D.history b.old))
+    ensures spells_a { IsTrue (D.view a.old).tells → IfOk result (λ opened. opened.b_counts ≡ false →
+        Spells (contents_of (D.view a.new).history) (records_of opened.listed.payloads) opened.listed.gate) }
+    ensures spells_b { IsTrue (D.view b.old).tells → IfOk result (λ opened. opened.b_counts ≡ true →
+        Spells (contents_of (D.view b.new).history) (records_of opened.listed.payloads) opened.listed.gate) }
+    ensures quiet { IsTrue (D.view a.old).tells → IsOk result → IsQuiet (D.view a.new).history }
+    ensures other_quiet { IsTrue (D.view b.old).tells → IsOk result → IsQuiet (D.view b.new).history }
+    ensures choice { IsTrue (D.view a.old).tells → IsTrue (D.view b.old).tells → IfOk result (λ opened.
+        IsPair (contents_of (D.view a.new).history) (contents_of (D.view b.new).history)
+        × (opened.b_counts ≡ b_counts (contents_of (D.view a.new).history) (contents_of (D.view b.new).history))) }
+    ensures spelled { IsTrue (D.view a.old).tells → IsTrue (D.view b.old).tells → IfOk result (λ opened.
+        PairSpells (contents_of (D.view a.old).history) (contents_of (D.view b.old).history)
         (records_of opened.listed.payloads)) }
-    ensures only { IsTrue (D.tells a.old) → IsTrue (D.tells b.old) → IfOk result (λ opened.
-        Only (D.history a.new) (D.history b.new) (records_of opened.listed.payloads)) }
-    ensures err { IsTrue (D.tells a.old) → IsTrue (D.tells b.old) → IfErr result (λ why.
-        ExplainsPair (contents_of (D.history a.new)) (contents_of (D.history b.new)) why) }
-    ensures cause { PairCause (D.faults a.old) (D.faults a.new)
-        (D.faults b.old) (D.faults b.new) (IsErrOf result AttachWhy.DiskFault) }
+    ensures only { IsTrue (D.view a.old).tells → IsTrue (D.view b.old).tells → IfOk result (λ opened.
+        Only (D.view a.new).history (D.view b.new).history (records_of opened.listed.payloads)) }
+    ensures err { IsTrue (D.view a.old).tells → IsTrue (D.view b.old).tells → IfErr result (λ why.
+        ExplainsPair (contents_of (D.view a.new).history) (contents_of (D.view b.new).history) why) }
+    ensures cause { PairCause (D.view a.old).faults (D.view a.new).faults
+        (D.view b.old).faults (D.view b.new).faults (IsErrOf result AttachWhy.DiskFault) }
 {
     if let DiskDone::Failed = sync_both(a, b) {
         return Err(AttachWhy::DiskFault);

@@ -25,11 +25,11 @@ pub(crate) struct Listed {
 // The kind and the length of the record behind a gate.
 fn read_head<D: Disk>(disk: &mut D, gate: u64) -> Option<[u8; 5]>
     requires { gate < 2 ^ 62 }
-    ensures tells { D.tells disk.new ≡ D.tells disk.old }
-    ensures history { D.history disk.new ≡ D.history disk.old }
-    ensures head { IsTrue (D.tells disk.old) → IfSome result (λ head.
-        head ≡ slice (contents_of (D.history disk.old)) (gate + 1) 5) }
-    ensures cause { HasCause (D.faults disk.old) (D.faults disk.new) (IsNone result) }
+    ensures tells { (D.view disk.new).tells ≡ (D.view disk.old).tells }
+    ensures history { (D.view disk.new).history ≡ (D.view disk.old).history }
+    ensures head { IsTrue (D.view disk.old).tells → IfSome result (λ head.
+        head ≡ slice (contents_of (D.view disk.old).history) (gate + 1) 5) }
+    ensures cause { HasCause (D.view disk.old).faults (D.view disk.new).faults (IsNone result) }
 {
     let mut head = [0u8; 5];
     match fill(disk, gate + 1, &mut head) {
@@ -61,13 +61,13 @@ fn read_bytes<D: Disk>(
     at: u64,
     count: usize,
 ) -> Result<Vec<u8>, AttachWhy>
-    ensures tells { D.tells disk.new ≡ D.tells disk.old }
-    ensures history { D.history disk.new ≡ D.history disk.old }
+    ensures tells { (D.view disk.new).tells ≡ (D.view disk.old).tells }
+    ensures history { (D.view disk.new).history ≡ (D.view disk.old).history }
     ensures len { IfOk result (λ bytes. vec_len bytes ≡ count) }
-    ensures bytes { IsTrue (D.tells disk.old) → IfOk result (λ bytes.
-        bytes.items ≡ slice (contents_of (D.history disk.old)) at count) }
+    ensures bytes { IsTrue (D.view disk.old).tells → IfOk result (λ bytes.
+        bytes.items ≡ slice (contents_of (D.view disk.old).history) at count) }
     ensures err { (file : List ℕ) (g : ℕ) → IfErr result (λ why. ExplainsRecord file g why) }
-    ensures cause { HasCause (D.faults disk.old) (D.faults disk.new)
+    ensures cause { HasCause (D.view disk.old).faults (D.view disk.new).faults
         (IsErrOf result AttachWhy.DiskFault) }
 {
     let mut bytes = vec![in alloc; 0u8; count]?;
@@ -124,21 +124,21 @@ fn record_from(gate: u64, head: &[u8; 5], rest: Vec<u8>) -> Result<Placed, Attac
 // The record behind an open gate, and the place of the gate after it.
 fn read_record<D: Disk>(alloc: Global, disk: &mut D, gate: u64) -> Result<(Placed, u64), AttachWhy>
     requires { gate < 2 ^ 62 }
-    ensures tells { D.tells disk.new ≡ D.tells disk.old }
-    ensures history { D.history disk.new ≡ D.history disk.old }
+    ensures tells { (D.view disk.new).tells ≡ (D.view disk.old).tells }
+    ensures history { (D.view disk.new).history ≡ (D.view disk.old).history }
     ensures later { IfOk result (λ read. gate < read.1) }
     ensures bound { IfOk result (λ read. read.1 < 2 ^ 63) }
     ensures offset { IfOk result (λ read. read.0.offset ≡ gate) }
     ensures behind { IfOk result (λ read. read.1 ≡ gate + 38 + length read.0.payload) }
-    ensures ok { IsTrue (D.tells disk.old)
-        → byte (contents_of (D.history disk.old)) gate ≡ 1
-        → IfOk result (λ read. IsRecordAt (contents_of (D.history disk.old)) gate (record_of read.0)) }
-    ensures next { IsTrue (D.tells disk.old)
-        → IfOk result (λ read. read.1 ≡ next_gate (contents_of (D.history disk.old)) gate) }
-    ensures err { IsTrue (D.tells disk.old)
-        → byte (contents_of (D.history disk.old)) gate ≡ 1
-        → IfErr result (λ why. ExplainsRecord (contents_of (D.history disk.old)) gate why) }
-    ensures cause { HasCause (D.faults disk.old) (D.faults disk.new)
+    ensures ok { IsTrue (D.view disk.old).tells
+        → byte (contents_of (D.view disk.old).history) gate ≡ 1
+        → IfOk result (λ read. IsRecordAt (contents_of (D.view disk.old).history) gate (record_of read.0)) }
+    ensures next { IsTrue (D.view disk.old).tells
+        → IfOk result (λ read. read.1 ≡ next_gate (contents_of (D.view disk.old).history) gate) }
+    ensures err { IsTrue (D.view disk.old).tells
+        → byte (contents_of (D.view disk.old).history) gate ≡ 1
+        → IfErr result (λ why. ExplainsRecord (contents_of (D.view disk.old).history) gate why) }
+    ensures cause { HasCause (D.view disk.old).faults (D.view disk.new).faults
         (IsErrOf result AttachWhy.DiskFault) }
 {
     let head = match read_head(disk, gate) {
@@ -157,16 +157,16 @@ fn read_record<D: Disk>(alloc: Global, disk: &mut D, gate: u64) -> Result<(Place
 // The records up to the first closed gate.
 fn read_records<D: Disk>(alloc: Global, disk: &mut D, len: u64) -> Result<Listed, AttachWhy>
     requires { len ≤ 2 ^ 62 }
-    ensures tells { D.tells disk.new ≡ D.tells disk.old }
-    ensures history { D.history disk.new ≡ D.history disk.old }
+    ensures tells { (D.view disk.new).tells ≡ (D.view disk.old).tells }
+    ensures history { (D.view disk.new).history ≡ (D.view disk.old).history }
     ensures bound { IfOk result (λ listed. listed.gate < 2 ^ 62) }
     ensures places { IfOk result (λ listed. PlacedFrom 17 listed.payloads listed.gate) }
-    ensures ok { IsTrue (D.tells disk.old) → len ≡ length (contents_of (D.history disk.old))
+    ensures ok { IsTrue (D.view disk.old).tells → len ≡ length (contents_of (D.view disk.old).history)
         → IfOk result (λ listed.
-        Spells (contents_of (D.history disk.old)) (records_of listed.payloads) listed.gate) }
-    ensures err { IsTrue (D.tells disk.old) → len ≡ length (contents_of (D.history disk.old))
-        → IfErr result (λ why. ExplainsFile (contents_of (D.history disk.old)) why) }
-    ensures cause { HasCause (D.faults disk.old) (D.faults disk.new)
+        Spells (contents_of (D.view disk.old).history) (records_of listed.payloads) listed.gate) }
+    ensures err { IsTrue (D.view disk.old).tells → len ≡ length (contents_of (D.view disk.old).history)
+        → IfErr result (λ why. ExplainsFile (contents_of (D.view disk.old).history) why) }
+    ensures cause { HasCause (D.view disk.old).faults (D.view disk.new).faults
         (IsErrOf result AttachWhy.DiskFault) }
 {
     let mut payloads = Payloads::new(alloc);
@@ -186,15 +186,15 @@ fn read_records<D: Disk>(alloc: Global, disk: &mut D, len: u64) -> Result<Listed
 
 /// The records of a file up to its first closed gate.
 pub(crate) fn list_file<D: Disk>(alloc: Global, disk: &mut D) -> Result<Listed, AttachWhy>
-    ensures tells { D.tells disk.new ≡ D.tells disk.old }
-    ensures history { D.history disk.new ≡ D.history disk.old }
+    ensures tells { (D.view disk.new).tells ≡ (D.view disk.old).tells }
+    ensures history { (D.view disk.new).history ≡ (D.view disk.old).history }
     ensures bound { IfOk result (λ listed. listed.gate < 2 ^ 62) }
     ensures places { IfOk result (λ listed. PlacedFrom 17 listed.payloads listed.gate) }
-    ensures ok { IsTrue (D.tells disk.old) → IfOk result (λ listed.
-        Spells (contents_of (D.history disk.old)) (records_of listed.payloads) listed.gate) }
-    ensures err { IsTrue (D.tells disk.old) → IfErr result (λ why.
-        ExplainsFile (contents_of (D.history disk.old)) why) }
-    ensures cause { HasCause (D.faults disk.old) (D.faults disk.new)
+    ensures ok { IsTrue (D.view disk.old).tells → IfOk result (λ listed.
+        Spells (contents_of (D.view disk.old).history) (records_of listed.payloads) listed.gate) }
+    ensures err { IsTrue (D.view disk.old).tells → IfErr result (λ why.
+        ExplainsFile (contents_of (D.view disk.old).history) why) }
+    ensures cause { HasCause (D.view disk.old).faults (D.view disk.new).faults
         (IsErrOf result AttachWhy.DiskFault) }
 {
     match disk.len() {

@@ -44,167 +44,166 @@ use Rattle.config_db.proofs.CrashLemmas.{last_push}
 pub turn_leads : (s s' : State) (caller moment : ℕ) (event : Event) (outcome : Outcome) (reply : Reply) (calls : Calls) → Turns s caller moment event outcome reply s' → Leads s (noted caller moment event outcome calls ∷ []) s'
 turn_leads s s' caller moment event outcome reply calls turns = (turns.fits, turns.turned, turns.steps, turns.state)
 
-pub same_opened : {D : Type 0} (v v' : DatabaseView D) → IsSameRun v v' → opened v' ≡ opened v
+pub same_opened : (v v' : DatabaseView) → IsSameRun v v' → opened v' ≡ opened v
 same_opened v v' same = ap (λ k. opening_of k v'.users) same.opening ∙ ap (opening_of v.opening) same.users
 
-module _ {D : Type 0} (tells : D → Bool) (history : D → History) (faults : D → ℕ) where
-  -- behind the writing of what an event makes
-  pub stands_written : (j j' : JournalView D) (kept : Kept) (made : Option Made) (outcome : Outcome) → Stands tells history j kept None → IsWritten tells history faults made outcome j j'
-      → IfSome made (λ m. EntryFollows kept m.entry) → Stands tells history j' (kept_after kept made outcome) (flight_after made outcome)
-  stands_written j j' kept None outcome stands written follows =
-      record { records = stands.records; reads = stands.reads; holds = written.holds stands.records stands.holds; entry = tt }
-  stands_written j j' kept (Some m) Done stands written follows = record {
-    records = stands.records ++ entry_record m.entry ∷ [];
-    reads = appended_is_read Accepts stands.records kept m.entry stands.reads written.entry follows;
-    holds = written.holds stands.records stands.holds;
-    entry = tt;
-  }
-  stands_written j j' kept (Some m) Fault stands written follows =
-      record { records = stands.records; reads = stands.reads; holds = written.holds stands.records stands.holds; entry = written.entry }
+-- behind the writing of what an event makes
+pub stands_written : (j j' : JournalView) (kept : Kept) (made : Option Made) (outcome : Outcome) → Stands j kept None → IsWritten made outcome j j'
+    → IfSome made (λ m. EntryFollows kept m.entry) → Stands j' (kept_after kept made outcome) (flight_after made outcome)
+stands_written j j' kept None outcome stands written follows =
+    record { records = stands.records; reads = stands.reads; holds = written.holds stands.records stands.holds; entry = tt }
+stands_written j j' kept (Some m) Done stands written follows = record {
+  records = stands.records ++ entry_record m.entry ∷ [];
+  reads = appended_is_read Accepts stands.records kept m.entry stands.reads written.entry follows;
+  holds = written.holds stands.records stands.holds;
+  entry = tt;
+}
+stands_written j j' kept (Some m) Fault stands written follows =
+    record { records = stands.records; reads = stands.reads; holds = written.holds stands.records stands.holds; entry = written.entry }
 
-  -- behind a settling
-  pub stands_found : (j j' : JournalView D) (kept : Kept) (m : Made) (is_kept : Bool) → Stands tells history j kept (Some m) → IsFound tells history faults (Some is_kept) j j'
-      → EntryFollows kept m.entry → Stands tells history j' (kept_settled kept m is_kept) None
-  stands_found j j' kept m true stands found follows = record {
-    records = stands.records ++ entry_record m.entry ∷ [];
-    reads = appended_is_read Accepts stands.records kept m.entry stands.reads stands.entry follows;
-    holds = found.holds stands.records (entry_record m.entry) stands.holds;
-    entry = tt;
-  }
-  stands_found j j' kept m false stands found follows =
-      record { records = stands.records; reads = stands.reads; holds = found.holds stands.records (entry_record m.entry) stands.holds; entry = tt }
+-- behind a settling
+pub stands_found : (j j' : JournalView) (kept : Kept) (m : Made) (is_kept : Bool) → Stands j kept (Some m) → IsFound (Some is_kept) j j'
+    → EntryFollows kept m.entry → Stands j' (kept_settled kept m is_kept) None
+stands_found j j' kept m true stands found follows = record {
+  records = stands.records ++ entry_record m.entry ∷ [];
+  reads = appended_is_read Accepts stands.records kept m.entry stands.reads stands.entry follows;
+  holds = found.holds stands.records (entry_record m.entry) stands.holds;
+  entry = tt;
+}
+stands_found j j' kept m false stands found follows =
+    record { records = stands.records; reads = stands.reads; holds = found.holds stands.records (entry_record m.entry) stands.holds; entry = tt }
 
-  -- and behind one that failed
-  pub stands_unfound : (j j' : JournalView D) (kept : Kept) (m : Made) → Stands tells history j kept (Some m) → IsFound tells history faults None j j' → Stands tells history j' kept (Some m)
-  stands_unfound j j' kept m stands found =
-      record { records = stands.records; reads = stands.reads; holds = found.holds stands.records (entry_record m.entry) stands.holds; entry = stands.entry }
+-- and behind one that failed
+pub stands_unfound : (j j' : JournalView) (kept : Kept) (m : Made) → Stands j kept (Some m) → IsFound None j j' → Stands j' kept (Some m)
+stands_unfound j j' kept m stands found =
+    record { records = stands.records; reads = stands.reads; holds = found.holds stands.records (entry_record m.entry) stands.holds; entry = stands.entry }
 
-  -- what a journal holds is what its disks spell
-  pub spells_of : (j : JournalView D) (rs : List Record) (flight : Option Record) → Tell tells j → Holds tells history j rs flight → Spell (a_of history j) (b_of history j) rs flight
-  spells_of j rs None t held = rests_only j.b_counts (history j.counting) (history j.other) j.gate rs (held.1 t).rests
-  spells_of j rs (Some r) t held = λ c d in_a in_b. waits_either j.b_counts (history j.counting) (history j.other) rs r j.gate (held.1 t).waits c d (in_a, in_b)
+-- what a journal holds is what its disks spell
+pub spells_of : (j : JournalView) (rs : List Record) (flight : Option Record) → Tell j → Holds j rs flight → Spell (a_of j) (b_of j) rs flight
+spells_of j rs None t held = rests_only j.b_counts j.counting.history j.other.history j.gate rs (held.1 t).rests
+spells_of j rs (Some r) t held = λ c d in_a in_b. waits_either j.b_counts j.counting.history j.other.history rs r j.gate (held.1 t).waits c d (in_a, in_b)
 
-  spelt_in : (s : State) (flight : Option Made) (a b : History) (rs : List Record) → s.flight ≡ flight → IfSome flight (IsSoundMade s.kept s.greatest) → IfSome flight (λ m. IsEntry Accepts m.entry) → ReadsAs Accepts rs s.kept
-      → Spell a b rs (record_in flight) → (c d : List ℕ) → IsImage (state_of a) c → IsImage (state_of b) d → Spelt s None c d
-  spelt_in s None a b rs is sound entry reads spell c d in_a in_b = inl (rs, spell c d in_a in_b, reads)
-  spelt_in s (Some m) a b rs is sound entry reads spell c d in_a in_b =
-      ⊎_elim (λ old. inl (rs, old, reads))
-      (λ new. inr (m, inl is, (rs ++ entry_record m.entry ∷ [], new, appended_is_read Accepts rs s.kept m.entry reads entry (made_follows s.kept s.greatest (Some m) sound)))) (spell c d in_a in_b)
+spelt_in : (s : State) (flight : Option Made) (a b : History) (rs : List Record) → s.flight ≡ flight → IfSome flight (IsSoundMade s.kept s.greatest) → IfSome flight (λ m. IsEntry Accepts m.entry) → ReadsAs Accepts rs s.kept
+    → Spell a b rs (record_in flight) → (c d : List ℕ) → IsImage (state_of a) c → IsImage (state_of b) d → Spelt s None c d
+spelt_in s None a b rs is sound entry reads spell c d in_a in_b = inl (rs, spell c d in_a in_b, reads)
+spelt_in s (Some m) a b rs is sound entry reads spell c d in_a in_b =
+    ⊎_elim (λ old. inl (rs, old, reads))
+    (λ new. inr (m, inl is, (rs ++ entry_record m.entry ∷ [], new, appended_is_read Accepts rs s.kept m.entry reads entry (made_follows s.kept s.greatest (Some m) sound)))) (spell c d in_a in_b)
 
-  -- what a crash may leave now
-  pub spelt_now : (j : JournalView D) (s : State) → IsSoundState s → Stands tells history j s.kept s.flight → Tell tells j
-      → (c d : List ℕ) → IsImage (state_of (a_of history j)) c → IsImage (state_of (b_of history j)) d → Spelt s None c d
-  spelt_now j s sound stands t =
-      spelt_in s s.flight (a_of history j) (b_of history j) stands.records refl sound.flight stands.entry stands.reads (spells_of j stands.records (record_in s.flight) t stands.holds)
+-- what a crash may leave now
+pub spelt_now : (j : JournalView) (s : State) → IsSoundState s → Stands j s.kept s.flight → Tell j
+    → (c d : List ℕ) → IsImage (state_of (a_of j)) c → IsImage (state_of (b_of j)) d → Spelt s None c d
+spelt_now j s sound stands t =
+    spelt_in s s.flight (a_of j) (b_of j) stands.records refl sound.flight stands.entry stands.reads (spells_of j stands.records (record_in s.flight) t stands.holds)
 
-  -- one event more
-  pub book_after : (v v' : DatabaseView D) (caller moment : ℕ) (event : Event) (outcome : Outcome) (reply : Reply) (kept : Kept) (flight : Option Made)
-      → IsBook tells history v → Turns v.state caller moment event outcome reply v'.state → Leaves v.state v'.state kept flight
-      → v'.events ≡ v.events ++ noted caller moment event outcome (calls_of v'.journal) ∷ [] → IsSameRun v v' → AreAtMost (calls_of v.journal) (calls_of v'.journal)
-      → Stands tells history v'.journal kept flight
-      → (Leads (opened v) (v.events ++ noted caller moment event outcome (calls_of v'.journal) ∷ []) v'.state
-      → ((c d : List ℕ) → Tell tells v'.journal → IsImage (state_of (a_of history v'.journal)) c → IsImage (state_of (b_of history v'.journal)) d → Spelt v'.state None c d)
-      → Tell tells v'.journal → IsSafeWhile (opened v) (v.events ++ noted caller moment event outcome (calls_of v'.journal) ∷ []) (calls_of v'.journal) (a_of history v'.journal) (b_of history v'.journal))
-      → (Leads (opened v) (v.events ++ noted caller moment event outcome (calls_of v'.journal) ∷ []) v'.state
-      → Shows (opened v) (v.events ++ noted caller moment event outcome (calls_of v'.journal) ∷ []) v'.state v'.shown)
-      → IsBook tells history v'
-  book_after v v' caller moment event outcome reply kept flight book turns leaves grown same later stands safe shows = record {
-    began = subst IsSoundKept (sym same.opening) book.began;
-    leads = subst (λ s. Leads s v'.events v'.state) (sym (same_opened v v' same)) (subst (λ es. Leads (opened v) es v'.state) (sym grown) leads);
-    at_rest = λ free. subst (λ es. last_calls no_calls es ≡ calls_of v'.journal) (sym grown) (last_push no_calls v.events (noted caller moment event outcome (calls_of v'.journal)));
-    safe = λ t.
-        subst (λ s. IsSafeWhile s v'.events (calls_of v'.journal) (a_of history v'.journal) (b_of history v'.journal)) (sym (same_opened v v' same))
-        (subst (λ es. IsSafeWhile (opened v) es (calls_of v'.journal) (a_of history v'.journal) (b_of history v'.journal)) (sym grown)
-        (safe leads (λ c d t' in_a in_b. spelt_now v'.journal v'.state sound stands' t' c d in_a in_b) t));
-    rising = subst (λ es. AreRising no_calls es (calls_of v'.journal)) (sym grown)
-        (rising_push no_calls v.events (noted caller moment event outcome (calls_of v'.journal)) (calls_of v'.journal)
-        (rising_more no_calls v.events (calls_of v.journal) (calls_of v'.journal) later book.rising) refl);
-    sound = sound;
-    callers = leaves.callers ∙ book.callers ∙ ap length (sym same.users);
-    stands = stands';
-    shows = subst (λ s. Shows s v'.events v'.state v'.shown) (sym (same_opened v v' same)) (subst (λ es. Shows (opened v) es v'.state v'.shown) (sym grown) (shows leads));
-  }
-    where
-      leads : Leads (opened v) (v.events ++ noted caller moment event outcome (calls_of v'.journal) ∷ []) v'.state
-      leads = Leads-append (opened v) v.events (noted caller moment event outcome (calls_of v'.journal) ∷ []) v.state v'.state book.leads
-          (turn_leads v.state v'.state caller moment event outcome reply (calls_of v'.journal) turns)
+-- one event more
+pub book_after : (v v' : DatabaseView) (caller moment : ℕ) (event : Event) (outcome : Outcome) (reply : Reply) (kept : Kept) (flight : Option Made)
+    → IsBook v → Turns v.state caller moment event outcome reply v'.state → Leaves v.state v'.state kept flight
+    → v'.events ≡ v.events ++ noted caller moment event outcome (calls_of v'.journal) ∷ [] → IsSameRun v v' → AreAtMost (calls_of v.journal) (calls_of v'.journal)
+    → Stands v'.journal kept flight
+    → (Leads (opened v) (v.events ++ noted caller moment event outcome (calls_of v'.journal) ∷ []) v'.state
+    → ((c d : List ℕ) → Tell v'.journal → IsImage (state_of (a_of v'.journal)) c → IsImage (state_of (b_of v'.journal)) d → Spelt v'.state None c d)
+    → Tell v'.journal → IsSafeWhile (opened v) (v.events ++ noted caller moment event outcome (calls_of v'.journal) ∷ []) (calls_of v'.journal) (a_of v'.journal) (b_of v'.journal))
+    → (Leads (opened v) (v.events ++ noted caller moment event outcome (calls_of v'.journal) ∷ []) v'.state
+    → Shows (opened v) (v.events ++ noted caller moment event outcome (calls_of v'.journal) ∷ []) v'.state v'.shown)
+    → IsBook v'
+book_after v v' caller moment event outcome reply kept flight book turns leaves grown same later stands safe shows = record {
+  began = subst IsSoundKept (sym same.opening) book.began;
+  leads = subst (λ s. Leads s v'.events v'.state) (sym (same_opened v v' same)) (subst (λ es. Leads (opened v) es v'.state) (sym grown) leads);
+  at_rest = λ free. subst (λ es. last_calls no_calls es ≡ calls_of v'.journal) (sym grown) (last_push no_calls v.events (noted caller moment event outcome (calls_of v'.journal)));
+  safe = λ t.
+      subst (λ s. IsSafeWhile s v'.events (calls_of v'.journal) (a_of v'.journal) (b_of v'.journal)) (sym (same_opened v v' same))
+      (subst (λ es. IsSafeWhile (opened v) es (calls_of v'.journal) (a_of v'.journal) (b_of v'.journal)) (sym grown)
+      (safe leads (λ c d t' in_a in_b. spelt_now v'.journal v'.state sound stands' t' c d in_a in_b) t));
+  rising = subst (λ es. AreRising no_calls es (calls_of v'.journal)) (sym grown)
+      (rising_push no_calls v.events (noted caller moment event outcome (calls_of v'.journal)) (calls_of v'.journal)
+      (rising_more no_calls v.events (calls_of v.journal) (calls_of v'.journal) later book.rising) refl);
+  sound = sound;
+  callers = leaves.callers ∙ book.callers ∙ ap length (sym same.users);
+  stands = stands';
+  shows = subst (λ s. Shows s v'.events v'.state v'.shown) (sym (same_opened v v' same)) (subst (λ es. Shows (opened v) es v'.state v'.shown) (sym grown) (shows leads));
+}
+  where
+    leads : Leads (opened v) (v.events ++ noted caller moment event outcome (calls_of v'.journal) ∷ []) v'.state
+    leads = Leads-append (opened v) v.events (noted caller moment event outcome (calls_of v'.journal) ∷ []) v.state v'.state book.leads
+        (turn_leads v.state v'.state caller moment event outcome reply (calls_of v'.journal) turns)
 
-      sound : IsSoundState v'.state
-      sound = subst IsSoundState (sym turns.state) (steps_keep v.state caller moment event outcome turns.turned book.sound turns.fits turns.steps).0
+    sound : IsSoundState v'.state
+    sound = subst IsSoundState (sym turns.state) (steps_keep v.state caller moment event outcome turns.turned book.sound turns.fits turns.steps).0
 
-      stands' : Stands tells history v'.journal v'.state.kept v'.state.flight
-      stands' = subst (λ k. Stands tells history v'.journal k v'.state.flight) (sym leaves.kept_is)
-          (subst (λ f. Stands tells history v'.journal kept f) (sym leaves.flight_is) stands)
+    stands' : Stands v'.journal v'.state.kept v'.state.flight
+    stands' = subst (λ k. Stands v'.journal k v'.state.flight) (sym leaves.kept_is)
+        (subst (λ f. Stands v'.journal kept f) (sym leaves.flight_is) stands)
 
-  -- calls that found nothing out
-  pub book_unsettled : (v : DatabaseView D) (j' : JournalView D) → IsBook tells history v → IsSome v.state.flight → AreAtMost (calls_of v.journal) (calls_of j') → Stands tells history j' v.state.kept v.state.flight
-      → (Tell tells j' → IsSafeWhile (opened v) v.events (calls_of j') (a_of history j') (b_of history j'))
-      → IsBook tells history (record { journal = j'; opening = v.opening; users = v.users; events = v.events; state = v.state; shown = v.shown; readers = v.readers })
-  book_unsettled v j' book some later stands safe = record {
-    began = book.began;
-    leads = book.leads;
-    at_rest = λ free. absurd (let no : is_some v.state.flight ≡ false = ap is_some free in cc);
-    safe = safe;
-    rising = rising_more no_calls v.events (calls_of v.journal) (calls_of j') later book.rising;
-    sound = book.sound;
-    callers = book.callers;
-    stands = stands;
-    shows = book.shows;
-  }
+-- calls that found nothing out
+pub book_unsettled : (v : DatabaseView) (j' : JournalView) → IsBook v → IsSome v.state.flight → AreAtMost (calls_of v.journal) (calls_of j') → Stands j' v.state.kept v.state.flight
+    → (Tell j' → IsSafeWhile (opened v) v.events (calls_of j') (a_of j') (b_of j'))
+    → IsBook (record { journal = j'; opening = v.opening; users = v.users; events = v.events; state = v.state; shown = v.shown; readers = v.readers })
+book_unsettled v j' book some later stands safe = record {
+  began = book.began;
+  leads = book.leads;
+  at_rest = λ free. absurd (let no : is_some v.state.flight ≡ false = ap is_some free in cc);
+  safe = safe;
+  rising = rising_more no_calls v.events (calls_of v.journal) (calls_of j') later book.rising;
+  sound = book.sound;
+  callers = book.callers;
+  stands = stands;
+  shows = book.shows;
+}
 
-  -- another writer that shows the same, and other readers
-  pub book_shown : (v : DatabaseView D) (w : WriterState) (rs : List ReaderState) → IsBook tells history v → Shows (opened v) v.events v.state w
-      → IsBook tells history (record { journal = v.journal; opening = v.opening; users = v.users; events = v.events; state = v.state; shown = w; readers = rs })
-  book_shown v w rs book shows = record {
-    began = book.began;
-    leads = book.leads;
-    rising = book.rising;
-    at_rest = book.at_rest;
-    safe = book.safe;
-    sound = book.sound;
-    callers = book.callers;
-    stands = book.stands;
-    shows = shows;
-  }
+-- another writer that shows the same, and other readers
+pub book_shown : (v : DatabaseView) (w : WriterState) (rs : List ReaderState) → IsBook v → Shows (opened v) v.events v.state w
+    → IsBook (record { journal = v.journal; opening = v.opening; users = v.users; events = v.events; state = v.state; shown = w; readers = rs })
+book_shown v w rs book shows = record {
+  began = book.began;
+  leads = book.leads;
+  rising = book.rising;
+  at_rest = book.at_rest;
+  safe = book.safe;
+  sound = book.sound;
+  callers = book.callers;
+  stands = book.stands;
+  shows = shows;
+}
 
-  -- how a database begins
-  pub book_begins : (j : JournalView D) (opening : Kept) (users : List (List ℕ)) (state : State) (events : List Happened) (w : WriterState) (rs : List ReaderState)
-      → IsOpening tells history j opening → state ≡ opening_of opening users → events ≡ [] → w ≡ first_written opening
-      → IsBook tells history (record { journal = j; opening = opening; users = users; events = events; state = state; shown = w; readers = rs })
-  book_begins j opening users state events w rs begins start none shown =
-      subst (λ es. IsBook tells history (record { journal = j; opening = opening; users = users; events = es; state = state; shown = w; readers = rs })) (sym none)
-      (subst (λ s. IsBook tells history (record { journal = j; opening = opening; users = users; events = []; state = s; shown = w; readers = rs })) (sym start)
-      (subst (λ x. IsBook tells history (record { journal = j; opening = opening; users = users; events = []; state = opening_of opening users; shown = x; readers = rs })) (sym shown) (record {
-        began = begins.sound;
-        leads = refl;
-        at_rest = λ free. sym begins.calls;
-        safe = λ t. starts_safe t;
-        rising = subst (λ m. AreAtMost no_calls m) (sym begins.calls) (at_most_same no_calls);
-        sound = begins_sound;
-        callers = length-map users _;
-        stands = stands;
-        shows = shows_begin opening users;
-      })))
-    where
-      begins_sound : IsSoundState (opening_of opening users)
-      begins_sound = record { kept = begins.sound; no_later = omega arith; flight = tt }
+-- how a database begins
+pub book_begins : (j : JournalView) (opening : Kept) (users : List (List ℕ)) (state : State) (events : List Happened) (w : WriterState) (rs : List ReaderState)
+    → IsOpening j opening → state ≡ opening_of opening users → events ≡ [] → w ≡ first_written opening
+    → IsBook (record { journal = j; opening = opening; users = users; events = events; state = state; shown = w; readers = rs })
+book_begins j opening users state events w rs begins start none shown =
+    subst (λ es. IsBook (record { journal = j; opening = opening; users = users; events = es; state = state; shown = w; readers = rs })) (sym none)
+    (subst (λ s. IsBook (record { journal = j; opening = opening; users = users; events = []; state = s; shown = w; readers = rs })) (sym start)
+    (subst (λ x. IsBook (record { journal = j; opening = opening; users = users; events = []; state = opening_of opening users; shown = x; readers = rs })) (sym shown) (record {
+      began = begins.sound;
+      leads = refl;
+      at_rest = λ free. sym begins.calls;
+      safe = λ t. starts_safe t;
+      rising = subst (λ m. AreAtMost no_calls m) (sym begins.calls) (at_most_same no_calls);
+      sound = begins_sound;
+      callers = length-map users _;
+      stands = stands;
+      shows = shows_begin opening users;
+    })))
+  where
+    begins_sound : IsSoundState (opening_of opening users)
+    begins_sound = record { kept = begins.sound; no_later = omega arith; flight = tt }
 
-      stands : Stands tells history j opening None
-      stands = record { records = begins.records; reads = begins.reads; holds = begins.holds; entry = tt }
+    stands : Stands j opening None
+    stands = record { records = begins.records; reads = begins.reads; holds = begins.holds; entry = tt }
 
-      zero_a : (calls_of j).a ≡ 0
-      zero_a = ap (λ (m : Calls). m.a) begins.calls
+    zero_a : (calls_of j).a ≡ 0
+    zero_a = ap (λ (m : Calls). m.a) begins.calls
 
-      zero_b : (calls_of j).b ≡ 0
-      zero_b = ap (λ (m : Calls). m.b) begins.calls
+    zero_b : (calls_of j).b ≡ 0
+    zero_b = ap (λ (m : Calls). m.b) begins.calls
 
-      spans : Tell tells j → AreSpansSafe (opening_of opening users) [] (calls_of j) (a_of history j) (b_of history j)
-      spans t [] [] is s leads c d in_a in_b =
-          subst (λ u. Spelt u None c d) (sym leads) (spelt_now j (opening_of opening users) begins_sound stands t c d
-          (span_now (a_of history j) (calls_of j).a c (omega (arith, zero_a)) (subst (λ (n : ℕ). InSpan (a_of history j) (calls_of j).a n (calls_of j).a c) (sym zero_a) in_a))
-          (span_now (b_of history j) (calls_of j).b d (omega (arith, zero_b)) (subst (λ (n : ℕ). InSpan (b_of history j) (calls_of j).b n (calls_of j).b d) (sym zero_b) in_b)))
-      spans t (x ∷ before) after is s leads c d in_a in_b = absurd (let e = ap length is in omega (arith, e))
-      spans t [] (x ∷ after) is s leads c d in_a in_b = absurd (let e = ap length is in omega (arith, e))
+    spans : Tell j → AreSpansSafe (opening_of opening users) [] (calls_of j) (a_of j) (b_of j)
+    spans t [] [] is s leads c d in_a in_b =
+        subst (λ u. Spelt u None c d) (sym leads) (spelt_now j (opening_of opening users) begins_sound stands t c d
+        (span_now (a_of j) (calls_of j).a c (omega (arith, zero_a)) (subst (λ (n : ℕ). InSpan (a_of j) (calls_of j).a n (calls_of j).a c) (sym zero_a) in_a))
+        (span_now (b_of j) (calls_of j).b d (omega (arith, zero_b)) (subst (λ (n : ℕ). InSpan (b_of j) (calls_of j).b n (calls_of j).b d) (sym zero_b) in_b)))
+    spans t (x ∷ before) after is s leads c d in_a in_b = absurd (let e = ap length is in omega (arith, e))
+    spans t [] (x ∷ after) is s leads c d in_a in_b = absurd (let e = ap length is in omega (arith, e))
 
-      starts_safe : Tell tells j → IsSafeWhile (opening_of opening users) [] (calls_of j) (a_of history j) (b_of history j)
-      starts_safe t few_a few_b = record { within_a = omega (arith, zero_a); within_b = omega (arith, zero_b); safe = spans t }
+    starts_safe : Tell j → IsSafeWhile (opening_of opening users) [] (calls_of j) (a_of j) (b_of j)
+    starts_safe t few_a few_b = record { within_a = omega (arith, zero_a); within_b = omega (arith, zero_b); safe = spans t }

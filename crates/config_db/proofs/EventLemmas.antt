@@ -28,12 +28,13 @@ use Rattle.session_history.specs.Events.{Leads, is_command}
 use Rattle.active_snapshot.specs.States.{WriterState}
 use Rattle.config_db.specs.View.{DatabaseView, IsSameRun, opened}
 use Rattle.config_db.specs.Numbers.{AreAtMost, calls_of, no_calls}
-use Rattle.config_db.specs.Crash.{CountsOn, IsSafeWhile, Spelt}
+use Rattle.config_db.specs.Crash.{BothCalled, CountsOn, IsSafeWhile, Spelt}
 use Rattle.config_db.specs.Disks.{GoesOn}
 use Rattle.config_db.specs.Writing.{IsFound, IsWritten, flight_after, kept_after, records_after}
 use Rattle.config_db.specs.Shown.{IsShown, Shows, ShowsSettled}
 use Rattle.config_db.specs.Book.{IsBook, Stands}
 use Rattle.config_db.specs.Moves.{Happens, IsUnsettled, Turns, noted}
+use Rattle.config_db.proofs.CalledLemmas.{called_left, called_none}
 use Rattle.config_db.proofs.DiskLemmas.{goes_nowhere, tell_each, tell_since}
 use Rattle.config_db.proofs.NumberLemmas.{rising_more}
 use Rattle.config_db.proofs.SafeLemmas.{appends_safe, noted_safe, settles_safe}
@@ -42,10 +43,10 @@ use Rattle.config_db.proofs.ShownLemmas.{shows_on, shows_settled, shows_written}
 use Rattle.config_db.proofs.BookLemmas.{book_after, book_unsettled, stands_found, stands_unfound, stands_written}
 
 -- the database behind an event
-abbrev pub next : {D : Type 0} → DatabaseView D → JournalView D → List Happened → State → WriterState → DatabaseView D
+abbrev pub next : DatabaseView → JournalView → List Happened → State → WriterState → DatabaseView
 next v j' events' s' w' = record { journal = j'; opening = v.opening; users = v.users; events = events'; state = s'; shown = w'; readers = v.readers }
 
-pub next_same : {D : Type 0} (v : DatabaseView D) (j' : JournalView D) (events' : List Happened) (w' : WriterState) → j' ≡ v.journal → events' ≡ v.events → w' ≡ v.shown → next v j' events' v.state w' ≡ v
+pub next_same : (v : DatabaseView) (j' : JournalView) (events' : List Happened) (w' : WriterState) → j' ≡ v.journal → events' ≡ v.events → w' ≡ v.shown → next v j' events' v.state w' ≡ v
 next_same v j' events' w' same_journal same_events same_shown =
     ap (λ j. next v j events' v.state w') same_journal ∙ ap (λ es. next v v.journal es v.state w') same_events ∙ ap (λ w. next v v.journal v.events v.state w) same_shown
 
@@ -60,36 +61,36 @@ some_failed (Some made) Done calm is = absurd (cc)
 some_failed (Some made) Fault calm is = refl
 
 -- what came of an event
-pub record Comes {D : Type 0} (tells : D → Bool) (history : D → History) (faults : D → ℕ) (caller moment : ℕ) (event : Event) (outcome : Outcome) (reply : Reply) (v v' : DatabaseView D) : Type 0 where
-  pub book : IsBook tells history v'
-  pub happens : Happens tells faults caller moment event outcome reply v v'
+pub record Comes (caller moment : ℕ) (event : Event) (outcome : Outcome) (reply : Reply) (v v' : DatabaseView) : Type 0 where
+  pub book : IsBook v'
+  pub happens : Happens caller moment event outcome reply v v'
 
-module _ {D : Type 0} (tells : D → Bool) (history : D → History) (faults : D → ℕ) (v : DatabaseView D) (book : IsBook tells history v)
+module _ (v : DatabaseView) (book : IsBook v)
     (one_state : (events : List Happened) (s t : State) → Leads (opened v) events s → Leads (opened v) events t → s ≡ t) where
   -- the crash theorem behind an event, from what a crash may leave once it has come
-  abbrev Safe : JournalView D → Happened → State → Type 0
+  abbrev Safe : JournalView → Happened → State → Type 0
   Safe j' e s' = Leads (opened v) (v.events ++ e ∷ []) s'
-      → ((c d : List ℕ) → Tell tells j' → IsImage (state_of (a_of history j')) c → IsImage (state_of (b_of history j')) d → Spelt s' None c d)
-      → Tell tells j' → IsSafeWhile (opened v) (v.events ++ e ∷ []) (calls_of j') (a_of history j') (b_of history j')
+      → ((c d : List ℕ) → Tell j' → IsImage (state_of (a_of j')) c → IsImage (state_of (b_of j')) d → Spelt s' None c d)
+      → Tell j' → IsSafeWhile (opened v) (v.events ++ e ∷ []) (calls_of j') (a_of j') (b_of j')
 
   -- what readers are shown behind an event
-  abbrev ShowsThen : JournalView D → Happened → State → WriterState → Type 0
+  abbrev ShowsThen : JournalView → Happened → State → WriterState → Type 0
   ShowsThen j' e s' w' = Leads (opened v) (v.events ++ e ∷ []) s' → Shows (opened v) (v.events ++ e ∷ []) s' w'
 
   -- calls that only settled
-  settles : (j' : JournalView D) → GoesOn tells faults v.journal j' → CountsOn tells history v.journal j' → (Tell tells v.journal → LeavesBoth history v.journal j' (WasLeft (a_of history v.journal) (b_of history v.journal)))
-      → Tell tells j' → IsSafeWhile (opened v) v.events (calls_of j') (a_of history j') (b_of history j')
+  settles : (j' : JournalView) → GoesOn v.journal j' → CountsOn v.journal j' → (Tell v.journal → LeavesBoth v.journal j' (WasLeft (a_of v.journal) (b_of v.journal)))
+      → Tell j' → IsSafeWhile (opened v) v.events (calls_of j') (a_of j') (b_of j')
   settles j' goes counts left t' =
-      let t = tell_since tells faults v.journal j' goes t' in
-      let each = tell_each tells v.journal t in
-      settles_safe (opened v) one_state v.events (calls_of v.journal) (calls_of j') (a_of history v.journal) (b_of history v.journal) (a_of history j') (b_of history j') (counts.told_a each.0) (counts.told_b each.1)
+      let t = tell_since v.journal j' goes t' in
+      let each = tell_each v.journal t in
+      settles_safe (opened v) one_state v.events (calls_of v.journal) (calls_of j') (a_of v.journal) (b_of v.journal) (a_of j') (b_of j') (counts.told_a each.0) (counts.told_b each.1)
       book.rising (book.safe t) (left t)
 
   -- an event behind calls that only settled, or behind none
-  notes : (j' : JournalView D) (e : Happened) (s' : State) → AreAtMost (calls_of v.journal) (calls_of j') → e.calls ≡ calls_of j' → (Tell tells j' → IsSafeWhile (opened v) v.events (calls_of j') (a_of history j') (b_of history j'))
+  notes : (j' : JournalView) (e : Happened) (s' : State) → AreAtMost (calls_of v.journal) (calls_of j') → e.calls ≡ calls_of j' → (Tell j' → IsSafeWhile (opened v) v.events (calls_of j') (a_of j') (b_of j'))
       → Safe j' e s'
   notes j' e s' later told so_far leads now t few_a few_b =
-      noted_safe (opened v) one_state v.events (calls_of j') (a_of history j') (b_of history j') (rising_more no_calls v.events (calls_of v.journal) (calls_of j') later book.rising) (so_far t few_a few_b)
+      noted_safe (opened v) one_state v.events (calls_of j') (a_of j') (b_of j') (rising_more no_calls v.events (calls_of v.journal) (calls_of j') later book.rising) (so_far t few_a few_b)
       v.state s' e told book.leads leads (λ c d in_a in_b. now c d t in_a in_b)
 
   -- the list from before an append, with the entry that the event makes or without
@@ -102,54 +103,55 @@ module _ {D : Type 0} (tells : D → Bool) (history : D → History) (faults : D
       inr (m, inr (turned, steps, makes), (rs ++ entry_record m.entry ∷ [], new, subst (λ k. ReadsAs Accepts (rs ++ entry_record m.entry ∷ []) (append_entry k m.entry)) is (appended_is_read Accepts rs kept m.entry reads entry follows)))
 
   -- from what the machine and the journal did
-  comes : (j' : JournalView D) (events' : List Happened) (s' : State) (w' : WriterState) (caller moment : ℕ) (event : Event) (outcome : Outcome) (reply : Reply) (calls : Calls) (kept : Kept) (flight : Option Made)
+  comes : (j' : JournalView) (events' : List Happened) (s' : State) (w' : WriterState) (caller moment : ℕ) (event : Event) (outcome : Outcome) (reply : Reply) (calls : Calls) (kept : Kept) (flight : Option Made)
       → calls ≡ calls_of j' → events' ≡ v.events ++ noted caller moment event outcome calls ∷ [] → Turns v.state caller moment event outcome reply s' → Leaves v.state s' kept flight
-      → Stands tells history j' kept flight → GoesOn tells faults v.journal j' → (outcome ≡ Done → flight ≡ None) → (outcome ≡ Fault → IsSome flight)
+      → Stands j' kept flight → GoesOn v.journal j' → (Tell v.journal → BothCalled v.journal j') → (outcome ≡ Done → flight ≡ None) → (outcome ≡ Fault → IsSome flight)
       → Safe j' (noted caller moment event outcome (calls_of j')) s' → ShowsThen j' (noted caller moment event outcome (calls_of j')) s' w'
-      → Comes tells history faults caller moment event outcome reply v (next v j' events' s' w')
-  comes j' events' s' w' caller moment event outcome reply calls kept flight told grown turns leaves stands goes done failed safe shows =
+      → Comes caller moment event outcome reply v (next v j' events' s' w')
+  comes j' events' s' w' caller moment event outcome reply calls kept flight told grown turns leaves stands goes called done failed safe shows =
       let grown' : events' ≡ v.events ++ noted caller moment event outcome (calls_of j') ∷ [] = grown ∙ ap (λ c. v.events ++ noted caller moment event outcome c ∷ []) told in
       let same : IsSameRun v (next v j' events' s' w') = record { opening = refl; users = refl } in
       record {
-        book = book_after tells history faults v (next v j' events' s' w') caller moment event outcome reply kept flight book turns leaves grown' same goes.calls stands safe shows;
+        book = book_after v (next v j' events' s' w') caller moment event outcome reply kept flight book turns leaves grown' same goes.calls stands safe shows;
         happens = record {
           turns = turns;
           grown = grown';
           same = same;
           goes = goes;
+          called = called;
           done = λ is. leaves.flight_is ∙ done is;
           failed = λ is. ap is_some leaves.flight_is ∙ failed is;
         };
       }
 
   -- an event with nothing in flight
-  pub carried : (j' : JournalView D) (events' : List Happened) (s' : State) (w' : WriterState) (caller moment : ℕ) (event : Event) (outcome : Outcome) (reply : Reply) (calls : Calls) (plan : Plan)
+  pub carried : (j' : JournalView) (events' : List Happened) (s' : State) (w' : WriterState) (caller moment : ℕ) (event : Event) (outcome : Outcome) (reply : Reply) (calls : Calls) (plan : Plan)
       → v.state.flight ≡ None → Fits v.state caller moment event → IsPrepared v.state caller moment event plan
-      → IsWritten tells history faults (made_in plan.effect) outcome v.journal j' → IsShown (made_in plan.effect) outcome v.shown w' → calls ≡ calls_of j' → s' ≡ applied plan outcome v.state → reply ≡ replied plan.effect plan.reply outcome
-      → events' ≡ v.events ++ noted caller moment event outcome calls ∷ [] → Comes tells history faults caller moment event outcome reply v (next v j' events' s' w')
+      → IsWritten (made_in plan.effect) outcome v.journal j' → IsShown (made_in plan.effect) outcome v.shown w' → calls ≡ calls_of j' → s' ≡ applied plan outcome v.state → reply ≡ replied plan.effect plan.reply outcome
+      → events' ≡ v.events ++ noted caller moment event outcome calls ∷ [] → Comes caller moment event outcome reply v (next v j' events' s' w')
   carried j' events' s' w' caller moment event outcome reply calls plan free fits prepared written shown told is replies grown =
       let turned = free_turns v.state caller moment event plan outcome free fits prepared written.calm in
       comes j' events' s' w' caller moment event outcome reply calls (kept_after v.state.kept (made_in plan.effect) outcome) (flight_after (made_in plan.effect) outcome) told grown
       (subst (λ t. Turns v.state caller moment event outcome reply t) (sym is) (subst (λ r. Turns v.state caller moment event outcome r (applied plan outcome v.state)) (sym replies) turned))
       leaves
-      (stands_written tells history faults v.journal j' v.state.kept (made_in plan.effect) outcome before written follows)
-      written.goes (none_done (made_in plan.effect) outcome) (some_failed (made_in plan.effect) outcome written.calm) safe
+      (stands_written v.journal j' v.state.kept (made_in plan.effect) outcome before written follows)
+      written.goes (λ t. called_left v.journal j' (SpellsEither before.records (records_after before.records (made_in plan.effect) Done)) t written.counts (written.crash before.records before.holds t)) (none_done (made_in plan.effect) outcome) (some_failed (made_in plan.effect) outcome written.calm) safe
       (λ leads. shows_written (opened v) v.events v.state v.shown book.shows (noted caller moment event outcome (calls_of j') ∷ []) s' leads (made_in plan.effect) outcome w' free shown leaves.kept_is leaves.flight_is)
     where
       leaves : Leaves v.state s' (kept_after v.state.kept (made_in plan.effect) outcome) (flight_after (made_in plan.effect) outcome)
       leaves = subst (λ t. Leaves v.state t (kept_after v.state.kept (made_in plan.effect) outcome) (flight_after (made_in plan.effect) outcome)) (sym is) (plan_leaves plan outcome v.state free written.calm)
 
-      before : Stands tells history v.journal v.state.kept None
-      before = subst (λ f. Stands tells history v.journal v.state.kept f) free book.stands
+      before : Stands v.journal v.state.kept None
+      before = subst (λ f. Stands v.journal v.state.kept f) free book.stands
 
       follows : IfSome (made_in plan.effect) (λ m. EntryFollows v.state.kept m.entry)
       follows = made_follows v.state.kept moment (made_in plan.effect) (made_is_sound v.state caller moment event plan book.sound free fits prepared)
 
       safe : Safe j' (noted caller moment event outcome (calls_of j')) s'
       safe leads now t' =
-          let t = tell_since tells faults v.journal j' written.goes t' in
-          let each = tell_each tells v.journal t in
-          appends_safe (opened v) one_state v.events (calls_of v.journal) (calls_of j') (a_of history v.journal) (b_of history v.journal) (a_of history j') (b_of history j') (written.counts.told_a each.0) (written.counts.told_b each.1)
+          let t = tell_since v.journal j' written.goes t' in
+          let each = tell_each v.journal t in
+          appends_safe (opened v) one_state v.events (calls_of v.journal) (calls_of j') (a_of v.journal) (b_of v.journal) (a_of j') (b_of j') (written.counts.told_a each.0) (written.counts.told_b each.1)
           book.rising (book.safe t) v.state s' (noted caller moment event outcome (calls_of j')) (SpellsEither before.records (records_after before.records (made_in plan.effect) Done)) refl book.leads leads (book.at_rest free)
           (written.crash before.records before.holds t)
           (λ c d. either_spelt v.state.kept (noted caller moment event outcome (calls_of j')) (ended plan outcome v.state) (made_in plan.effect) before.records c d refl refl (free_steps v.state caller moment event plan outcome free fits prepared written.calm) before.reads written.entry follows)
@@ -163,17 +165,17 @@ module _ {D : Type 0} (tells : D → Bool) (history : D → History) (faults : D
     unfolding made
     is_made = (flying v.state.flight some).1
 
-    here : Stands tells history v.journal v.state.kept (Some made)
-    here = subst (λ f. Stands tells history v.journal v.state.kept f) is_made book.stands
+    here : Stands v.journal v.state.kept (Some made)
+    here = subst (λ f. Stands v.journal v.state.kept f) is_made book.stands
 
     made_sound : IsSoundMade v.state.kept v.state.greatest made
     made_sound = subst (λ f. IfSome f (IsSoundMade v.state.kept v.state.greatest)) is_made book.sound.flight
 
     -- a settling
-    pub settled_so : (j' : JournalView D) (events' : List Happened) (s' : State) (w' : WriterState) (caller moment : ℕ) (is_kept : Bool) (reply : Reply) (calls : Calls) (plan : Plan)
+    pub settled_so : (j' : JournalView) (events' : List Happened) (s' : State) (w' : WriterState) (caller moment : ℕ) (is_kept : Bool) (reply : Reply) (calls : Calls) (plan : Plan)
         → v.state.greatest ≤ moment → IsPrepared v.state caller moment (Settle is_kept) plan
-        → IsFound tells history faults (Some is_kept) v.journal j' → ShowsSettled is_kept v.shown w' → calls ≡ calls_of j' → s' ≡ applied plan Done v.state → reply ≡ replied plan.effect plan.reply Done
-        → events' ≡ v.events ++ noted caller moment (Settle is_kept) Done calls ∷ [] → Comes tells history faults caller moment (Settle is_kept) Done reply v (next v j' events' s' w')
+        → IsFound (Some is_kept) v.journal j' → ShowsSettled is_kept v.shown w' → calls ≡ calls_of j' → s' ≡ applied plan Done v.state → reply ≡ replied plan.effect plan.reply Done
+        → events' ≡ v.events ++ noted caller moment (Settle is_kept) Done calls ∷ [] → Comes caller moment (Settle is_kept) Done reply v (next v j' events' s' w')
     settled_so j' events' s' w' caller moment is_kept reply calls plan no_earlier prepared found shown told is replies grown =
         let turned = settling_turns v.state caller moment is_kept plan made is_made (settling_fits v.state caller moment is_kept some no_earlier) prepared in
         let leaves : Leaves v.state s' (kept_settled v.state.kept made is_kept) None =
@@ -181,26 +183,26 @@ module _ {D : Type 0} (tells : D → Bool) (history : D → History) (faults : D
         comes j' events' s' w' caller moment (Settle is_kept) Done reply calls (kept_settled v.state.kept made is_kept) None told grown
         (subst (λ t. Turns v.state caller moment (Settle is_kept) Done reply t) (sym is) (subst (λ r. Turns v.state caller moment (Settle is_kept) Done r (applied plan Done v.state)) (sym replies) turned))
         leaves
-        (stands_found tells history faults v.journal j' v.state.kept made is_kept here found (made_follows v.state.kept v.state.greatest (Some made) made_sound))
-        found.goes (λ done. refl) (λ failed. absurd (cc))
+        (stands_found v.journal j' v.state.kept made is_kept here found (made_follows v.state.kept v.state.greatest (Some made) made_sound))
+        found.goes (λ t. called_left v.journal j' (WasLeft (a_of v.journal) (b_of v.journal)) t found.counts (found.crash t)) (λ done. refl) (λ failed. absurd (cc))
         (notes j' (noted caller moment (Settle is_kept) Done (calls_of j')) s' found.goes.calls refl (settles j' found.goes found.counts found.crash))
         (λ leads. shows_settled (opened v) v.events v.state v.shown book.shows (noted caller moment (Settle is_kept) Done (calls_of j') ∷ []) s' leads made is_kept w' is_made shown leaves.kept_is leaves.flight_is)
 
     -- a settling that failed
-    pub unsettled_book : (j' : JournalView D) → IsFound tells history faults None v.journal j' → IsBook tells history (next v j' v.events v.state v.shown)
+    pub unsettled_book : (j' : JournalView) → IsFound None v.journal j' → IsBook (next v j' v.events v.state v.shown)
     unsettled_book j' found =
-        book_unsettled tells history faults v j' book some found.goes.calls
-        (subst (λ f. Stands tells history j' v.state.kept f) (sym is_made) (stands_unfound tells history faults v.journal j' v.state.kept made here found))
+        book_unsettled v j' book some found.goes.calls
+        (subst (λ f. Stands j' v.state.kept f) (sym is_made) (stands_unfound v.journal j' v.state.kept made here found))
         (settles j' found.goes found.counts found.crash)
 
-    pub unsettled_so : (j' : JournalView D) → IsFound tells history faults None v.journal j' → IsUnsettled tells faults v (next v j' v.events v.state v.shown)
-    unsettled_so j' found = record { state = refl; events = refl; same = record { opening = refl; users = refl }; goes = found.goes; rose = found.cause refl }
+    pub unsettled_so : (j' : JournalView) → IsFound None v.journal j' → IsUnsettled v (next v j' v.events v.state v.shown)
+    unsettled_so j' found = record { state = refl; events = refl; same = record { opening = refl; users = refl }; goes = found.goes; called = λ t. called_left v.journal j' (WasLeft (a_of v.journal) (b_of v.journal)) t found.counts (found.crash t); rose = found.cause refl }
 
     -- a command while an entry is in flight
     pub put_off_so : (events' : List Happened) (s' : State) (caller moment : ℕ) (event : Event) (reply : Reply) (calls : Calls) (plan : Plan)
         → is_command event ≡ true → Fits v.state caller moment event → IsPrepared v.state caller moment event plan
         → calls ≡ calls_of v.journal → s' ≡ applied plan Fault v.state → reply ≡ replied plan.effect plan.reply Fault
-        → events' ≡ v.events ++ noted caller moment event Fault calls ∷ [] → Comes tells history faults caller moment event Fault reply v (next v v.journal events' s' v.shown)
+        → events' ≡ v.events ++ noted caller moment event Fault calls ∷ [] → Comes caller moment event Fault reply v (next v v.journal events' s' v.shown)
     put_off_so events' s' caller moment event reply calls plan asks fits prepared told is replies grown =
         let turned = put_off_turns v.state caller moment event plan made asks is_made fits prepared in
         let leaves : Leaves v.state s' v.state.kept v.state.flight =
@@ -208,6 +210,6 @@ module _ {D : Type 0} (tells : D → Bool) (history : D → History) (faults : D
         comes v.journal events' s' v.shown caller moment event Fault reply calls v.state.kept v.state.flight told grown
         (subst (λ t. Turns v.state caller moment event Fault reply t) (sym is) (subst (λ r. Turns v.state caller moment event Fault r (applied plan Fault v.state)) (sym replies) turned))
         leaves
-        book.stands (goes_nowhere tells faults v.journal) (λ done. absurd (cc)) (λ failed. some)
-        (notes v.journal (noted caller moment event Fault (calls_of v.journal)) s' (goes_nowhere tells faults v.journal).calls refl book.safe)
+        book.stands (goes_nowhere v.journal) (λ t. called_none v.journal) (λ done. absurd (cc)) (λ failed. some)
+        (notes v.journal (noted caller moment event Fault (calls_of v.journal)) s' (goes_nowhere v.journal).calls refl book.safe)
         (λ leads. shows_on (opened v) v.events v.state v.shown book.shows (noted caller moment event Fault (calls_of v.journal) ∷ []) s' leaves.kept_is leaves.flight_is)

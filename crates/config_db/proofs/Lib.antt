@@ -3,7 +3,7 @@ mod AllLemmas
 mod SpanLemmas
 mod CrashLemmas
 mod SafeLemmas
-mod DiskLemmas
+pub mod DiskLemmas
 mod WritingLemmas
 mod MachineLemmas
 mod ShownLemmas
@@ -12,4 +12,5 @@ mod EventLemmas
 pub mod FaultLemmas
 mod MoveLemmas
 mod AnswerLemmas
+pub mod CalledLemmas
 mod ClosingLemmas

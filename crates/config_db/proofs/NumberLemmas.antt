@@ -22,5 +22,5 @@ rising_push from [] event made rising is = (subst (λ m. AreAtMost from m) (sym 
 rising_push from (first ∷ events) event made rising is = (rising.0, rising_push first.calls events event made rising.1 is)
 
 -- what the journal tells
-pub calls_is : {D : Type 0} (j : JournalView D) (made : Calls) → made.a ≡ calls_a j → made.b ≡ calls_b j → made ≡ calls_of j
+pub calls_is : (j : JournalView) (made : Calls) → made.a ≡ calls_a j → made.b ≡ calls_b j → made ≡ calls_of j
 calls_is j made p q = ap (λ (n : ℕ). record { a = n; b = made.b }) p ∙ ap (λ (n : ℕ). record { a = calls_a j; b = n }) q

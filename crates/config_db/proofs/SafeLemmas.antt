@@ -11,20 +11,20 @@ use Rattle.config_core.specs.State.{State}
 use Rattle.session_history.specs.declared.history.Happened.{Happened}
 use Rattle.session_history.specs.Events.{Leads}
 use Rattle.config_db.specs.Numbers.{AreRising, no_calls}
-use Rattle.config_db.specs.Crash.{CountsOn, InSpan, IsCounted, IsSafeNow, IsSafeWhile, Spelt, Told, last_calls}
+use Rattle.config_db.specs.Crash.{CountsOn, InSpan, IsCounted, IsSafeNow, IsSafeWhile, Spelt, CountsAgree, last_calls}
 use Rattle.config_db.proofs.SpanLemmas.{Grows, first_moment, grown_length, last_moment, span_now, span_split}
 use Rattle.config_db.proofs.CrashLemmas.{event_is_safe, settling_is_safe}
 
-pub told_counts : (h h' : History) (m m' : ℕ) → CountsCalls h h' m m' → Told h h' m m'
+pub told_counts : (h h' : History) (m m' : ℕ) → CountsCalls h h' m m' → CountsAgree h h' m m'
 told_counts h h' m m' is few within longer = omega (arith, is few, few, within, longer)
 
-pub counts_on : {D : Type 0} (tells : D → Bool) (history : D → History) (j j' : JournalView D) → Counts tells history j j' → CountsOn tells history j j'
-counts_on tells history j j' counts = record { told_a = λ t. told_counts (a_of history j) (a_of history j') (calls_a j) (calls_a j') (counts.goes_a t); told_b = λ t. told_counts (b_of history j) (b_of history j') (calls_b j) (calls_b j') (counts.goes_b t) }
+pub counts_on : (j j' : JournalView) → Counts j j' → CountsOn j j'
+counts_on j j' counts = record { told_a = λ t. told_counts (a_of j) (a_of j') (calls_a j) (calls_a j') (counts.goes_a t); told_b = λ t. told_counts (b_of j) (b_of j') (calls_b j) (calls_b j') (counts.goes_b t) }
 
-pub counts_none : {D : Type 0} (tells : D → Bool) (history : D → History) (j : JournalView D) → CountsOn tells history j j
-counts_none tells history j = record { told_a = λ t few within longer. omega arith; told_b = λ t few within longer. omega arith }
+pub counts_none : (j : JournalView) → CountsOn j j
+counts_none j = record { told_a = λ t few within longer. omega arith; told_b = λ t few within longer. omega arith }
 
-grows_told : (h h' : History) (m m' : ℕ) (more : List Call) → h'.first ≡ h.first → h'.calls ≡ h.calls ++ more → Told h h' m m' → IsCounted h' → m ≤ length h.calls → Grows h h' m m' more
+grows_told : (h h' : History) (m m' : ℕ) (more : List Call) → h'.first ≡ h.first → h'.calls ≡ h.calls ++ more → CountsAgree h h' m m' → IsCounted h' → m ≤ length h.calls → Grows h h' m m' more
 grows_told h h' m m' more first calls told few within =
     let size : length h'.calls ≡ length h.calls + length more = ap length calls ∙ length-append h.calls more in
     record { first = first; calls = calls; counted = omega (arith, told few within (omega (arith, size)), size); within = within }
@@ -56,7 +56,7 @@ pair_now a b a' b' P l c d in_a in_b = l.each c d
     alone_b = record { calls = l.b_calls; first = l.b_first; made = l.b_made; each = λ x since. since }
 
 module _ (first : State) (one_state : (events : List Happened) (s t : State) → Leads first events s → Leads first events t → s ≡ t)
-    (events : List Happened) (made made' : Calls) (a b a' b' : History) (told_a : Told a a' made.a made'.a) (told_b : Told b b' made.b made'.b)
+    (events : List Happened) (made made' : Calls) (a b a' b' : History) (told_a : CountsAgree a a' made.a made'.a) (told_b : CountsAgree b b' made.b made'.b)
     (rising : AreRising no_calls events made) (safe : IsSafeWhile first events made a b) where
   -- calls that only settled
   pub settles_safe : LeavesPair a b a' b' (WasLeft a b) → IsSafeWhile first events made' a' b'

@@ -27,89 +27,88 @@ use Rattle.config_db.specs.Writing.{IsAppend, IsFound, IsWritten}
 use Rattle.config_db.proofs.SafeLemmas.{counts_none, counts_on}
 use Rattle.config_db.proofs.DiskLemmas.{goes_nowhere, goes_on, tell_back}
 
-module _ {D : Type 0} (tells : D → Bool) (history : D → History) (faults : D → ℕ) (j j' : JournalView D) (failed : Type 0)
-    (stays : Stays tells j j') (counts : Counts tells history j j')
-    (cause : PairCause (faults (disk_a j)) (faults (disk_a j')) (faults (disk_b j)) (faults (disk_b j')) failed) where
-  pub append_done : (body : List Record) → IsAppended tells history j body j' → IsAppendSafe tells history j body j' → IsAppend tells history faults body Done j j'
+module _ (j j' : JournalView) (failed : Type 0)
+    (stays : Stays j j') (counts : Counts j j')
+    (cause : PairCause (disk_a j).faults (disk_a j').faults (disk_b j).faults (disk_b j').faults failed) where
+  pub append_done : (body : List Record) → IsAppended j body j' → IsAppendSafe j body j' → IsAppend body Done j j'
   append_done body appended safe = record {
-    holds = λ rs r is held. (appended.idle, λ t. let before = tell_back tells j j' stays t in appended.has rs r before (held.1 before) is);
-    goes = goes_on tells history faults j j' failed stays counts cause;
+    holds = λ rs r is held. (appended.idle, λ t. let before = tell_back j j' stays t in appended.has rs r before (held.1 before) is);
+    goes = goes_on j j' failed stays counts cause;
     cause = λ is. absurd (cc);
-    counts = counts_on tells history j j' counts;
+    counts = counts_on j j' counts;
     crash = λ rs r is held t. safe.crash rs r t (held.1 t) is;
   }
 
-  pub append_failed : (body : List Record) → failed → IsAppendFaulted tells history j body j' → IsAppendSafe tells history j body j' → IsAppend tells history faults body Fault j j'
+  pub append_failed : (body : List Record) → failed → IsAppendFaulted j body j' → IsAppendSafe j body j' → IsAppend body Fault j j'
   append_failed body fails faulted safe = record {
-    holds = λ rs r is held. (faulted.in_flight, λ t. let before = tell_back tells j j' stays t in faulted.awaits rs r before (held.1 before) is);
-    goes = goes_on tells history faults j j' failed stays counts cause;
+    holds = λ rs r is held. (faulted.in_flight, λ t. let before = tell_back j j' stays t in faulted.awaits rs r before (held.1 before) is);
+    goes = goes_on j j' failed stays counts cause;
     cause = λ is. cause.rose fails;
-    counts = counts_on tells history j j' counts;
+    counts = counts_on j j' counts;
     crash = λ rs r is held t. safe.crash rs r t (held.1 t) is;
   }
 
-  pub found_kept : IsSettledAs tells history j IsKept j' → IsSettleSafe tells history j j' → IsFound tells history faults (Some true) j j'
+  pub found_kept : IsSettledAs j IsKept j' → IsSettleSafe j j' → IsFound (Some true) j j'
   found_kept settled safe = record {
-    holds = λ rs r held. (settled.idle, λ t. let before = tell_back tells j j' stays t in settled.has rs r before (held.1 before));
-    goes = goes_on tells history faults j j' failed stays counts cause;
+    holds = λ rs r held. (settled.idle, λ t. let before = tell_back j j' stays t in settled.has rs r before (held.1 before));
+    goes = goes_on j j' failed stays counts cause;
     cause = λ is. absurd (cc);
-    counts = counts_on tells history j j' counts;
+    counts = counts_on j j' counts;
     crash = λ t. safe.crash t;
   }
 
-  pub found_dropped : IsSettledAs tells history j NotKept j' → IsSettleSafe tells history j j' → IsFound tells history faults (Some false) j j'
+  pub found_dropped : IsSettledAs j NotKept j' → IsSettleSafe j j' → IsFound (Some false) j j'
   found_dropped settled safe = record {
-    holds = λ rs r held. (settled.idle, λ t. let before = tell_back tells j j' stays t in settled.has rs r before (held.1 before));
-    goes = goes_on tells history faults j j' failed stays counts cause;
+    holds = λ rs r held. (settled.idle, λ t. let before = tell_back j j' stays t in settled.has rs r before (held.1 before));
+    goes = goes_on j j' failed stays counts cause;
     cause = λ is. absurd (cc);
-    counts = counts_on tells history j j' counts;
+    counts = counts_on j j' counts;
     crash = λ t. safe.crash t;
   }
 
-  pub not_found : failed → IsSettleFaulted tells history j j' → IsSettleSafe tells history j j' → IsFound tells history faults None j j'
+  pub not_found : failed → IsSettleFaulted j j' → IsSettleSafe j j' → IsFound None j j'
   not_found fails faulted safe = record {
-    holds = λ rs r held. (subst IsInFlight (sym faulted.flight_is) held.0, λ t. let before = tell_back tells j j' stays t in faulted.awaits rs r before (held.1 before));
-    goes = goes_on tells history faults j j' failed stays counts cause;
+    holds = λ rs r held. (subst IsInFlight (sym faulted.flight_is) held.0, λ t. let before = tell_back j j' stays t in faulted.awaits rs r before (held.1 before));
+    goes = goes_on j j' failed stays counts cause;
     cause = λ is. cause.rose fails;
-    counts = counts_on tells history j j' counts;
+    counts = counts_on j j' counts;
     crash = λ t. safe.crash t;
   }
 
-module _ {D : Type 0} (tells : D → Bool) (history : D → History) (faults : D → ℕ) where
-  -- no call at all
-  unchanged_leaves : (j : JournalView D) (rs : List Record) → Holds tells history j rs None → Tell tells j → LeavesBoth history j j (SpellsEither rs rs)
-  unchanged_leaves j rs held t = record {
-    a_calls = [];
-    b_calls = [];
-    a_first = refl;
-    b_first = refl;
-    a_made = sym (append-nil _);
-    b_made = sym (append-nil _);
-    each = λ c d in_a in_b. inl (rests_only j.b_counts (history j.counting) (history j.other) j.gate rs (held.1 t).rests c d in_a in_b);
-  }
+-- no call at all
+unchanged_leaves : (j : JournalView) (rs : List Record) → Holds j rs None → Tell j → LeavesBoth j j (SpellsEither rs rs)
+unchanged_leaves j rs held t = record {
+  a_calls = [];
+  b_calls = [];
+  a_first = refl;
+  b_first = refl;
+  a_made = sym (append-nil _);
+  b_made = sym (append-nil _);
+  each = λ c d in_a in_b. inl (rests_only j.b_counts j.counting.history j.other.history j.gate rs (held.1 t).rests c d in_a in_b);
+}
 
-  -- an event that makes no entry
-  nothing_written : (j : JournalView D) (made : Option Made) → made ≡ None → IsWritten tells history faults made Done j j
-  nothing_written j None is = record { calm = λ none. refl; entry = tt; holds = λ rs held. held; goes = goes_nowhere tells faults j; cause = λ is. absurd (cc); counts = counts_none tells history j; crash = λ rs held t. unchanged_leaves j rs held t }
-  nothing_written j (Some made) is = absurd (cc)
+-- an event that makes no entry
+nothing_written : (j : JournalView) (made : Option Made) → made ≡ None → IsWritten made Done j j
+nothing_written j None is = record { calm = λ none. refl; entry = tt; holds = λ rs held. held; goes = goes_nowhere j; cause = λ is. absurd (cc); counts = counts_none j; crash = λ rs held t. unchanged_leaves j rs held t }
+nothing_written j (Some made) is = absurd (cc)
 
-  pub none_written : (j : JournalView D) (made : Option Made) → None ≡ option_map (λ (m : Made). m.entry) made → IsWritten tells history faults made Done j j
-  none_written j None is = nothing_written j None refl
-  none_written j (Some m) is = absurd (cc)
+pub none_written : (j : JournalView) (made : Option Made) → None ≡ option_map (λ (m : Made). m.entry) made → IsWritten made Done j j
+none_written j None is = nothing_written j None refl
+none_written j (Some m) is = absurd (cc)
 
-  one_written : (j j' : JournalView D) (m : Made) (outcome : Outcome) → IsEntry Accepts m.entry → IsAppend tells history faults (entry_record m.entry ∷ []) outcome j j'
-      → IsWritten tells history faults (Some m) outcome j j'
-  one_written j j' m Done is append = record { calm = λ none. refl; entry = is; holds = λ rs held. append.holds rs (entry_record m.entry) refl held; goes = append.goes; cause = append.cause; counts = append.counts; crash = λ rs held t. append.crash rs (entry_record m.entry) refl held t }
-  one_written j j' m Fault is append = record { calm = λ none. absurd (cc); entry = is; holds = λ rs held. append.holds rs (entry_record m.entry) refl held; goes = append.goes; cause = append.cause; counts = append.counts; crash = λ rs held t. append.crash rs (entry_record m.entry) refl held t }
+one_written : (j j' : JournalView) (m : Made) (outcome : Outcome) → IsEntry Accepts m.entry → IsAppend (entry_record m.entry ∷ []) outcome j j'
+    → IsWritten (Some m) outcome j j'
+one_written j j' m Done is append = record { calm = λ none. refl; entry = is; holds = λ rs held. append.holds rs (entry_record m.entry) refl held; goes = append.goes; cause = append.cause; counts = append.counts; crash = λ rs held t. append.crash rs (entry_record m.entry) refl held t }
+one_written j j' m Fault is append = record { calm = λ none. absurd (cc); entry = is; holds = λ rs held. append.holds rs (entry_record m.entry) refl held; goes = append.goes; cause = append.cause; counts = append.counts; crash = λ rs held t. append.crash rs (entry_record m.entry) refl held t }
 
-  -- the entry that an event makes
-  pub entry_written : (j j' : JournalView D) (made : Option Made) (entry : Entry) (body : List Record) (outcome : Outcome) → Some entry ≡ option_map (λ (m : Made). m.entry) made
-      → IsEntry Accepts entry → body ≡ entry_record entry ∷ [] → IsAppend tells history faults body outcome j j' → IsWritten tells history faults made outcome j j'
-  entry_written j j' None entry body outcome is is_entry is_body append = absurd (cc)
-  entry_written j j' (Some m) entry body outcome is is_entry is_body append =
-      let same : entry ≡ m.entry = cc in
-      one_written j j' m outcome (subst (IsEntry Accepts) same is_entry)
-      (subst (λ e. IsAppend tells history faults (entry_record e ∷ []) outcome j j') same (subst (λ b. IsAppend tells history faults b outcome j j') is_body append))
+-- the entry that an event makes
+pub entry_written : (j j' : JournalView) (made : Option Made) (entry : Entry) (body : List Record) (outcome : Outcome) → Some entry ≡ option_map (λ (m : Made). m.entry) made
+    → IsEntry Accepts entry → body ≡ entry_record entry ∷ [] → IsAppend body outcome j j' → IsWritten made outcome j j'
+entry_written j j' None entry body outcome is is_entry is_body append = absurd (cc)
+entry_written j j' (Some m) entry body outcome is is_entry is_body append =
+    let same : entry ≡ m.entry = cc in
+    one_written j j' m outcome (subst (IsEntry Accepts) same is_entry)
+    (subst (λ e. IsAppend (entry_record e ∷ []) outcome j j') same (subst (λ b. IsAppend b outcome j j') is_body append))
 
 -- the text of a configuration is what is printed of it from the top
 pub short_text : (m : Statements) → length (printed m []) ≤ MAX_TEXT → length (text_of m) ≤ most_text

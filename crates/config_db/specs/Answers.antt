@@ -1,5 +1,7 @@
 -- What comes before a command, and what is answered.
 use Rattle.std.specs.Prelude.{◌≡◌, ◌≤◌, ℕ, Bool, List, [], ◌∷◌, ◌++◌, length, max, IsSome}
+use Rattle.commit_journal.specs.Journal.{disks_of}
+use Rattle.disk_model.specs.Pair.{FaultOnEither}
 use Rattle.commands.specs.declared.command.Command.{Command}
 use Rattle.config_core.specs.declared.event.Event.TheVariants.{Revert, Command as CommandOf}
 use Rattle.config_core.specs.declared.event.Outcome.{Outcome}
@@ -10,18 +12,17 @@ use Rattle.config_core.specs.Prepared.{IsSettling}
 use Rattle.config_core.specs.Serving.{Turned}
 use Rattle.config_core.specs.State.{State}
 use Rattle.session_history.specs.declared.history.Happened.{Happened}
-use Rattle.session_history.specs.Events.{Leads}
+use Rattle.session_history.specs.Events.{Leads, NoCommand}
 use Rattle.config_db.specs.declared.answer.Answered.{Answered}
 use Rattle.config_db.specs.declared.answer.Answered.TheVariants.{Kept, NoMemory}
 use Rattle.config_db.specs.declared.answer.Ticked.{Ticked}
 use Rattle.config_db.specs.declared.answer.Ticked.TheVariants.{Nothing, Settled, Reverted, DiskFault, NoMemory as TickedNoMemory}
 use Rattle.config_db.specs.View.{DatabaseView}
 use Rattle.config_db.specs.Numbers.{calls_of}
-use Rattle.config_db.specs.Disks.{FaultRose}
-use Rattle.config_db.specs.Moves.{Extends, Happens, NoCommand}
+use Rattle.config_db.specs.Moves.{Extends, Happens}
 
 -- nothing comes before a command at that moment
-abbrev pub IsClear : {D : Type 0} → ℕ → DatabaseView D → Type 0
+abbrev pub IsClear : ℕ → DatabaseView → Type 0
 IsClear moment v = waiting_of v.state moment ≡ Free
 
 -- the last of the events reverts a missed deadline
@@ -40,19 +41,19 @@ pub record IsOneSettling (own : List Happened) : Type 0 where
   pub done : one.outcome ≡ Done
 
 -- what was needed before a command, and what came of it
-abbrev pub Clears : {D : Type 0} → (D → ℕ) → ℕ → Ticked → List Happened → DatabaseView D → DatabaseView D → Type 0
-Clears faults moment Nothing own v v' = (own ≡ []) × IsClear moment v'
-Clears faults moment Settled own v v' = IsOneSettling own × IsClear moment v'
-Clears faults moment Reverted own v v' = EndsReverted own × IsClear moment v'
-Clears faults moment DiskFault own v v' = IsSome v'.state.flight × FaultRose faults v.journal v'.journal
-Clears faults moment TickedNoMemory own v v' = Unit {0}
+abbrev pub Clears : ℕ → Ticked → List Happened → DatabaseView → DatabaseView → Type 0
+Clears moment Nothing own v v' = (own ≡ []) × IsClear moment v'
+Clears moment Settled own v v' = IsOneSettling own × IsClear moment v'
+Clears moment Reverted own v v' = EndsReverted own × IsClear moment v'
+Clears moment DiskFault own v v' = IsSome v'.state.flight × FaultOnEither (disks_of v.journal) (disks_of v'.journal)
+Clears moment TickedNoMemory own v v' = Unit {0}
 
 -- what was needed before a command at that moment was done, in the name of that caller
-pub record MakesWay {D : Type 0} (tells : D → Bool) (faults : D → ℕ) (caller moment : ℕ) (ticked : Ticked) (v v' : DatabaseView D) : Type 0 where
+pub record MakesWay (caller moment : ℕ) (ticked : Ticked) (v v' : DatabaseView) : Type 0 where
   pub own : List Happened
-  pub extends : Extends tells faults caller moment own v v'
+  pub extends : Extends caller moment own v v'
   pub no_command : NoCommand own
-  pub clears : Clears faults moment ticked own v v'
+  pub clears : Clears moment ticked own v v'
   -- the greatest moment doesn't fall, and isn't a later one than that
   pub since : v.state.greatest ≤ v'.state.greatest
   pub no_later : v'.state.greatest ≤ moment
@@ -63,49 +64,49 @@ reverted_as Done = Reverted
 reverted_as Fault = DiskFault
 
 -- a missed deadline was reverted, or the revert is in flight
-abbrev pub Reverts : {D : Type 0} → (D → Bool) → (D → ℕ) → ℕ → ℕ → Ticked → DatabaseView D → DatabaseView D → Type 0
-Reverts tells faults caller moment Reverted v v' = (reply : Reply) × Happens tells faults caller moment Revert Done reply v v'
-Reverts tells faults caller moment DiskFault v v' =
-    (reply : Reply) × Happens tells faults caller moment Revert Fault reply v v' × FaultRose faults v.journal v'.journal
-Reverts tells faults caller moment TickedNoMemory v v' = v' ≡ v
-Reverts tells faults caller moment Nothing v v' = ⊥
-Reverts tells faults caller moment Settled v v' = ⊥
+abbrev pub Reverts : ℕ → ℕ → Ticked → DatabaseView → DatabaseView → Type 0
+Reverts caller moment Reverted v v' = (reply : Reply) × Happens caller moment Revert Done reply v v'
+Reverts caller moment DiskFault v v' =
+    (reply : Reply) × Happens caller moment Revert Fault reply v v' × FaultOnEither (disks_of v.journal) (disks_of v'.journal)
+Reverts caller moment TickedNoMemory v v' = v' ≡ v
+Reverts caller moment Nothing v v' = ⊥
+Reverts caller moment Settled v v' = ⊥
 
 -- a command is the next event; with a fault it ends only for this cause
-pub record IsTaken {D : Type 0} (tells : D → Bool) (faults : D → ℕ) (caller moment : ℕ) (command : Command) (place : ℕ) (reply : Reply)
-    (why : Type 0) (v v' : DatabaseView D) : Type 0 where
+pub record IsTaken (caller moment : ℕ) (command : Command) (place : ℕ) (reply : Reply)
+    (why : Type 0) (v v' : DatabaseView) : Type 0 where
   pub outcome : Outcome
-  pub happens : Happens tells faults caller moment (CommandOf command) outcome reply v v'
+  pub happens : Happens caller moment (CommandOf command) outcome reply v v'
   pub at_end : place ≡ length v.events
   pub cause : outcome ≡ Fault → why
 
-abbrev pub Takes : {D : Type 0} → (D → Bool) → (D → ℕ) → ℕ → ℕ → Command → Answered → Type 0 → DatabaseView D → DatabaseView D → Type 0
-Takes tells faults caller moment command (Kept place reply) why v v' = IsTaken tells faults caller moment command place reply why v v'
-Takes tells faults caller moment command NoMemory why v v' = v' ≡ v
+abbrev pub Takes : ℕ → ℕ → Command → Answered → Type 0 → DatabaseView → DatabaseView → Type 0
+Takes caller moment command (Kept place reply) why v v' = IsTaken caller moment command place reply why v v'
+Takes caller moment command NoMemory why v v' = v' ≡ v
 
 -- what is needed behind a settling: a missed deadline is reverted, or nothing is
-abbrev pub ClearsBehind : {D : Type 0} → (D → ℕ) → ℕ → Ticked → List Happened → DatabaseView D → DatabaseView D → Type 0
-ClearsBehind faults moment Nothing own v v' = ⊥
-ClearsBehind faults moment Settled own v v' = (own ≡ []) × IsClear moment v'
-ClearsBehind faults moment Reverted own v v' = EndsReverted own × IsClear moment v'
-ClearsBehind faults moment DiskFault own v v' = IsSome v'.state.flight × FaultRose faults v.journal v'.journal
-ClearsBehind faults moment TickedNoMemory own v v' = Unit {0}
+abbrev pub ClearsBehind : ℕ → Ticked → List Happened → DatabaseView → DatabaseView → Type 0
+ClearsBehind moment Nothing own v v' = ⊥
+ClearsBehind moment Settled own v v' = (own ≡ []) × IsClear moment v'
+ClearsBehind moment Reverted own v v' = EndsReverted own × IsClear moment v'
+ClearsBehind moment DiskFault own v v' = IsSome v'.state.flight × FaultOnEither (disks_of v.journal) (disks_of v'.journal)
+ClearsBehind moment TickedNoMemory own v v' = Unit {0}
 
-pub record CatchesUp {D : Type 0} (tells : D → Bool) (faults : D → ℕ) (caller moment : ℕ) (ticked : Ticked) (v v' : DatabaseView D) : Type 0 where
+pub record CatchesUp (caller moment : ℕ) (ticked : Ticked) (v v' : DatabaseView) : Type 0 where
   pub own : List Happened
-  pub extends : Extends tells faults caller moment own v v'
+  pub extends : Extends caller moment own v v'
   pub no_command : NoCommand own
-  pub clears : ClearsBehind faults moment ticked own v v'
+  pub clears : ClearsBehind moment ticked own v v'
   -- the greatest moment doesn't fall, and isn't a later one than that
   pub since : v.state.greatest ≤ v'.state.greatest
   pub no_later : v'.state.greatest ≤ moment
 
 -- the moment of what is asked: the answer of the clock, or the greatest moment so far
-abbrev pub moment_at : {D : Type 0} → ℕ → DatabaseView D → ℕ
+abbrev pub moment_at : ℕ → DatabaseView → ℕ
 moment_at answer v = max answer v.state.greatest
 
 -- the command is the last of the events, at that place, and that is its reply
-pub record IsAnswered {D : Type 0} (caller moment : ℕ) (command : Command) (place : ℕ) (reply : Reply) (own : List Happened) (v v' : DatabaseView D)
+pub record IsAnswered (caller moment : ℕ) (command : Command) (place : ℕ) (reply : Reply) (own : List Happened) (v v' : DatabaseView)
     : Type 0 where
   pub front : List Happened
   pub last : Happened
@@ -123,13 +124,13 @@ pub record IsAnswered {D : Type 0} (caller moment : ℕ) (command : Command) (pl
   -- it has the numbers of calls that the journal tells
   pub calls : last.calls ≡ calls_of v'.journal
 
-abbrev pub IsAnswer : {D : Type 0} → ℕ → ℕ → Command → Answered → List Happened → DatabaseView D → DatabaseView D → Type 0
+abbrev pub IsAnswer : ℕ → ℕ → Command → Answered → List Happened → DatabaseView → DatabaseView → Type 0
 IsAnswer caller moment command (Kept place reply) own v v' = IsAnswered caller moment command place reply own v v'
 IsAnswer caller moment command NoMemory own v v' = NoCommand own
 
 -- a command was asked
-pub record Answers {D : Type 0} (tells : D → Bool) (faults : D → ℕ) (caller moment : ℕ) (command : Command) (answered : Answered)
-    (v v' : DatabaseView D) : Type 0 where
+pub record Answers (caller moment : ℕ) (command : Command) (answered : Answered)
+    (v v' : DatabaseView) : Type 0 where
   pub own : List Happened
-  pub extends : Extends tells faults caller moment own v v'
+  pub extends : Extends caller moment own v v'
   pub answer : IsAnswer caller moment command answered own v v'

@@ -18,13 +18,13 @@ use Rattle.config_db.specs.Writing.{record_in}
 use Rattle.config_db.specs.Shown.{Shows}
 
 -- the journal holds records that are read as what is kept, and the entry in flight is its record in flight
-pub record Stands {D : Type 0} (tells : D → Bool) (history : D → History) (j : JournalView D) (kept : Kept) (flight : Option Made) : Type 0 where
+pub record Stands (j : JournalView) (kept : Kept) (flight : Option Made) : Type 0 where
   pub records : List Record
   pub reads : ReadsAs Accepts records kept
-  pub holds : Holds tells history j records (record_in flight)
+  pub holds : Holds j records (record_in flight)
   pub entry : IfSome flight (λ made. IsEntry Accepts made.entry)
 
-pub record IsBook {D : Type 0} (tells : D → Bool) (history : D → History) (v : DatabaseView D) : Type 0 where
+pub record IsBook (v : DatabaseView) : Type 0 where
   -- it began over a list whose maps are accepted
   pub began : IsSoundKept v.opening
   -- each event fits the state before it, and all lead to the state
@@ -34,19 +34,19 @@ pub record IsBook {D : Type 0} (tells : D → Bool) (history : D → History) (v
   -- with nothing in flight the last event is this very moment
   pub at_rest : v.state.flight ≡ None → last_calls no_calls v.events ≡ calls_of v.journal
   -- a crash at any moment so far leaves what the state of that moment says
-  pub safe : Tell tells v.journal → IsSafeWhile (opened v) v.events (calls_of v.journal) (a_of history v.journal) (b_of history v.journal)
+  pub safe : Tell v.journal → IsSafeWhile (opened v) v.events (calls_of v.journal) (a_of v.journal) (b_of v.journal)
   pub sound : IsSoundState v.state
   -- there is a caller for each user
   pub callers : length v.state.callers ≡ length v.users
-  pub stands : Stands tells history v.journal v.state.kept v.state.flight
+  pub stands : Stands v.journal v.state.kept v.state.flight
   -- readers are shown what is kept, and the view after the entry in flight waits
   pub shows : Shows (opened v) v.events v.state v.shown
 
 -- a journal that was just opened holds the list of this ledger
-pub record IsOpening {D : Type 0} (tells : D → Bool) (history : D → History) (j : JournalView D) (kept : Kept) : Type 0 where
+pub record IsOpening (j : JournalView) (kept : Kept) : Type 0 where
   pub calls : calls_of j ≡ no_calls
   -- its maps are accepted, commits are numbered from 1, and an unconfirmed run has room for its revert
   pub sound : IsSoundKept kept
   pub records : List Record
   pub reads : ReadsAs Accepts records kept
-  pub holds : Holds tells history j records None
+  pub holds : Holds j records None

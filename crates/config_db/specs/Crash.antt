@@ -1,18 +1,16 @@
 -- What a crash at any moment of a run may leave on the two disks. This project's own.
 use Rattle.std.specs.Prelude.{◌≡◌, ◌<◌, ◌≤◌, ◌-◌, ◌+◌, ◌^◌, ◌⊎◌, ℕ, Bool, IsTrue, List, [], ◌∷◌, ◌++◌, length, Option, Some, None}
 use Rattle.cfg_base.specs.declared.calls.Calls.{Calls}
-use Rattle.disk_model.specs.Disk.{History, LeftBetween}
-use Rattle.record_code.specs.Record.{Record}
-use Rattle.commit_check.specs.Accepts.{Accepts}
+use Rattle.disk_model.specs.Disk.{Call, GoesOn as DiskGoesOn, History, LeftBetween}
+use Rattle.disk_model.specs.Pair.{DiskPair}
 use Rattle.commit_ledger.specs.Kept.{Kept, append_entry}
-use Rattle.commit_ledger.specs.Reading.{ReadsAs}
 use Rattle.commit_journal.specs.Journal.{JournalView, a_of, b_of, calls_a, calls_b, disk_a, disk_b}
-use Rattle.commit_journal.specs.Pair.{PairSpells}
 use Rattle.config_core.specs.Machine.{Steps}
 use Rattle.config_core.specs.Serving.{Turned}
 use Rattle.config_core.specs.State.{State, Made}
 use Rattle.session_history.specs.declared.history.Happened.{Happened}
 use Rattle.session_history.specs.Events.{Leads}
+use Rattle.stored_ledger.specs.Stored.{SpellsKept}
 use Rattle.config_db.specs.Numbers.{AreRising, no_calls}
 
 -- a disk's own count of calls isn't at its end
@@ -41,10 +39,6 @@ next_calls made (event ∷ events) = event.calls
 abbrev pub next_of : List Happened → Option Happened
 next_of [] = None
 next_of (event ∷ events) = Some event
-
--- two files spell a list of entries: their records are read as it
-abbrev pub SpellsKept : List ℕ → List ℕ → Kept → Type 0
-SpellsKept a b kept = (rs : List Record) × PairSpells a b rs × ReadsAs Accepts rs kept
 
 -- the next event makes that entry
 abbrev pub NextMakes : State → Option Happened → Made → Type 0
@@ -84,10 +78,28 @@ abbrev pub IsSafeWhile : State → List Happened → Calls → History → Histo
 IsSafeWhile first events made a b = IsCounted a → IsCounted b → IsSafeNow first events made a b
 
 -- a number went on as the disk's own count did
-abbrev pub Told : History → History → ℕ → ℕ → Type 0
-Told h h' m m' = IsCounted h' → m ≤ length h.calls → length h.calls ≤ length h'.calls → m' ≡ m + (length h'.calls - length h.calls)
+abbrev pub CountsAgree : History → History → ℕ → ℕ → Type 0
+CountsAgree h h' m m' = IsCounted h' → m ≤ length h.calls → length h.calls ≤ length h'.calls → m' ≡ m + (length h'.calls - length h.calls)
 
 -- the numbers that a journal tells went on so
-pub record CountsOn {D : Type 0} (tells : D → Bool) (history : D → History) (j j' : JournalView D) : Type 0 where
-  pub told_a : IsTrue (tells (disk_a j)) → Told (a_of history j) (a_of history j') (calls_a j) (calls_a j')
-  pub told_b : IsTrue (tells (disk_b j)) → Told (b_of history j) (b_of history j') (calls_b j) (calls_b j')
+pub record CountsOn (j j' : JournalView) : Type 0 where
+  pub told_a : IsTrue (disk_a j).tells → CountsAgree (a_of j) (a_of j') (calls_a j) (calls_a j')
+  pub told_b : IsTrue (disk_b j).tells → CountsAgree (b_of j) (b_of j') (calls_b j) (calls_b j')
+
+-- a disk made more calls, and the number that is told of them went on with them
+abbrev pub CallsOn : History → History → ℕ → ℕ → Type 0
+CallsOn h h' m m' = (more : List Call) × DiskGoesOn h more h' × (IsCounted h' → m ≤ length h.calls → m' ≡ m + length more)
+
+-- the calls of a journal's disks went on so
+pub record BothCalled (j j' : JournalView) : Type 0 where
+  pub a : CallsOn (disk_a j).history (disk_a j').history (calls_a j) (calls_a j')
+  pub b : CallsOn (disk_b j).history (disk_b j').history (calls_b j) (calls_b j')
+
+-- a disk made so many calls since, where its own count doesn't stand at its end
+abbrev pub HasCalled : History → History → ℕ → Type 0
+HasCalled h h' number = (more : List Call) × DiskGoesOn h more h' × (IsCounted h' → number ≡ length more)
+
+-- two disks made so many calls since
+pub record HaveCalled (start now : DiskPair) (made : Calls) : Type 0 where
+  pub a : HasCalled start.a.history now.a.history made.a
+  pub b : HasCalled start.b.history now.b.history made.b

@@ -9,7 +9,7 @@ abbrev pub no_calls : Calls
 no_calls = record { a = 0; b = 0 }
 
 -- the numbers that the journal tells
-abbrev pub calls_of : {D : Type 0} → JournalView D → Calls
+abbrev pub calls_of : JournalView → Calls
 calls_of j = record { a = calls_a j; b = calls_b j }
 
 -- no number of the one is above that of the other

@@ -6,8 +6,8 @@ use Rattle.config_core.specs.State.{State, opening_of}
 use Rattle.session_history.specs.declared.history.Happened.{Happened}
 use Rattle.active_snapshot.specs.States.{ReaderState, WriterState}
 
-pub record DatabaseView (D : Type 0) : Type 0 where
-  pub journal : JournalView D
+pub record DatabaseView : Type 0 where
+  pub journal : JournalView
   -- the list over which it began, and the users of callers 1, 2 and so on
   pub opening : Kept
   pub users : List (List ℕ)
@@ -19,16 +19,16 @@ pub record DatabaseView (D : Type 0) : Type 0 where
   pub readers : List ReaderState
 
 -- the state in which it began
-abbrev pub opened : {D : Type 0} → DatabaseView D → State
+abbrev pub opened : DatabaseView → State
 opened v = opening_of v.opening v.users
 
 -- a database's journal, the list over which it began, and its users
-pub record AreParts {D : Type 0} (v : DatabaseView D) (held : JournalView D) (list : Kept) (names : List (List ℕ)) : Type 0 where
+pub record AreParts (v : DatabaseView) (held : JournalView) (list : Kept) (names : List (List ℕ)) : Type 0 where
   pub journal : held ≡ v.journal
   pub opening : list ≡ v.opening
   pub users : names ≡ v.users
 
 -- the list and the users over which a database began are what they were
-pub record IsSameRun {D : Type 0} (v v' : DatabaseView D) : Type 0 where
+pub record IsSameRun (v v' : DatabaseView) : Type 0 where
   pub opening : v'.opening ≡ v.opening
   pub users : v'.users ≡ v.users

@@ -1,5 +1,6 @@
 -- How the entry that an event makes is written, and how what is in flight is found out.
 use Rattle.std.specs.Prelude.{◌≡◌, ◌≤◌, ℕ, Bool, true, false, List, [], ◌∷◌, ◌++◌, Option, None, Some, IfSome}
+use Rattle.disk_model.specs.Pair.{FaultOnEither}
 use Rattle.cfg_lex.specs.Printed.{IsPrintable}
 use Rattle.disk_model.specs.Disk.{History}
 use Rattle.record_code.specs.Record.{Record}
@@ -10,13 +11,13 @@ use Rattle.commit_ledger.specs.declared.entry.Commit.{Commit}
 use Rattle.commit_ledger.specs.Kept.{Kept, append_entry}
 use Rattle.commit_ledger.specs.Payload.{entry_record}
 use Rattle.commit_ledger.specs.Rules.{IsEntry}
-use Rattle.commit_journal.specs.Journal.{JournalView, LeavesBoth, Tell, a_of, b_of}
+use Rattle.commit_journal.specs.Journal.{JournalView, LeavesBoth, Tell, a_of, b_of, disks_of}
 use Rattle.commit_journal.specs.Pair.{SpellsEither, WasLeft}
 use Rattle.config_core.specs.declared.event.Outcome.{Outcome}
 use Rattle.config_core.specs.declared.event.Outcome.TheVariants.{Done, Fault}
 use Rattle.config_core.specs.State.{Made}
 use Rattle.config_db.specs.Crash.{CountsOn}
-use Rattle.config_db.specs.Disks.{FaultRose, GoesOn, Holds}
+use Rattle.config_db.specs.Disks.{GoesOn, Holds}
 
 -- a commit that may be written: by what its types don't keep
 pub record IsWritableCommit (commit : Commit) : Type 0 where
@@ -62,30 +63,30 @@ flight_written r Done = None
 flight_written r Fault = Some r
 
 -- a record was appended, with this outcome
-pub record IsAppend {D : Type 0} (tells : D → Bool) (history : D → History) (faults : D → ℕ) (body : List Record) (outcome : Outcome)
-    (j j' : JournalView D) : Type 0 where
-  pub holds : (rs : List Record) (r : Record) → body ≡ r ∷ [] → Holds tells history j rs None
-      → Holds tells history j' (records_written rs r outcome) (flight_written r outcome)
-  pub goes : GoesOn tells faults j j'
-  pub cause : outcome ≡ Fault → FaultRose faults j j'
-  pub counts : CountsOn tells history j j'
+pub record IsAppend (body : List Record) (outcome : Outcome)
+    (j j' : JournalView) : Type 0 where
+  pub holds : (rs : List Record) (r : Record) → body ≡ r ∷ [] → Holds j rs None
+      → Holds j' (records_written rs r outcome) (flight_written r outcome)
+  pub goes : GoesOn j j'
+  pub cause : outcome ≡ Fault → FaultOnEither (disks_of j) (disks_of j')
+  pub counts : CountsOn j j'
   -- a crash at any moment of the call leaves the records from before it, with this one or without
-  pub crash : (rs : List Record) (r : Record) → body ≡ r ∷ [] → Holds tells history j rs None → Tell tells j
-      → LeavesBoth history j j' (SpellsEither rs (rs ++ r ∷ []))
+  pub crash : (rs : List Record) (r : Record) → body ≡ r ∷ [] → Holds j rs None → Tell j
+      → LeavesBoth j j' (SpellsEither rs (rs ++ r ∷ []))
 
 -- the entry that an event makes, if it makes one, was written, with this outcome
-pub record IsWritten {D : Type 0} (tells : D → Bool) (history : D → History) (faults : D → ℕ) (made : Option Made) (outcome : Outcome)
-    (j j' : JournalView D) : Type 0 where
+pub record IsWritten (made : Option Made) (outcome : Outcome)
+    (j j' : JournalView) : Type 0 where
   -- what makes no entry is done
   pub calm : made ≡ None → outcome ≡ Done
   pub entry : IfSome made (λ m. IsEntry Accepts m.entry)
-  pub holds : (rs : List Record) → Holds tells history j rs None
-      → Holds tells history j' (records_after rs made outcome) (record_in (flight_after made outcome))
-  pub goes : GoesOn tells faults j j'
-  pub cause : outcome ≡ Fault → FaultRose faults j j'
-  pub counts : CountsOn tells history j j'
-  pub crash : (rs : List Record) → Holds tells history j rs None → Tell tells j
-      → LeavesBoth history j j' (SpellsEither rs (records_after rs made Done))
+  pub holds : (rs : List Record) → Holds j rs None
+      → Holds j' (records_after rs made outcome) (record_in (flight_after made outcome))
+  pub goes : GoesOn j j'
+  pub cause : outcome ≡ Fault → FaultOnEither (disks_of j) (disks_of j')
+  pub counts : CountsOn j j'
+  pub crash : (rs : List Record) → Holds j rs None → Tell j
+      → LeavesBoth j j' (SpellsEither rs (records_after rs made Done))
 
 -- the records behind a settling, by its answer: whether the one in flight is kept, or a fault
 abbrev pub records_found : List Record → Record → Option Bool → List Record
@@ -98,12 +99,12 @@ flight_found r None = Some r
 flight_found r (Some is_kept) = None
 
 -- it was found out whether the record in flight is kept, or a disk failed and it is in flight still
-pub record IsFound {D : Type 0} (tells : D → Bool) (history : D → History) (faults : D → ℕ) (answer : Option Bool) (j j' : JournalView D)
+pub record IsFound (answer : Option Bool) (j j' : JournalView)
     : Type 0 where
-  pub holds : (rs : List Record) (r : Record) → Holds tells history j rs (Some r)
-      → Holds tells history j' (records_found rs r answer) (flight_found r answer)
-  pub goes : GoesOn tells faults j j'
-  pub cause : answer ≡ None → FaultRose faults j j'
-  pub counts : CountsOn tells history j j'
+  pub holds : (rs : List Record) (r : Record) → Holds j rs (Some r)
+      → Holds j' (records_found rs r answer) (flight_found r answer)
+  pub goes : GoesOn j j'
+  pub cause : answer ≡ None → FaultOnEither (disks_of j) (disks_of j')
+  pub counts : CountsOn j j'
   -- a crash leaves what one just before the call might have left
-  pub crash : Tell tells j → LeavesBoth history j j' (WasLeft (a_of history j) (b_of history j))
+  pub crash : Tell j → LeavesBoth j j' (WasLeft (a_of j) (b_of j))

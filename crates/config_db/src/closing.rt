@@ -1,6 +1,7 @@
 //! How a database ends.
 
 ghost use Rattle.config_db.specs.Closing.{IsHandedBack, SettlesLast};
+ghost use Rattle.disk_model.specs.Pair.{pair_of};
 ghost use Rattle.std.specs.Prelude.{◌≡◌};
 
 use crate::answer::ClosedBook;
@@ -14,7 +15,7 @@ use std::sync::Wait;
 impl<D: Disk, J: Naming> Database<D, J> {
     /// Settles what is in flight, and tells whether an entry is in flight still.
     pub(crate) fn settle_last<R: Wait>(&mut self, rt: &R) -> bool
-        ensures { SettlesLast D.tells D.faults result self.old self.new }
+        ensures { SettlesLast result self.old self.new }
     {
         let moment = self.core.greatest();
         match self.core.next(moment) {
@@ -29,7 +30,7 @@ impl<D: Disk, J: Naming> Database<D, J> {
     /// What happened, and the disks. The writer ends, and with it the readers that nobody took.
     pub(crate) fn hand_back<R: Wait>(self, rt: &R, fault: bool) -> ClosedBook<D>
         ensures fault { result.fault ≡ fault }
-        ensures back { IsHandedBack D.tells D.history self result.history result.a result.b }
+        ensures back { IsHandedBack self result.history (pair_of D.view result.a result.b) }
     {
         histories_stay_accepted();
         let Database {

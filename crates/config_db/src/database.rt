@@ -1,4 +1,5 @@
 ghost use Rattle.std.specs.Prelude.{◌≡◌, ◌<◌, ◌≤◌, [], length};
+ghost use Rattle.disk_model.specs.Pair.{pair_of};
 ghost use Rattle.std.specs.Arc.{arc_value};
 ghost use Rattle.commands.specs.Sound.{IsSound};
 ghost use Rattle.session_history.specs.Events.{IsLegal, StaysAccepted};
@@ -42,7 +43,7 @@ impl<D: Disk, J: Naming> Model for Database<D, J> {
     ghost use Rattle.config_db.specs.View.{DatabaseView};
     ghost use Rattle.config_db.specs.Book.{IsBook};
 
-    ghost Value = { DatabaseView D };
+    ghost Value = { DatabaseView };
 
     ghost coded = { Prim.hlevel (codes, statements_code) };
 
@@ -57,7 +58,7 @@ impl<D: Disk, J: Naming> Model for Database<D, J> {
     } };
 
     // Behind an entry in flight there is room for its settling.
-    ghost invariant = { λ d. IsBook D.tells D.history (record {
+    ghost invariant = { λ d. IsBook (record {
       journal = d.journal;
       opening = d.opening;
       users = d.users;
@@ -90,7 +91,7 @@ impl<D: Disk, J: Naming> Database<D, J> {
     ) -> Answered
         requires caller { (0 < caller) × (caller ≤ length self.old.users) }
         requires sound { IsSound command }
-        ensures { Answers D.tells D.faults caller (moment_at moment self.old) command result self.old self.new }
+        ensures { Answers caller (moment_at moment self.old) command result self.old self.new }
     {
         let moment = moment.later(self.core.greatest());
         match self.make_way(rt, caller, moment) {
@@ -104,7 +105,7 @@ impl<D: Disk, J: Naming> Database<D, J> {
 
     /// Looks at the time: settles and reverts where that is needed, as nobody's command.
     pub fn tick<R: Wait>(&mut self, rt: &R, moment: Moment) -> Ticked
-        ensures { MakesWay D.tells D.faults 0 (moment_at moment self.old) result self.old self.new }
+        ensures { MakesWay 0 (moment_at moment self.old) result self.old self.new }
     {
         let moment = moment.later(self.core.greatest());
         self.make_way(rt, 0, moment)
@@ -144,7 +145,7 @@ impl<D: Disk, J: Naming> Database<D, J> {
 
     /// Ends: what is in flight is settled, and what happened is handed back with the disks. It needs no memory.
     pub fn close<R: Wait>(self, rt: &R) -> ClosedBook<D>
-        ensures { IsClosed D.tells D.history D.faults self result.history result.fault result.a result.b }
+        ensures { IsClosed self result.history result.fault (pair_of D.view result.a result.b) }
     {
         let mut book = self;
         let fault = book.settle_last(rt);

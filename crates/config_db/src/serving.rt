@@ -1,10 +1,11 @@
 //! What comes before a command, and the command: one method for each.
 
 ghost use Rattle.std.specs.Prelude.{◌≡◌, ◌<◌, ◌≤◌, true, length, None, IsSome, IfOk, OnErr};
+ghost use Rattle.commit_journal.specs.Journal.{disks_of};
+ghost use Rattle.disk_model.specs.Pair.{FaultOnEither};
 ghost use Rattle.commands.specs.Sound.{IsSound};
 ghost use Rattle.config_core.specs.declared.event.Outcome.TheVariants.{Fault};
 ghost use Rattle.config_core.specs.Machine.{Fits, Missed, waiting_of};
-ghost use Rattle.config_db.specs.Disks.{FaultRose};
 ghost use Rattle.config_db.specs.Moves.{Happens, Settles};
 ghost use Rattle.config_db.specs.Answers.{CatchesUp, IsClear, MakesWay, Reverts, Takes, reverted_as};
 ghost use Rattle.session_history.specs.Events.{is_command};
@@ -41,9 +42,9 @@ impl<D: Disk, J: Naming> Database<D, J> {
         requires fits { Fits self.old.state caller moment event }
         requires free { self.old.state.flight ≡ None }
         ensures ok { IfOk result
-            (λ ended. Happens D.tells D.faults caller moment event ended.outcome ended.reply self.old self.new) }
+            (λ ended. Happens caller moment event ended.outcome ended.reply self.old self.new) }
         ensures cause { IfOk result
-            (λ ended. ended.outcome ≡ Fault → FaultRose D.faults self.old.journal self.new.journal) }
+            (λ ended. ended.outcome ≡ Fault → FaultOnEither (disks_of self.old.journal) (disks_of self.new.journal)) }
         ensures err { OnErr result (self.new ≡ self.old) }
     {
         histories_have_one_outcome();
@@ -79,7 +80,7 @@ impl<D: Disk, J: Naming> Database<D, J> {
     pub(crate) fn settle<R: Wait>(&mut self, rt: &R, caller: u32, moment: Moment) -> Outcome
         requires flying { IsSome self.old.state.flight }
         requires no_earlier { self.old.state.greatest ≤ moment }
-        ensures { Settles D.tells D.faults caller moment result self.old self.new }
+        ensures { Settles caller moment result self.old self.new }
     {
         histories_have_one_outcome();
         match find_out(&mut self.journal) {
@@ -105,7 +106,7 @@ impl<D: Disk, J: Naming> Database<D, J> {
     fn revert<R: Wait>(&mut self, rt: &R, caller: u32, moment: Moment) -> Ticked
         requires missed { waiting_of self.old.state moment ≡ Missed }
         requires no_earlier { self.old.state.greatest ≤ moment }
-        ensures { Reverts D.tells D.faults caller moment result self.old self.new }
+        ensures { Reverts caller moment result self.old self.new }
     {
         match self.carry_out(rt, caller, moment, Event::Revert) {
             Err(NoMemory) => Ticked::NoMemory,
@@ -117,7 +118,7 @@ impl<D: Disk, J: Naming> Database<D, J> {
     fn catch_up<R: Wait>(&mut self, rt: &R, caller: u32, moment: Moment) -> Ticked
         requires free { self.old.state.flight ≡ None }
         requires no_earlier { self.old.state.greatest ≤ moment }
-        ensures { CatchesUp D.tells D.faults caller moment result self.old self.new }
+        ensures { CatchesUp caller moment result self.old self.new }
     {
         match self.core.next(moment) {
             Need::Revert => self.revert(rt, caller, moment),
@@ -129,7 +130,7 @@ impl<D: Disk, J: Naming> Database<D, J> {
     fn settle_first<R: Wait>(&mut self, rt: &R, caller: u32, moment: Moment) -> Ticked
         requires flying { IsSome self.old.state.flight }
         requires no_earlier { self.old.state.greatest ≤ moment }
-        ensures { MakesWay D.tells D.faults caller moment result self.old self.new }
+        ensures { MakesWay caller moment result self.old self.new }
     {
         match self.settle(rt, caller, moment) {
             Outcome::Fault => Ticked::DiskFault,
@@ -140,7 +141,7 @@ impl<D: Disk, J: Naming> Database<D, J> {
     // Settles and reverts, where that is needed.
     fn clear<R: Wait>(&mut self, rt: &R, caller: u32, moment: Moment) -> Ticked
         requires { self.old.state.greatest ≤ moment }
-        ensures { MakesWay D.tells D.faults caller moment result self.old self.new }
+        ensures { MakesWay caller moment result self.old self.new }
     {
         match self.core.next(moment) {
             Need::Nothing => Ticked::Nothing,
@@ -152,7 +153,7 @@ impl<D: Disk, J: Naming> Database<D, J> {
     /// Does what comes before a command at a moment. What could not be published before is published first.
     pub(crate) fn make_way<R: Wait>(&mut self, rt: &R, caller: u32, moment: Moment) -> Ticked
         requires { self.old.state.greatest ≤ moment }
-        ensures { MakesWay D.tells D.faults caller moment result self.old self.new }
+        ensures { MakesWay caller moment result self.old self.new }
     {
         publish_late(rt, &mut self.shown);
         self.clear(rt, caller, moment)
@@ -170,8 +171,8 @@ impl<D: Disk, J: Naming> Database<D, J> {
         requires sound { IsSound command }
         requires clear { IsClear moment self.old }
         requires no_earlier { self.old.state.greatest ≤ moment }
-        ensures { Takes D.tells D.faults caller moment command result
-            (FaultRose D.faults self.old.journal self.new.journal) self.old self.new }
+        ensures { Takes caller moment command result
+            (FaultOnEither (disks_of self.old.journal) (disks_of self.new.journal)) self.old self.new }
     {
         let place = self.events.len() as u64;
         match self.carry_out(rt, caller, moment, Event::Command(command)) {
@@ -188,7 +189,7 @@ impl<D: Disk, J: Naming> Database<D, J> {
         requires asks { is_command event ≡ true }
         requires fits { Fits self.old.state caller moment event }
         requires flying { IsSome self.old.state.flight }
-        ensures ok { IfOk result (λ reply. Happens D.tells D.faults caller moment event Fault reply self.old self.new) }
+        ensures ok { IfOk result (λ reply. Happens caller moment event Fault reply self.old self.new) }
         ensures err { OnErr result (self.new ≡ self.old) }
     {
         histories_have_one_outcome();
@@ -215,7 +216,7 @@ impl<D: Disk, J: Naming> Database<D, J> {
         requires sound { IsSound command }
         requires flying { IsSome self.old.state.flight }
         requires no_earlier { self.old.state.greatest ≤ moment }
-        ensures { Takes D.tells D.faults caller moment command result (Unit {0}) self.old self.new }
+        ensures { Takes caller moment command result (Unit {0}) self.old self.new }
     {
         let place = self.events.len() as u64;
         match self.note_put_off(caller, moment, Event::Command(command)) {

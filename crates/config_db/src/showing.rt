@@ -171,7 +171,7 @@ pub(crate) fn write_shown<D: Disk, J: Naming, R: Wait>(
     requires follows { IfSome (made_in prepared.now.effect) (λ made. CanFollowLast shown.old.list made.entry) }
     requires nothing_waits { shown.old.proposal ≡ None }
     ensures written { IfOk result (λ outcome.
-        IsWritten D.tells D.history D.faults (made_in prepared.now.effect) outcome journal.old journal.new) }
+        IsWritten (made_in prepared.now.effect) outcome journal.old journal.new) }
     ensures shown { IfOk result (λ outcome. IsShown (made_in prepared.now.effect) outcome shown.old shown.new) }
     ensures err { OnErr result (journal.new ≡ journal.old) }
     ensures withdrawn { OnErr result (shown.new ≡ shown.old) }

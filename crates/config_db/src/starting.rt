@@ -1,7 +1,8 @@
 //! How two disks become a database.
 
 ghost use Rattle.std.specs.Prelude.{◌≡◌, [], length, max, replicate, IfOk, IfErr};
-ghost use Rattle.commit_journal.specs.Journal.{disk_a, disk_b};
+ghost use Rattle.disk_model.specs.Pair.{pair_of};
+ghost use Rattle.commit_journal.specs.Journal.{disk_a, disk_b, disks_of};
 ghost use Rattle.commit_check.specs.Accepts.{Accepts};
 ghost use Rattle.commit_ledger.specs.Kept.{factory};
 ghost use Rattle.active_snapshot.specs.States.{first_read, first_written};
@@ -132,7 +133,7 @@ impl<J: Naming> Over<J> {
 
 /// Gives the disks of a journal back behind which memory was wanting.
 fn without_memory<D: Disk>(journal: Journal<D>) -> StartFault<D>
-    ensures { result ≡ record { why = MemoryWanting; a = disk_a journal; b = disk_b journal } }
+    ensures { (result.why ≡ MemoryWanting) × (D.view result.a ≡ disk_a journal) × (D.view result.b ≡ disk_b journal) }
 {
     let (a, b) = journal.into_disks();
     StartFault {
@@ -145,7 +146,7 @@ fn without_memory<D: Disk>(journal: Journal<D>) -> StartFault<D>
 impl<D: Disk, J: Naming> Database<D, J> {
     // The machine over a journal that was just opened, and over the list that it holds.
     fn over(alloc: Global, journal: Journal<D>, users: Users, over: Over<J>) -> Database<D, J>
-        requires held { IsOpening D.tells D.history journal over.opening }
+        requires held { IsOpening journal over.opening }
         requires starts { over.core ≡ opening_of over.opening users }
         requires shown { over.shown ≡ first_written over.opening }
         ensures { result ≡ record {
@@ -188,11 +189,11 @@ impl<D: Disk, J: Naming> Database<D, J> {
         limits: Limits,
     ) -> Result<Database<D, J>, StartFault<D>>
         requires book { (front.book ≡ J.book) × (shelf ≡ J.book) × (front.list ≡ []) }
-        ensures begun { IfOk result (λ book. IsBegun D.tells D.faults a b users limits.journal book) }
+        ensures begun { IfOk result (λ book. IsBegun (pair_of D.view a b) users limits.journal book) }
         ensures found { IfOk result (λ book.
-            IsFound D.tells D.history a b (disk_a book.journal) (disk_b book.journal) book.opening) }
+            IsFound (pair_of D.view a b) (disks_of book.journal) book.opening) }
         ensures err { IfErr result (λ fault.
-            IsNotFound D.tells D.history D.faults a b fault.why fault.a fault.b) }
+            IsNotFound (pair_of D.view a b) fault.why (pair_of D.view fault.a fault.b)) }
     {
         match Stored::open(alloc, a, b, limits) {
             Err(fault) => Err(fault),
@@ -219,12 +220,12 @@ impl<D: Disk, J: Naming> Database<D, J> {
         limits: Limits,
     ) -> Result<Database<D, J>, StartFault<D>>
         requires book { (front.book ≡ J.book) × (shelf ≡ J.book) × (front.list ≡ []) }
-        ensures begun { IfOk result (λ book. IsBegun D.tells D.faults a b users limits.journal book) }
+        ensures begun { IfOk result (λ book. IsBegun (pair_of D.view a b) users limits.journal book) }
         ensures factory { IfOk result (λ book. book.opening ≡ factory) }
         ensures made { IfOk result (λ book.
-            IsMade D.tells D.history a b (disk_a book.journal) (disk_b book.journal)) }
+            IsMade (pair_of D.view a b) (disks_of book.journal)) }
         ensures err { IfErr result (λ fault.
-            IsNotMade D.tells D.history D.faults a b fault.why fault.a fault.b) }
+            IsNotMade (pair_of D.view a b) fault.why (pair_of D.view fault.a fault.b)) }
     {
         // All memory is taken before the first device write: the machine's here, the list's and its record's by `Stored::create`.
         match Over::factory(alloc, shelf, front, &users) {

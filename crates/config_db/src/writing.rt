@@ -70,7 +70,7 @@ fn body_of(alloc: Global, entry: &Entry) -> Result<Encoded, NoMemory>
 fn append<D: Disk>(journal: &mut Journal<D>, body: &Encoded) -> Outcome
     requires idle { IsIdle journal.old }
     requires one { length body.now ≡ 1 }
-    ensures { IsAppend D.tells D.history D.faults body.now result journal.old journal.new }
+    ensures { IsAppend body.now result journal.old journal.new }
 {
     match journal.append(body) {
         Ok(()) => Outcome::Done,
@@ -87,7 +87,7 @@ pub(crate) fn write<D: Disk>(
     requires idle { IsIdle journal.old }
     requires writable { IfSome (made_in prepared.now.effect) (λ made. IsWritable made.entry) }
     ensures ok { IfOk result (λ outcome.
-        IsWritten D.tells D.history D.faults (made_in prepared.now.effect) outcome journal.old journal.new) }
+        IsWritten (made_in prepared.now.effect) outcome journal.old journal.new) }
     ensures err { OnErr result (journal.new ≡ journal.old) }
 {
     match prepared.entry() {
@@ -102,7 +102,7 @@ pub(crate) fn write<D: Disk>(
 /// Whether the record in flight is kept; none where a disk failed.
 pub(crate) fn find_out<D: Disk>(journal: &mut Journal<D>) -> Option<bool>
     requires { IsInFlight journal.old.flight }
-    ensures { IsFound D.tells D.history D.faults result journal.old journal.new }
+    ensures { IsFound result journal.old journal.new }
 {
     match journal.settle() {
         Ok(Settled::Kept) => Some(true),

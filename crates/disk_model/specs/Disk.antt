@@ -22,6 +22,12 @@ pub record History : Type 0 where
   pub first : List ℕ
   pub calls : List Call
 
+-- what is told of a disk: whether it tells what it holds, what it did where it tells that, and how many of its calls failed
+pub record DiskView : Type 0 where
+  pub tells : Bool
+  pub history : History
+  pub faults : ℕ
+
 -- what a read gives, the places that a crash may change, and the length at the last sync
 pub record State : Type 0 where
   pub contents : List ℕ

@@ -7,3 +7,4 @@ pub mod MemInvariant
 pub mod Replay
 pub mod Marks
 pub mod Made
+pub mod Pair

@@ -1,5 +1,5 @@
 ghost use Rattle.std.specs.Prelude.{◌≡◌, ◌≤◌, ◌<◌, ◌+◌, ◌^◌, ℕ, Bool, length, IsTrue};
-ghost use Rattle.disk_model.specs.Disk.{History, contents_of, TookNoEffect, Wrote, Synced, Gives, HasCause, IfLen, IfRead};
+ghost use Rattle.disk_model.specs.Disk.{DiskView, contents_of, TookNoEffect, Wrote, Synced, Gives, HasCause, IfLen, IfRead};
 
 /// A length, if it could be told.
 #[derive(Clone, Copy, Debug, PartialEq, Eq)]
@@ -24,50 +24,44 @@ pub enum DiskDone {
 
 /// A file on a disk that a crash may cut off at any moment.
 pub trait Disk {
-    /// Whether this object tells what it holds.
-    ghost tells: { Self → Bool };
-
-    /// What it held at first and the calls of `write_at` and `sync` since, where it tells that.
-    ghost history: { Self → History };
-
-    /// How many of its calls have failed.
-    ghost faults: { Self → ℕ };
+    /// What is told of it.
+    ghost view: { Self → DiskView };
 
     /// The length.
     fn len(&mut self) -> DiskLen
-        ensures tells { tells self.new ≡ tells self.old }
-        ensures history { history self.new ≡ history self.old }
+        ensures tells { (view self.new).tells ≡ (view self.old).tells }
+        ensures history { (view self.new).history ≡ (view self.old).history }
         ensures bound { IfLen result (λ n. n ≤ 2 ^ 62) }
-        ensures length { IsTrue (tells self.old) →
-            IfLen result (λ n. n ≡ length (contents_of (history self.old))) }
-        ensures cause { HasCause (faults self.old) (faults self.new) (result ≡ DiskLen.Failed) };
+        ensures length { IsTrue (view self.old).tells →
+            IfLen result (λ n. n ≡ length (contents_of (view self.old).history)) }
+        ensures cause { HasCause (view self.old).faults (view self.new).faults (result ≡ DiskLen.Failed) };
 
     /// Reads the bytes that stand at a place, as many as there are up to the length of `into`.
     fn read_at(&mut self, at: u64, into: &mut [u8]) -> DiskRead
-        ensures tells { tells self.new ≡ tells self.old }
-        ensures history { history self.new ≡ history self.old }
+        ensures tells { (view self.new).tells ≡ (view self.old).tells }
+        ensures history { (view self.new).history ≡ (view self.old).history }
         ensures bound { IfRead result (λ n. n ≤ length into.old) }
-        ensures bytes { IsTrue (tells self.old) → IfRead result (λ n.
-            Gives (contents_of (history self.old)) at n into.old into.new) }
-        ensures cause { HasCause (faults self.old) (faults self.new) (result ≡ DiskRead.Failed) };
+        ensures bytes { IsTrue (view self.old).tells → IfRead result (λ n.
+            Gives (contents_of (view self.old).history) at n into.old into.new) }
+        ensures cause { HasCause (view self.old).faults (view self.new).faults (result ≡ DiskRead.Failed) };
 
     /// Writes bytes at a place, which is at most the length. A crash before the next sync may leave
     /// any bytes there and past the old end.
     fn write_at(&mut self, at: u64, piece: &[u8]) -> DiskDone
-        requires { IsTrue (tells self.old) → at ≤ length (contents_of (history self.old)) }
-        ensures tells { tells self.new ≡ tells self.old }
+        requires { IsTrue (view self.old).tells → at ≤ length (contents_of (view self.old).history) }
+        ensures tells { (view self.new).tells ≡ (view self.old).tells }
         ensures bound { result ≡ DiskDone.Done → at + length piece.now ≤ 2 ^ 62 }
         // Past the most bytes that a disk holds a write takes no effect.
-        ensures past { IsTrue (tells self.old) → 2 ^ 62 < at + length piece.now →
-            TookNoEffect (history self.old) at (length piece.now) (history self.new) }
-        ensures written { IsTrue (tells self.old) →
-            Wrote (history self.old) at piece.now (result ≡ DiskDone.Done) (history self.new) }
-        ensures cause { HasCause (faults self.old) (faults self.new) (result ≡ DiskDone.Failed) };
+        ensures past { IsTrue (view self.old).tells → 2 ^ 62 < at + length piece.now →
+            TookNoEffect (view self.old).history at (length piece.now) (view self.new).history }
+        ensures written { IsTrue (view self.old).tells →
+            Wrote (view self.old).history at piece.now (result ≡ DiskDone.Done) (view self.new).history }
+        ensures cause { HasCause (view self.old).faults (view self.new).faults (result ≡ DiskDone.Failed) };
 
     /// After it a crash leaves what a read gives.
     fn sync(&mut self) -> DiskDone
-        ensures tells { tells self.new ≡ tells self.old }
-        ensures synced { IsTrue (tells self.old) →
-            Synced (history self.old) (result ≡ DiskDone.Done) (history self.new) }
-        ensures cause { HasCause (faults self.old) (faults self.new) (result ≡ DiskDone.Failed) };
+        ensures tells { (view self.new).tells ≡ (view self.old).tells }
+        ensures synced { IsTrue (view self.old).tells →
+            Synced (view self.old).history (result ≡ DiskDone.Done) (view self.new).history }
+        ensures cause { HasCause (view self.old).faults (view self.new).faults (result ≡ DiskDone.Failed) };
 }

@@ -107,11 +107,7 @@ fn sync_of(file: &Option<File>) -> Option<()> {
 }
 
 impl Disk for FileDisk {
-    ghost tells = { λ _. false };
-
-    ghost history = { λ _. untold };
-
-    ghost faults = { λ d. d.faults };
+    ghost view = { λ d. record { tells = false; history = untold; faults = d.faults } };
 
     fn len(&mut self) -> DiskLen {
         match len_of(&self.file) {

@@ -266,11 +266,7 @@ impl MemDisk {
 }
 
 impl Disk for MemDisk {
-    ghost tells = { λ _. true };
-
-    ghost history = { λ d. d.history };
-
-    ghost faults = { λ d. d.faults };
+    ghost view = { λ d. record { tells = true; history = d.history; faults = d.faults } };
 
     fn len(&mut self) -> DiskLen
         ensures tells { true ≡ true }

@@ -3,6 +3,16 @@
 use Rattle.std.specs.Prelude.{◌≡◌, ◌<◌, length, ◌+◌, ℕ, List, [], ◌++◌}
 use Rattle.std.specs.Prelude.{Option, None, Some, option_map}
 
+-- what is told of a source: the bytes that are left, where they are told, and how many calls failed
+pub record SourceView : Type 0 where
+  pub left : Option (List ℕ)
+  pub faults : ℕ
+
+-- what is told of a sink: the bytes that it holds, where they are told, and how many calls failed
+pub record SinkView : Type 0 where
+  pub held : Option (List ℕ)
+  pub faults : ℕ
+
 -- these bytes, and then what is told
 abbrev pub onto : List ℕ → Option (List ℕ) → Option (List ℕ)
 onto bytes told = option_map (λ rest. bytes ++ rest) told

@@ -1,5 +1,5 @@
 ghost use Rattle.std.specs.Prelude.{◌≡◌, ◌<◌, ◌≤◌, ℕ, List, Bool, Option, length};
-ghost use Rattle.io_edge.specs.Ends.{onto, behind, IsUsedUp, TakesAnswer};
+ghost use Rattle.io_edge.specs.Ends.{SinkView, SourceView, onto, behind, IsUsedUp, TakesAnswer};
 ghost use Rattle.cfg_base.specs.Counts.{Rose};
 ghost use Rattle.io_edge.specs.Taken.{taken, TakesAtMost};
 ghost use Rattle.io_edge.specs.Written.{written, GivesAtMost};
@@ -26,39 +26,33 @@ pub enum Put {
 
 /// What bytes are read from.
 pub trait Source {
-    // the bytes that are left, where they are told
-    ghost left: { Self → Option (List ℕ) };
-
-    // how many calls failed
-    ghost faults: { Self → ℕ };
+    // what is told of it
+    ghost view: { Self → SourceView };
 
     /// Takes the next bytes, from one up to as many as fit.
     fn read(&mut self, into: &mut [u8]) -> Got
         requires { 0 < length into.old }
         ensures count { TakesAtMost result (length into.old) }
         // What was left is what was taken and what is left now; no call changes whether it is told.
-        ensures bytes { left self.old ≡ onto (taken result into.new) (left self.new) }
-        ensures end { result ≡ Got.End → IsUsedUp (left self.new) }
-        ensures later { faults self.old ≤ faults self.new }
-        ensures failed { result ≡ Got.Failed → Rose (faults self.old) (faults self.new) };
+        ensures bytes { (view self.old).left ≡ onto (taken result into.new) (view self.new).left }
+        ensures end { result ≡ Got.End → IsUsedUp (view self.new).left }
+        ensures later { (view self.old).faults ≤ (view self.new).faults }
+        ensures failed { result ≡ Got.Failed → Rose (view self.old).faults (view self.new).faults };
 }
 
 /// What bytes are written to.
 pub trait Sink {
-    // the bytes that it holds, where they are told
-    ghost held: { Self → Option (List ℕ) };
-
-    // how many calls failed
-    ghost faults: { Self → ℕ };
+    // what is told of it
+    ghost view: { Self → SinkView };
 
     /// Appends the first bytes of the piece, one at least.
     fn write(&mut self, piece: &[u8]) -> Put
         requires { 0 < length piece.now }
         ensures count { GivesAtMost result (length piece.now) }
         // What it holds now is what it held and what was written.
-        ensures bytes { held self.new ≡ behind (held self.old) (written result piece.now) }
-        ensures later { faults self.old ≤ faults self.new }
-        ensures failed { result ≡ Put.Failed → Rose (faults self.old) (faults self.new) };
+        ensures bytes { (view self.new).held ≡ behind (view self.old).held (written result piece.now) }
+        ensures later { (view self.old).faults ≤ (view self.new).faults }
+        ensures failed { result ≡ Put.Failed → Rose (view self.old).faults (view self.new).faults };
 }
 
 /// What tells the time.

@@ -86,7 +86,7 @@ impl<S: Source> Model for Lines<S> {
 
     ghost Value = { Feed };
 
-    ghost view = { λ l. feed_of l.chunk l.from l.to l.room (S.left l.source) (S.faults l.source) };
+    ghost view = { λ l. feed_of l.chunk l.from l.to l.room ((S.view l.source).left) ((S.view l.source).faults) };
 
     ghost invariant = { λ l. (l.from ≤ l.to) × (l.to ≤ 256) × (l.to - l.from ≤ max l.room 1) };
 }
@@ -95,10 +95,10 @@ impl<S: Source> Model for Lines<S> {
 fn read_front<S: Source>(source: &mut S, chunk: &mut [u8; 256], count: usize) -> Got
     requires { (0 < count) × (count ≤ 256) }
     ensures count { TakesAtMost result count }
-    ensures bytes { S.left source.old ≡ onto (taken result chunk.new) (S.left source.new) }
-    ensures end { result ≡ Got.End → IsUsedUp (S.left source.new) }
-    ensures later { S.faults source.old ≤ S.faults source.new }
-    ensures failed { result ≡ Got.Failed → Rose (S.faults source.old) (S.faults source.new) }
+    ensures bytes { (S.view source.old).left ≡ onto (taken result chunk.new) ((S.view source.new).left) }
+    ensures end { result ≡ Got.End → IsUsedUp ((S.view source.new).left) }
+    ensures later { (S.view source.old).faults ≤ (S.view source.new).faults }
+    ensures failed { result ≡ Got.Failed → Rose ((S.view source.old).faults) ((S.view source.new).faults) }
 {
     let (front, _) = chunk.split_at_mut(count);
     source.read(front)
@@ -193,10 +193,10 @@ fn taken_as(byte: u8) -> Taken
 impl<S: Source> Lines<S> {
     /// The lines of a source, of which at most `limits.input` bytes are taken.
     pub fn new(alloc: Global, source: S, limits: Limits) -> Lines<S>
-        ensures left { result.left ≡ S.left source }
+        ensures left { result.left ≡ (S.view source).left }
         ensures room { result.room ≡ limits.input }
         ensures ahead { result.ahead ≡ 0 }
-        ensures faults { result.faults ≡ S.faults source }
+        ensures faults { result.faults ≡ (S.view source).faults }
     {
         Lines {
             source,
@@ -210,8 +210,8 @@ impl<S: Source> Lines<S> {
 
     /// The source. What was read ahead is gone.
     pub fn into_source(self) -> S
-        ensures left { (held : List ℕ) × (length held ≡ self.ahead) × (self.left ≡ onto held (S.left result)) }
-        ensures faults { S.faults result ≡ self.faults }
+        ensures left { (held : List ℕ) × (length held ≡ self.ahead) × (self.left ≡ onto held ((S.view result).left)) }
+        ensures faults { (S.view result).faults ≡ self.faults }
     {
         self.source
     }

@@ -84,9 +84,7 @@ fn copy_front(from: &[u8], into: &mut [u8]) -> usize
 }
 
 impl Source for ListSource {
-    ghost left = { λ s. Some s.left };
-
-    ghost faults = { λ s. s.calls.faults };
+    ghost view = { λ s. record { left = Some s.left; faults = s.calls.faults } };
 
     fn read(&mut self, into: &mut [u8]) -> Got
         requires { 0 < length into.old }

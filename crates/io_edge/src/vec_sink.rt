@@ -55,9 +55,7 @@ impl VecSink {
 }
 
 impl Sink for VecSink {
-    ghost held = { λ s. Some s.held };
-
-    ghost faults = { λ s. s.calls.faults };
+    ghost view = { λ s. record { held = Some s.held; faults = s.calls.faults } };
 
     fn write(&mut self, piece: &[u8]) -> Put
         requires { 0 < length piece.now }

@@ -12,9 +12,9 @@ pub struct PutFailed;
 
 /// Writes all the bytes, piece by piece.
 pub fn put_all<K: Sink>(sink: &mut K, bytes: &[u8]) -> Result<(), PutFailed>
-    ensures wrote { Wrote result bytes.now (K.held sink.old) (K.held sink.new) }
-    ensures cause { OnErr result (Rose (K.faults sink.old) (K.faults sink.new)) }
-    ensures later { K.faults sink.old ≤ K.faults sink.new }
+    ensures wrote { Wrote result bytes.now ((K.view sink.old).held) ((K.view sink.new).held) }
+    ensures cause { OnErr result (Rose ((K.view sink.old).faults) ((K.view sink.new).faults)) }
+    ensures later { (K.view sink.old).faults ≤ (K.view sink.new).faults }
 {
     let mut at = 0;
     'pieces: while at < bytes.len() {

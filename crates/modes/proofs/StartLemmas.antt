@@ -1,23 +1,31 @@
 -- What comes of a list that was found.
-use Rattle.std.proofs.Common.{◌≡◌, inl, inr, ℕ, List, Bool, Option, refl, sym, subst}
-use Rattle.disk_model.specs.Disk.{History}
+use Rattle.std.proofs.Common.{◌≡◌, inl, inr, ℕ, List, refl, sym, subst, rules}
+use Rattle.disk_model.specs.Pair.{DiskPair}
+use Rattle.io_edge.specs.Ends.{SinkView}
 use Rattle.commit_ledger.specs.Kept.{Kept}
-use Rattle.modes.specs.declared.did.Did.{Did}
+use Rattle.modes.specs.declared.did.StartWhy0.{StartWhy0}
 use Rattle.modes.specs.declared.did.StartWhy0.TheVariants.{None as NoWhy}
 use Rattle.modes.specs.Modes.{IsCheck, IsTold}
 use Rattle.modes.specs.Texts.{check_text}
 use Rattle.stored_ledger.specs.Starting.{IsFound}
 
-module _ {K D : Type 0} (held : K → Option (List ℕ)) (sink_faults : K → ℕ) (tells : D → Bool) (history : D → History) (faults : D → ℕ) (old new : K) (a b : D) where
+module _ (Untouched : Type 0) (old new : SinkView) (before found after : DiskPair) (kept : Kept) (is_found : IsFound before found kept)
+    (back : after ≡ found) (why : StartWhy0) (no_why : why ≡ NoWhy) where
+  here : IsFound before after kept
+  here = subst (λ (d : DiskPair). IsFound before d kept) (sym back) is_found
+
   -- the list is told, or what there is room for
-  pub check_told : (did : Did D) (status : ℕ) (a' b' : D) (kept : Kept) (text : List ℕ) → did ≡ record { status = status; why = NoWhy; a = a'; b = b' }
-      → IsFound tells history a b a' b' kept → text ≡ check_text kept → IsTold held sink_faults text old new status → IsCheck held sink_faults tells history faults old new a b did
-  check_told did status a' b' kept text is found said told =
-      subst (λ (d : Did D). IsCheck held sink_faults tells history faults old new a b d) (sym is)
-      (inr (refl, kept, found, inl (subst (λ (t : List ℕ). IsTold held sink_faults t old new status) said told)))
+  pub check_told : (status given : ℕ) (text : List ℕ) → status ≡ given → text ≡ check_text kept → IsTold text old new given
+      → IsCheck Untouched old new before after status why
+  check_told status given text is said told =
+      inr (
+        no_why,
+        kept,
+        here,
+        inl (subst (λ n. IsTold (check_text kept) old new n) (sym is)
+            (subst (λ (t : List ℕ). IsTold t old new given) said told)),
+      )
 
   -- memory is wanting for the text
-  pub check_untold : (did : Did D) (a' b' : D) (kept : Kept) → did ≡ record { status = 9; why = NoWhy; a = a'; b = b' }
-      → IsFound tells history a b a' b' kept → new ≡ old → IsCheck held sink_faults tells history faults old new a b did
-  check_untold did a' b' kept is found same =
-      subst (λ (d : Did D). IsCheck held sink_faults tells history faults old new a b d) (sym is) (inr (refl, kept, found, inr (refl, same)))
+  pub check_untold : (status : ℕ) → status ≡ 9 → Untouched → IsCheck Untouched old new before after status why
+  check_untold status is same = inr (no_why, kept, here, inr (is, same))

@@ -17,6 +17,6 @@ mod text;
 pub use did::{Did, StartWhy0};
 pub use generated::configuration_text;
 pub use number::number_of;
-pub use starting::{check, init};
+pub use starting::{check, init, status_of_start};
 pub use telling::tell;
 pub use text::gen_text;

@@ -1,7 +1,8 @@
 //! The modes that begin with two disks.
 
 ghost use Rattle.std.specs.Prelude.{◌≡◌};
-ghost use Rattle.commit_journal.specs.Journal.{disk_a, disk_b};
+ghost use Rattle.disk_model.specs.Pair.{pair_of};
+ghost use Rattle.commit_journal.specs.Journal.{disks_of};
 ghost use Rattle.modes.specs.Modes.{IsCheck, IsInit, status_of};
 ghost use Rattle.modes.specs.declared.did.StartWhy0.TheVariants.{None as NoWhy, Why};
 
@@ -14,8 +15,9 @@ use io_edge::Sink;
 use std::alloc::Global;
 use stored_ledger::{StartFault, StartWhy, Stored};
 
-/// The status of a refused start.
-fn status_of(why: StartWhy) -> u8
+/// The status of a refused start: 2 no journal, 3 a damaged record, 4 a disk's fault, 8 a journal that is there, 9 want of memory,
+/// 10 a record that breaks a rule.
+pub fn status_of_start(why: StartWhy) -> u8
     ensures { result ≡ status_of why }
 {
     match why {
@@ -33,7 +35,7 @@ fn refused<D>(fault: StartFault<D>) -> Did<D>
     ensures { result ≡ record { status = status_of fault.why; why = Why fault.why; a = fault.a; b = fault.b } }
 {
     Did {
-        status: status_of(fault.why),
+        status: status_of_start(fault.why),
         why: StartWhy0::Why(fault.why),
         a: fault.a,
         b: fault.b,
@@ -42,7 +44,9 @@ fn refused<D>(fault: StartFault<D>) -> Did<D>
 
 /// A mode that ends with this status, over a list that was made or found.
 fn ended<D: Disk>(status: u8, stored: Stored<D>) -> Did<D>
-    ensures { result ≡ record { status = status; why = NoWhy; a = disk_a stored.journal; b = disk_b stored.journal } }
+    ensures status { result.status ≡ status }
+    ensures why { result.why ≡ NoWhy }
+    ensures disks { pair_of D.view result.a result.b ≡ disks_of stored.journal }
 {
     let Stored { journal, ledger: _ } = stored;
     let (a, b) = journal.into_disks();
@@ -56,7 +60,8 @@ fn ended<D: Disk>(status: u8, stored: Stored<D>) -> Did<D>
 
 /// Makes a list of the factory commit alone on two disks, and tells it.
 pub fn init<K: Sink, D: Disk>(alloc: Global, sink: &mut K, a: D, b: D, limits: Limits) -> Did<D>
-    ensures { IsInit K.held K.faults D.tells D.history D.faults sink.old sink.new a b result }
+    ensures { IsInit (sink.new ≡ sink.old) (K.view sink.old) (K.view sink.new) (pair_of D.view a b)
+        (pair_of D.view result.a result.b) result.status result.why }
 {
     match Stored::create(alloc, a, b, limits) {
         Ok(stored) => ended(tell(sink, b"journal created\n"), stored),
@@ -66,7 +71,8 @@ pub fn init<K: Sink, D: Disk>(alloc: Global, sink: &mut K, a: D, b: D, limits: L
 
 /// Tells what the list on two disks has, and leaves their contents as they were.
 pub fn check<K: Sink, D: Disk>(alloc: Global, sink: &mut K, a: D, b: D, limits: Limits) -> Did<D>
-    ensures { IsCheck K.held K.faults D.tells D.history D.faults sink.old sink.new a b result }
+    ensures { IsCheck (sink.new ≡ sink.old) (K.view sink.old) (K.view sink.new) (pair_of D.view a b)
+        (pair_of D.view result.a result.b) result.status result.why }
 {
     match Stored::open(alloc, a, b, limits) {
         Ok(stored) => match check_text(alloc, &stored.ledger) {

@@ -16,9 +16,9 @@ use edit_ops::EditFault;
 use io_edge::{PutFailed, Sink, put_all};
 
 fn put_edit_message<K: Sink>(sink: &mut K, fault: &EditFault) -> Result<(), PutFailed>
-    ensures wrote { Wrote result (message_of_edit fault.now) (K.held sink.old) (K.held sink.new) }
-    ensures cause { OnErr result (Rose (K.faults sink.old) (K.faults sink.new)) }
-    ensures later { K.faults sink.old ≤ K.faults sink.new }
+    ensures wrote { Wrote result (message_of_edit fault.now) (K.view sink.old).held (K.view sink.new).held }
+    ensures cause { OnErr result (Rose (K.view sink.old).faults (K.view sink.new).faults) }
+    ensures later { (K.view sink.old).faults ≤ (K.view sink.new).faults }
 {
     match fault {
         EditFault::Unknown(path) => put_told(sink, b"unknown statement: ", path),
@@ -36,17 +36,17 @@ fn put_edit_message<K: Sink>(sink: &mut K, fault: &EditFault) -> Result<(), PutF
 }
 
 fn put_at_byte<K: Sink>(sink: &mut K, place: u32, words: &[u8]) -> Result<(), PutFailed>
-    ensures wrote { Wrote result (codes "text at byte " ++ (decimal place ++ words.now)) (K.held sink.old) (K.held sink.new) }
-    ensures cause { OnErr result (Rose (K.faults sink.old) (K.faults sink.new)) }
-    ensures later { K.faults sink.old ≤ K.faults sink.new }
+    ensures wrote { Wrote result (codes "text at byte " ++ (decimal place ++ words.now)) (K.view sink.old).held (K.view sink.new).held }
+    ensures cause { OnErr result (Rose (K.view sink.old).faults (K.view sink.new).faults) }
+    ensures later { (K.view sink.old).faults ≤ (K.view sink.new).faults }
 {
     put_number_between(sink, b"text at byte ", place, words)
 }
 
 fn put_text_message<K: Sink>(sink: &mut K, fault: TextFault) -> Result<(), PutFailed>
-    ensures wrote { Wrote result (message_of_text fault) (K.held sink.old) (K.held sink.new) }
-    ensures cause { OnErr result (Rose (K.faults sink.old) (K.faults sink.new)) }
-    ensures later { K.faults sink.old ≤ K.faults sink.new }
+    ensures wrote { Wrote result (message_of_text fault) (K.view sink.old).held (K.view sink.new).held }
+    ensures cause { OnErr result (Rose (K.view sink.old).faults (K.view sink.new).faults) }
+    ensures later { (K.view sink.old).faults ≤ (K.view sink.new).faults }
 {
     match fault {
         TextFault::BadByte(place) => put_at_byte(sink, place, b": bad byte"),
@@ -62,9 +62,9 @@ fn put_text_message<K: Sink>(sink: &mut K, fault: TextFault) -> Result<(), PutFa
 }
 
 fn put_line_syntax<K: Sink>(sink: &mut K, line: u32, place: u32) -> Result<(), PutFailed>
-    ensures wrote { Wrote result (message_of (Line line place)) (K.held sink.old) (K.held sink.new) }
-    ensures cause { OnErr result (Rose (K.faults sink.old) (K.faults sink.new)) }
-    ensures later { K.faults sink.old ≤ K.faults sink.new }
+    ensures wrote { Wrote result (message_of (Line line place)) (K.view sink.old).held (K.view sink.new).held }
+    ensures cause { OnErr result (Rose (K.view sink.old).faults (K.view sink.new).faults) }
+    ensures later { (K.view sink.old).faults ≤ (K.view sink.new).faults }
 {
     match put_number_between(sink, b"line ", line, b": ") {
         Ok(()) => put_number_behind(sink, b"syntax error at byte ", place),
@@ -73,9 +73,9 @@ fn put_line_syntax<K: Sink>(sink: &mut K, line: u32, place: u32) -> Result<(), P
 }
 
 fn put_line_edit<K: Sink>(sink: &mut K, line: u32, fault: &EditFault) -> Result<(), PutFailed>
-    ensures wrote { Wrote result (message_of (LineEdit line fault.now)) (K.held sink.old) (K.held sink.new) }
-    ensures cause { OnErr result (Rose (K.faults sink.old) (K.faults sink.new)) }
-    ensures later { K.faults sink.old ≤ K.faults sink.new }
+    ensures wrote { Wrote result (message_of (LineEdit line fault.now)) (K.view sink.old).held (K.view sink.new).held }
+    ensures cause { OnErr result (Rose (K.view sink.old).faults (K.view sink.new).faults) }
+    ensures later { (K.view sink.old).faults ≤ (K.view sink.new).faults }
 {
     match put_number_between(sink, b"line ", line, b": ") {
         Ok(()) => put_edit_message(sink, fault),
@@ -84,9 +84,9 @@ fn put_line_edit<K: Sink>(sink: &mut K, line: u32, fault: &EditFault) -> Result<
 }
 
 fn put_no_rollback<K: Sink>(sink: &mut K, n: u32, kept: u32) -> Result<(), PutFailed>
-    ensures wrote { Wrote result (message_of (NoRollback n kept)) (K.held sink.old) (K.held sink.new) }
-    ensures cause { OnErr result (Rose (K.faults sink.old) (K.faults sink.new)) }
-    ensures later { K.faults sink.old ≤ K.faults sink.new }
+    ensures wrote { Wrote result (message_of (NoRollback n kept)) (K.view sink.old).held (K.view sink.new).held }
+    ensures cause { OnErr result (Rose (K.view sink.old).faults (K.view sink.new).faults) }
+    ensures later { (K.view sink.old).faults ≤ (K.view sink.new).faults }
 {
     match put_number_between(sink, b"no rollback ", n, b", ") {
         Ok(()) => put_number_before(sink, kept, b" kept"),
@@ -95,9 +95,9 @@ fn put_no_rollback<K: Sink>(sink: &mut K, n: u32, kept: u32) -> Result<(), PutFa
 }
 
 fn put_check<K: Sink>(sink: &mut K, number: u8, path: &Path) -> Result<(), PutFailed>
-    ensures wrote { Wrote result (message_of (Check number path.now)) (K.held sink.old) (K.held sink.new) }
-    ensures cause { OnErr result (Rose (K.faults sink.old) (K.faults sink.new)) }
-    ensures later { K.faults sink.old ≤ K.faults sink.new }
+    ensures wrote { Wrote result (message_of (Check number path.now)) (K.view sink.old).held (K.view sink.new).held }
+    ensures cause { OnErr result (Rose (K.view sink.old).faults (K.view sink.new).faults) }
+    ensures later { (K.view sink.old).faults ≤ (K.view sink.new).faults }
 {
     match put_number_between(sink, b"check C", u32::from(number), b" failed: ") {
         Ok(()) => put_path(sink, path),
@@ -106,9 +106,9 @@ fn put_check<K: Sink>(sink: &mut K, number: u8, path: &Path) -> Result<(), PutFa
 }
 
 fn put_locked<K: Sink>(sink: &mut K, user: &UserName) -> Result<(), PutFailed>
-    ensures wrote { Wrote result (message_of (Locked user.now)) (K.held sink.old) (K.held sink.new) }
-    ensures cause { OnErr result (Rose (K.faults sink.old) (K.faults sink.new)) }
-    ensures later { K.faults sink.old ≤ K.faults sink.new }
+    ensures wrote { Wrote result (message_of (Locked user.now)) (K.view sink.old).held (K.view sink.new).held }
+    ensures cause { OnErr result (Rose (K.view sink.old).faults (K.view sink.new).faults) }
+    ensures later { (K.view sink.old).faults ≤ (K.view sink.new).faults }
 {
     put_both(
         sink,
@@ -118,9 +118,9 @@ fn put_locked<K: Sink>(sink: &mut K, user: &UserName) -> Result<(), PutFailed>
 }
 
 fn put_message<K: Sink>(sink: &mut K, refusal: &Refusal) -> Result<(), PutFailed>
-    ensures wrote { Wrote result (message_of refusal.now) (K.held sink.old) (K.held sink.new) }
-    ensures cause { OnErr result (Rose (K.faults sink.old) (K.faults sink.new)) }
-    ensures later { K.faults sink.old ≤ K.faults sink.new }
+    ensures wrote { Wrote result (message_of refusal.now) (K.view sink.old).held (K.view sink.new).held }
+    ensures cause { OnErr result (Rose (K.view sink.old).faults (K.view sink.new).faults) }
+    ensures later { (K.view sink.old).faults ≤ (K.view sink.new).faults }
 {
     match refusal {
         Refusal::WrongMode => put_all(sink, b"not in this mode"),
@@ -150,9 +150,9 @@ fn put_message<K: Sink>(sink: &mut K, refusal: &Refusal) -> Result<(), PutFailed
 }
 
 fn put_message_line<K: Sink>(sink: &mut K, refusal: &Refusal) -> Result<(), PutFailed>
-    ensures wrote { Wrote result (message_of refusal.now ++ 10 ∷ []) (K.held sink.old) (K.held sink.new) }
-    ensures cause { OnErr result (Rose (K.faults sink.old) (K.faults sink.new)) }
-    ensures later { K.faults sink.old ≤ K.faults sink.new }
+    ensures wrote { Wrote result (message_of refusal.now ++ 10 ∷ []) (K.view sink.old).held (K.view sink.new).held }
+    ensures cause { OnErr result (Rose (K.view sink.old).faults (K.view sink.new).faults) }
+    ensures later { (K.view sink.old).faults ≤ (K.view sink.new).faults }
 {
     match put_message(sink, refusal) {
         Ok(()) => put_all(sink, b"\n"),
@@ -162,9 +162,9 @@ fn put_message_line<K: Sink>(sink: &mut K, refusal: &Refusal) -> Result<(), PutF
 
 /// Writes the line of a refusal.
 pub(crate) fn put_refusal<K: Sink>(sink: &mut K, refusal: &Refusal) -> Result<(), PutFailed>
-    ensures wrote { Wrote result (text_of_refusal refusal.now) (K.held sink.old) (K.held sink.new) }
-    ensures cause { OnErr result (Rose (K.faults sink.old) (K.faults sink.new)) }
-    ensures later { K.faults sink.old ≤ K.faults sink.new }
+    ensures wrote { Wrote result (text_of_refusal refusal.now) (K.view sink.old).held (K.view sink.new).held }
+    ensures cause { OnErr result (Rose (K.view sink.old).faults (K.view sink.new).faults) }
+    ensures later { (K.view sink.old).faults ≤ (K.view sink.new).faults }
 {
     match put_all(sink, b"error: ") {
         Ok(()) => put_message_line(sink, refusal),

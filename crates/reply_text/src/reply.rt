@@ -14,9 +14,9 @@ use config_core::Reply;
 use io_edge::{PutFailed, Sink, put_all};
 
 fn put_deadline<K: Sink>(sink: &mut K, minutes: u32) -> Result<(), PutFailed>
-    ensures wrote { Wrote result (deadline_text minutes) (K.held sink.old) (K.held sink.new) }
-    ensures cause { OnErr result (Rose (K.faults sink.old) (K.faults sink.new)) }
-    ensures later { K.faults sink.old ≤ K.faults sink.new }
+    ensures wrote { Wrote result (deadline_text minutes) (K.view sink.old).held (K.view sink.new).held }
+    ensures cause { OnErr result (Rose (K.view sink.old).faults (K.view sink.new).faults) }
+    ensures later { (K.view sink.old).faults ≤ (K.view sink.new).faults }
 {
     if minutes == 0 {
         return Ok(());
@@ -30,9 +30,9 @@ fn put_deadline<K: Sink>(sink: &mut K, minutes: u32) -> Result<(), PutFailed>
 }
 
 fn put_complete<K: Sink>(sink: &mut K, quit: bool) -> Result<(), PutFailed>
-    ensures wrote { Wrote result (complete_text quit) (K.held sink.old) (K.held sink.new) }
-    ensures cause { OnErr result (Rose (K.faults sink.old) (K.faults sink.new)) }
-    ensures later { K.faults sink.old ≤ K.faults sink.new }
+    ensures wrote { Wrote result (complete_text quit) (K.view sink.old).held (K.view sink.new).held }
+    ensures cause { OnErr result (Rose (K.view sink.old).faults (K.view sink.new).faults) }
+    ensures later { (K.view sink.old).faults ≤ (K.view sink.new).faults }
 {
     if quit {
         put_all(sink, b"commit complete\nExiting configuration mode\n")
@@ -42,9 +42,9 @@ fn put_complete<K: Sink>(sink: &mut K, quit: bool) -> Result<(), PutFailed>
 }
 
 fn put_committed<K: Sink>(sink: &mut K, minutes: u32, quit: bool) -> Result<(), PutFailed>
-    ensures wrote { Wrote result (text_of_reply (Committed minutes quit)) (K.held sink.old) (K.held sink.new) }
-    ensures cause { OnErr result (Rose (K.faults sink.old) (K.faults sink.new)) }
-    ensures later { K.faults sink.old ≤ K.faults sink.new }
+    ensures wrote { Wrote result (text_of_reply (Committed minutes quit)) (K.view sink.old).held (K.view sink.new).held }
+    ensures cause { OnErr result (Rose (K.view sink.old).faults (K.view sink.new).faults) }
+    ensures later { (K.view sink.old).faults ≤ (K.view sink.new).faults }
 {
     match put_deadline(sink, minutes) {
         Ok(()) => put_complete(sink, quit),
@@ -53,9 +53,9 @@ fn put_committed<K: Sink>(sink: &mut K, minutes: u32, quit: bool) -> Result<(), 
 }
 
 fn put_entry<K: Sink>(sink: &mut K, mode: Mode) -> Result<(), PutFailed>
-    ensures wrote { Wrote result (text_of_entry mode) (K.held sink.old) (K.held sink.new) }
-    ensures cause { OnErr result (Rose (K.faults sink.old) (K.faults sink.new)) }
-    ensures later { K.faults sink.old ≤ K.faults sink.new }
+    ensures wrote { Wrote result (text_of_entry mode) (K.view sink.old).held (K.view sink.new).held }
+    ensures cause { OnErr result (Rose (K.view sink.old).faults (K.view sink.new).faults) }
+    ensures later { (K.view sink.old).faults ≤ (K.view sink.new).faults }
 {
     match mode {
         Mode::Shared => put_all(sink, b"Entering configuration mode\n"),
@@ -68,9 +68,9 @@ fn put_entry<K: Sink>(sink: &mut K, mode: Mode) -> Result<(), PutFailed>
 
 /// Writes the text of a reply.
 pub fn put_reply<K: Sink>(sink: &mut K, reply: &Reply) -> Result<(), PutFailed>
-    ensures wrote { Wrote result (text_of_reply reply.now) (K.held sink.old) (K.held sink.new) }
-    ensures cause { OnErr result (Rose (K.faults sink.old) (K.faults sink.new)) }
-    ensures later { K.faults sink.old ≤ K.faults sink.new }
+    ensures wrote { Wrote result (text_of_reply reply.now) (K.view sink.old).held (K.view sink.new).held }
+    ensures cause { OnErr result (Rose (K.view sink.old).faults (K.view sink.new).faults) }
+    ensures later { (K.view sink.old).faults ≤ (K.view sink.new).faults }
 {
     match reply {
         Reply::Done | Reply::LoggedOut => Ok(()),
@@ -86,9 +86,9 @@ pub fn put_reply<K: Sink>(sink: &mut K, reply: &Reply) -> Result<(), PutFailed>
 
 /// Writes the text for a line that was refused.
 pub fn put_fault<K: Sink>(sink: &mut K, fault: ShellFault) -> Result<(), PutFailed>
-    ensures wrote { Wrote result (text_of_fault fault) (K.held sink.old) (K.held sink.new) }
-    ensures cause { OnErr result (Rose (K.faults sink.old) (K.faults sink.new)) }
-    ensures later { K.faults sink.old ≤ K.faults sink.new }
+    ensures wrote { Wrote result (text_of_fault fault) (K.view sink.old).held (K.view sink.new).held }
+    ensures cause { OnErr result (Rose (K.view sink.old).faults (K.view sink.new).faults) }
+    ensures later { (K.view sink.old).faults ≤ (K.view sink.new).faults }
 {
     match fault {
         ShellFault::Syntax(place) => {
@@ -101,9 +101,9 @@ pub fn put_fault<K: Sink>(sink: &mut K, fault: ShellFault) -> Result<(), PutFail
 
 /// Writes the text for want of memory.
 pub fn put_no_memory<K: Sink>(sink: &mut K) -> Result<(), PutFailed>
-    ensures wrote { Wrote result (no_memory_text) (K.held sink.old) (K.held sink.new) }
-    ensures cause { OnErr result (Rose (K.faults sink.old) (K.faults sink.new)) }
-    ensures later { K.faults sink.old ≤ K.faults sink.new }
+    ensures wrote { Wrote result (no_memory_text) (K.view sink.old).held (K.view sink.new).held }
+    ensures cause { OnErr result (Rose (K.view sink.old).faults (K.view sink.new).faults) }
+    ensures later { (K.view sink.old).faults ≤ (K.view sink.new).faults }
 {
     put_all(sink, b"error: out of memory\n")
 }

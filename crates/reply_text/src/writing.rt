@@ -14,9 +14,9 @@ use itoa::Buffer;
 
 /// Writes one text and then another.
 pub(crate) fn put_both<K: Sink>(sink: &mut K, first: &[u8], second: &[u8]) -> Result<(), PutFailed>
-    ensures wrote { Wrote result (first.now ++ second.now) (K.held sink.old) (K.held sink.new) }
-    ensures cause { OnErr result (Rose (K.faults sink.old) (K.faults sink.new)) }
-    ensures later { K.faults sink.old ≤ K.faults sink.new }
+    ensures wrote { Wrote result (first.now ++ second.now) (K.view sink.old).held (K.view sink.new).held }
+    ensures cause { OnErr result (Rose (K.view sink.old).faults (K.view sink.new).faults) }
+    ensures later { (K.view sink.old).faults ≤ (K.view sink.new).faults }
 {
     match put_all(sink, first) {
         Ok(()) => put_all(sink, second),
@@ -25,9 +25,9 @@ pub(crate) fn put_both<K: Sink>(sink: &mut K, first: &[u8], second: &[u8]) -> Re
 }
 
 fn put_escaped_byte<K: Sink>(sink: &mut K, byte: u8) -> Result<(), PutFailed>
-    ensures wrote { Wrote result (escaped byte) (K.held sink.old) (K.held sink.new) }
-    ensures cause { OnErr result (Rose (K.faults sink.old) (K.faults sink.new)) }
-    ensures later { K.faults sink.old ≤ K.faults sink.new }
+    ensures wrote { Wrote result (escaped byte) (K.view sink.old).held (K.view sink.new).held }
+    ensures cause { OnErr result (Rose (K.view sink.old).faults (K.view sink.new).faults) }
+    ensures later { (K.view sink.old).faults ≤ (K.view sink.new).faults }
 {
     if byte == b'"' || byte == b'\\' {
         put_all(sink, &[b'\\', byte])
@@ -37,9 +37,9 @@ fn put_escaped_byte<K: Sink>(sink: &mut K, byte: u8) -> Result<(), PutFailed>
 }
 
 fn put_escaped<K: Sink>(sink: &mut K, bytes: &[u8]) -> Result<(), PutFailed>
-    ensures wrote { Wrote result (flat_map escaped bytes.now) (K.held sink.old) (K.held sink.new) }
-    ensures cause { OnErr result (Rose (K.faults sink.old) (K.faults sink.new)) }
-    ensures later { K.faults sink.old ≤ K.faults sink.new }
+    ensures wrote { Wrote result (flat_map escaped bytes.now) (K.view sink.old).held (K.view sink.new).held }
+    ensures cause { OnErr result (Rose (K.view sink.old).faults (K.view sink.new).faults) }
+    ensures later { (K.view sink.old).faults ≤ (K.view sink.new).faults }
 {
     match bytes {
         [] => Ok(()),
@@ -51,9 +51,9 @@ fn put_escaped<K: Sink>(sink: &mut K, bytes: &[u8]) -> Result<(), PutFailed>
 }
 
 fn put_end_quoted<K: Sink>(sink: &mut K, bytes: &[u8]) -> Result<(), PutFailed>
-    ensures wrote { Wrote result (flat_map escaped bytes.now ++ 34 ∷ []) (K.held sink.old) (K.held sink.new) }
-    ensures cause { OnErr result (Rose (K.faults sink.old) (K.faults sink.new)) }
-    ensures later { K.faults sink.old ≤ K.faults sink.new }
+    ensures wrote { Wrote result (flat_map escaped bytes.now ++ 34 ∷ []) (K.view sink.old).held (K.view sink.new).held }
+    ensures cause { OnErr result (Rose (K.view sink.old).faults (K.view sink.new).faults) }
+    ensures later { (K.view sink.old).faults ≤ (K.view sink.new).faults }
 {
     match put_escaped(sink, bytes) {
         Ok(()) => put_all(sink, b"\""),
@@ -62,9 +62,9 @@ fn put_end_quoted<K: Sink>(sink: &mut K, bytes: &[u8]) -> Result<(), PutFailed>
 }
 
 fn put_quoted<K: Sink>(sink: &mut K, bytes: &[u8]) -> Result<(), PutFailed>
-    ensures wrote { Wrote result (34 ∷ (flat_map escaped bytes.now ++ 34 ∷ [])) (K.held sink.old) (K.held sink.new) }
-    ensures cause { OnErr result (Rose (K.faults sink.old) (K.faults sink.new)) }
-    ensures later { K.faults sink.old ≤ K.faults sink.new }
+    ensures wrote { Wrote result (34 ∷ (flat_map escaped bytes.now ++ 34 ∷ [])) (K.view sink.old).held (K.view sink.new).held }
+    ensures cause { OnErr result (Rose (K.view sink.old).faults (K.view sink.new).faults) }
+    ensures later { (K.view sink.old).faults ≤ (K.view sink.new).faults }
 {
     match put_all(sink, b"\"") {
         Ok(()) => put_end_quoted(sink, bytes),
@@ -73,9 +73,9 @@ fn put_quoted<K: Sink>(sink: &mut K, bytes: &[u8]) -> Result<(), PutFailed>
 }
 
 fn put_word<K: Sink>(sink: &mut K, word: &Word) -> Result<(), PutFailed>
-    ensures wrote { Wrote result (printed_word word.now) (K.held sink.old) (K.held sink.new) }
-    ensures cause { OnErr result (Rose (K.faults sink.old) (K.faults sink.new)) }
-    ensures later { K.faults sink.old ≤ K.faults sink.new }
+    ensures wrote { Wrote result (printed_word word.now) (K.view sink.old).held (K.view sink.new).held }
+    ensures cause { OnErr result (Rose (K.view sink.old).faults (K.view sink.new).faults) }
+    ensures later { (K.view sink.old).faults ≤ (K.view sink.new).faults }
 {
     let bytes = word.as_bytes();
     if is_plain(bytes) {
@@ -86,9 +86,9 @@ fn put_word<K: Sink>(sink: &mut K, word: &Word) -> Result<(), PutFailed>
 }
 
 fn put_spaced_word<K: Sink>(sink: &mut K, word: &Word) -> Result<(), PutFailed>
-    ensures wrote { Wrote result (32 ∷ printed_word word.now) (K.held sink.old) (K.held sink.new) }
-    ensures cause { OnErr result (Rose (K.faults sink.old) (K.faults sink.new)) }
-    ensures later { K.faults sink.old ≤ K.faults sink.new }
+    ensures wrote { Wrote result (32 ∷ printed_word word.now) (K.view sink.old).held (K.view sink.new).held }
+    ensures cause { OnErr result (Rose (K.view sink.old).faults (K.view sink.new).faults) }
+    ensures later { (K.view sink.old).faults ≤ (K.view sink.new).faults }
 {
     match put_all(sink, b" ") {
         Ok(()) => put_word(sink, word),
@@ -97,9 +97,9 @@ fn put_spaced_word<K: Sink>(sink: &mut K, word: &Word) -> Result<(), PutFailed>
 }
 
 fn put_two_words<K: Sink>(sink: &mut K, head: &Word, name: &Word) -> Result<(), PutFailed>
-    ensures wrote { Wrote result (printed_word head.now ++ 32 ∷ printed_word name.now) (K.held sink.old) (K.held sink.new) }
-    ensures cause { OnErr result (Rose (K.faults sink.old) (K.faults sink.new)) }
-    ensures later { K.faults sink.old ≤ K.faults sink.new }
+    ensures wrote { Wrote result (printed_word head.now ++ 32 ∷ printed_word name.now) (K.view sink.old).held (K.view sink.new).held }
+    ensures cause { OnErr result (Rose (K.view sink.old).faults (K.view sink.new).faults) }
+    ensures later { (K.view sink.old).faults ≤ (K.view sink.new).faults }
 {
     match put_word(sink, head) {
         Ok(()) => put_spaced_word(sink, name),
@@ -108,9 +108,9 @@ fn put_two_words<K: Sink>(sink: &mut K, head: &Word, name: &Word) -> Result<(), 
 }
 
 fn put_step<K: Sink>(sink: &mut K, step: &Step) -> Result<(), PutFailed>
-    ensures wrote { Wrote result (printed_step step.now) (K.held sink.old) (K.held sink.new) }
-    ensures cause { OnErr result (Rose (K.faults sink.old) (K.faults sink.new)) }
-    ensures later { K.faults sink.old ≤ K.faults sink.new }
+    ensures wrote { Wrote result (printed_step step.now) (K.view sink.old).held (K.view sink.new).held }
+    ensures cause { OnErr result (Rose (K.view sink.old).faults (K.view sink.new).faults) }
+    ensures later { (K.view sink.old).faults ≤ (K.view sink.new).faults }
 {
     if step.name.as_bytes().is_empty() {
         return put_word(sink, &step.head);
@@ -122,9 +122,9 @@ fn put_step<K: Sink>(sink: &mut K, step: &Step) -> Result<(), PutFailed>
 }
 
 fn put_spaced_step<K: Sink>(sink: &mut K, step: &Step) -> Result<(), PutFailed>
-    ensures wrote { Wrote result (32 ∷ [] ++ printed_step step.now) (K.held sink.old) (K.held sink.new) }
-    ensures cause { OnErr result (Rose (K.faults sink.old) (K.faults sink.new)) }
-    ensures later { K.faults sink.old ≤ K.faults sink.new }
+    ensures wrote { Wrote result (32 ∷ [] ++ printed_step step.now) (K.view sink.old).held (K.view sink.new).held }
+    ensures cause { OnErr result (Rose (K.view sink.old).faults (K.view sink.new).faults) }
+    ensures later { (K.view sink.old).faults ≤ (K.view sink.new).faults }
 {
     match put_all(sink, b" ") {
         Ok(()) => put_step(sink, step),
@@ -133,9 +133,9 @@ fn put_spaced_step<K: Sink>(sink: &mut K, step: &Step) -> Result<(), PutFailed>
 }
 
 fn put_spaced_steps<K: Sink>(sink: &mut K, steps: &[Step]) -> Result<(), PutFailed>
-    ensures wrote { Wrote result (flat_map (λ step. 32 ∷ [] ++ printed_step step) steps.now) (K.held sink.old) (K.held sink.new) }
-    ensures cause { OnErr result (Rose (K.faults sink.old) (K.faults sink.new)) }
-    ensures later { K.faults sink.old ≤ K.faults sink.new }
+    ensures wrote { Wrote result (flat_map (λ step. 32 ∷ [] ++ printed_step step) steps.now) (K.view sink.old).held (K.view sink.new).held }
+    ensures cause { OnErr result (Rose (K.view sink.old).faults (K.view sink.new).faults) }
+    ensures later { (K.view sink.old).faults ≤ (K.view sink.new).faults }
 {
     match steps {
         [] => Ok(()),
@@ -147,9 +147,9 @@ fn put_spaced_steps<K: Sink>(sink: &mut K, steps: &[Step]) -> Result<(), PutFail
 }
 
 pub(crate) fn put_path<K: Sink>(sink: &mut K, path: &Path) -> Result<(), PutFailed>
-    ensures wrote { Wrote result (printed_path path.now) (K.held sink.old) (K.held sink.new) }
-    ensures cause { OnErr result (Rose (K.faults sink.old) (K.faults sink.new)) }
-    ensures later { K.faults sink.old ≤ K.faults sink.new }
+    ensures wrote { Wrote result (printed_path path.now) (K.view sink.old).held (K.view sink.new).held }
+    ensures cause { OnErr result (Rose (K.view sink.old).faults (K.view sink.new).faults) }
+    ensures later { (K.view sink.old).faults ≤ (K.view sink.new).faults }
 {
     match path.steps() {
         [] => put_all(sink, b"top"),
@@ -162,9 +162,9 @@ pub(crate) fn put_path<K: Sink>(sink: &mut K, path: &Path) -> Result<(), PutFail
 
 /// Writes a text and the path behind it.
 pub(crate) fn put_told<K: Sink>(sink: &mut K, front: &[u8], path: &Path) -> Result<(), PutFailed>
-    ensures wrote { Wrote result (front.now ++ printed_path path.now) (K.held sink.old) (K.held sink.new) }
-    ensures cause { OnErr result (Rose (K.faults sink.old) (K.faults sink.new)) }
-    ensures later { K.faults sink.old ≤ K.faults sink.new }
+    ensures wrote { Wrote result (front.now ++ printed_path path.now) (K.view sink.old).held (K.view sink.new).held }
+    ensures cause { OnErr result (Rose (K.view sink.old).faults (K.view sink.new).faults) }
+    ensures later { (K.view sink.old).faults ≤ (K.view sink.new).faults }
 {
     match put_all(sink, front) {
         Ok(()) => put_path(sink, path),
@@ -178,9 +178,9 @@ pub(crate) fn put_number_before<K: Sink>(
     number: u32,
     back: &[u8],
 ) -> Result<(), PutFailed>
-    ensures wrote { Wrote result (decimal number ++ back.now) (K.held sink.old) (K.held sink.new) }
-    ensures cause { OnErr result (Rose (K.faults sink.old) (K.faults sink.new)) }
-    ensures later { K.faults sink.old ≤ K.faults sink.new }
+    ensures wrote { Wrote result (decimal number ++ back.now) (K.view sink.old).held (K.view sink.new).held }
+    ensures cause { OnErr result (Rose (K.view sink.old).faults (K.view sink.new).faults) }
+    ensures later { (K.view sink.old).faults ≤ (K.view sink.new).faults }
 {
     let mut digits = Buffer::new();
     put_both(sink, digits.format(number).as_bytes(), back)
@@ -192,9 +192,9 @@ pub(crate) fn put_number_behind<K: Sink>(
     front: &[u8],
     number: u32,
 ) -> Result<(), PutFailed>
-    ensures wrote { Wrote result (front.now ++ decimal number) (K.held sink.old) (K.held sink.new) }
-    ensures cause { OnErr result (Rose (K.faults sink.old) (K.faults sink.new)) }
-    ensures later { K.faults sink.old ≤ K.faults sink.new }
+    ensures wrote { Wrote result (front.now ++ decimal number) (K.view sink.old).held (K.view sink.new).held }
+    ensures cause { OnErr result (Rose (K.view sink.old).faults (K.view sink.new).faults) }
+    ensures later { (K.view sink.old).faults ≤ (K.view sink.new).faults }
 {
     let mut digits = Buffer::new();
     put_both(sink, front, digits.format(number).as_bytes())
@@ -207,9 +207,9 @@ pub(crate) fn put_number_between<K: Sink>(
     number: u32,
     back: &[u8],
 ) -> Result<(), PutFailed>
-    ensures wrote { Wrote result (front.now ++ (decimal number ++ back.now)) (K.held sink.old) (K.held sink.new) }
-    ensures cause { OnErr result (Rose (K.faults sink.old) (K.faults sink.new)) }
-    ensures later { K.faults sink.old ≤ K.faults sink.new }
+    ensures wrote { Wrote result (front.now ++ (decimal number ++ back.now)) (K.view sink.old).held (K.view sink.new).held }
+    ensures cause { OnErr result (Rose (K.view sink.old).faults (K.view sink.new).faults) }
+    ensures later { (K.view sink.old).faults ≤ (K.view sink.new).faults }
 {
     match put_all(sink, front) {
         Ok(()) => put_number_before(sink, number, back),

@@ -14,9 +14,9 @@ use Rattle.config_core.specs.Machine.{Free, InFlight, Missed, Steps, StepsFrom, 
 use Rattle.config_db.specs.declared.answer.Answered.{Answered}
 use Rattle.config_db.specs.declared.answer.Answered.TheVariants.{Kept as DoneAt}
 use Rattle.session_history.specs.declared.history.Happened.{Happened}
-use Rattle.session_history.specs.Events.{IsAt, IsLegal, Leads, is_command}
+use Rattle.session_history.specs.Events.{IsAt, IsLegal, Leads, is_command, IsEventOf, NoCommand}
 use Rattle.session_history.proofs.EventLemmas.{Leads-append, at_seam}
-use Rattle.session_threads.specs.History.{FollowsTurn, IsMade, NoCommand}
+use Rattle.session_threads.specs.History.{FollowsTurn}
 use Rattle.session_threads.proofs.ListLemmas.{all_back, some_is}
 use Rattle.service.specs.Alone.{is_settling}
 use Rattle.service.specs.Taking.{done_event}
@@ -40,7 +40,7 @@ Leads-split s (event ∷ events) more last leads =
     let rest = Leads-split leads.1.state events more last leads.3 in (rest.0, (leads.0, leads.1, leads.2, rest.1), rest.2)
 
 -- a plain event of a caller is what it is by its kind
-done_is : (caller moment : ℕ) (event : Event) (happened : Happened) → IsMade caller moment happened → IsPlain happened → happened.event ≡ event → happened ≡ done_event caller moment event
+done_is : (caller moment : ℕ) (event : Event) (happened : Happened) → IsEventOf caller moment happened → IsPlain happened → happened.event ≡ event → happened ≡ done_event caller moment event
 done_is caller moment event happened made plain is =
     ap (λ x. record { caller = x; moment = happened.moment; event = happened.event; outcome = happened.outcome; calls = happened.calls }) made.0
     ∙ ap (λ x. record { caller = caller; moment = x; event = happened.event; outcome = happened.outcome; calls = happened.calls }) made.1
@@ -62,7 +62,7 @@ not_both Free s s' caller command one other steps steps' = steps'
 
 -- plain events of a caller at a moment
 abbrev pub AreOwn : ℕ → ℕ → List Happened → Type 0
-AreOwn caller moment own = AllByRecursion (IsMade caller moment) own × AllByRecursion IsPlain own
+AreOwn caller moment own = AllByRecursion (IsEventOf caller moment) own × AllByRecursion IsPlain own
 
 module _ (opening : State) (leads_once : (events : List Happened) (one other : State) → Leads opening events one → Leads opening events other → one ≡ other) where
   -- the first events of two turns from one state, up to the same command
@@ -123,8 +123,8 @@ module _ (opening : State) (caller : ℕ) (leads_once : (events : List Happened)
       split : (mid : State) × Leads opening events mid × Leads mid f.grows.own follows.legal.0
       split = Leads-split opening events f.grows.own follows.legal.0 (subst (λ l. Leads opening l follows.legal.0) grown follows.legal.1)
 
-      made : AllByRecursion (IsMade caller (max answer f.grows.before.greatest)) (f.turn.front ++ f.turn.last ∷ [])
-      made = subst (AllByRecursion (IsMade caller (max answer f.grows.before.greatest))) f.turn.is_own f.grows.made
+      made : AllByRecursion (IsEventOf caller (max answer f.grows.before.greatest)) (f.turn.front ++ f.turn.last ∷ [])
+      made = subst (AllByRecursion (IsEventOf caller (max answer f.grows.before.greatest))) f.turn.is_own f.grows.made
 
       plain : AllByRecursion IsPlain (f.turn.front ++ f.turn.last ∷ [])
       plain = subst (AllByRecursion IsPlain) f.turn.is_own follows.plain

@@ -10,9 +10,9 @@ use Rattle.session_history.specs.Kept.{WasKept}
 use Rattle.session_shell.specs.declared.door.Given0.TheVariants.{Kept as KeptAt, Seen, NoMemory}
 use Rattle.session_shell.specs.declared.turn.Turn.{Turn}
 use Rattle.session_shell.specs.Exchange.{Exchange, Asked, Refused, turn_of}
-use Rattle.session_shell.specs.Transcript.{GoesBy}
-use Rattle.session_threads.specs.History.{Follows, HasSession, Known, known_first}
-use Rattle.session_threads.specs.Results.{IsResult, IsUnbegun, SessionResult}
+use Rattle.session_shell.specs.Transcript.{EndView, GoesBy}
+use Rattle.session_threads.specs.History.{Follows, Known, known_first}
+use Rattle.session_threads.specs.Results.{IsResult, SessionResult}
 use Rattle.service.specs.Serving.{FrontsGo}
 
 module _ (opening : State) (caller : ℕ) (final : List Happened) where
@@ -43,18 +43,20 @@ module _ (opening : State) (caller : ℕ) (final : List Happened) where
     fronts_go (Refused moment fault ∷ exchanges) least d e reached goes = fronts_go exchanges least d e reached goes
 
 -- what holds of each result's turns
-pub each_turns : {S K C : Type 0} (P : List Turn → Type 0) (results : List (SessionResult S K C)) → ((k : ℕ) (result : SessionResult S K C) → slice_get results k ≡ Some result → P result.turns) → AllByRecursion P (map (λ result. result.turns) results)
+pub each_turns : {E : Type 0} (P : List Turn → Type 0) (results : List (SessionResult E))
+    → ((k : ℕ) (result : SessionResult E) → slice_get results k ≡ Some result → P result.turns)
+    → AllByRecursion P (map (λ result. result.turns) results)
 each_turns P [] each = tt
 each_turns P (result ∷ results) each = (each 0 result refl, each_turns P results (λ k. each (suc k)))
 
-module _ {S K C : Type 0} (left : S → Option (List ℕ)) (source_faults : S → ℕ) (held : K → Option (List ℕ)) (sink_faults : K → ℕ)
-    (coming : C → Option (ℕ → ℕ)) (limit : ℕ) (opening : State) (events : List Happened) (most : ℕ)
-    (bound : (kept : Kept) → WasKept opening events kept → kept.count ≤ most) where
-  -- of one session of a run
-  pub result_fronts : (caller : ℕ) (result : SessionResult S K C) → IsResult left source_faults held sink_faults coming opening limit events caller result → FrontsGo opening.kept.count most result.turns
-  result_fronts caller result is = by_session is.session
-    where
-      by_session : HasSession left held sink_faults coming opening caller limit events result.how result.turns result.old result.new ⊎ IsUnbegun events caller result → FrontsGo opening.kept.count most result.turns
-      by_session (inl h) = subst (FrontsGo opening.kept.count most) (sym h.session.turns.turned)
-          (fronts_go opening caller events most bound (h.session.asked ++ h.session.final) opening.kept.count (known_first opening h.before) h.after (omega arith) h.session.turns.asked)
-      by_session (inr u) = subst (FrontsGo opening.kept.count most) (sym u.no_turns) tt
+-- of one session of a run
+pub result_fronts : {E : Type 0} (view : E → EndView) (limit : ℕ) (opening : State) (events : List Happened) (most : ℕ)
+    → ((kept : Kept) → WasKept opening events kept → kept.count ≤ most) → (caller : ℕ) (result : SessionResult E)
+    → IsResult view opening limit events caller result → FrontsGo opening.kept.count most result.turns
+result_fronts view limit opening events most bound caller result (inl h) =
+    let t = h.session.transcript in
+    subst (FrontsGo opening.kept.count most) (sym t.turns.turned)
+    (fronts_go opening caller events most bound (t.asked ++ t.final) opening.kept.count (known_first opening h.before) h.after
+    (omega arith) t.turns.asked)
+result_fronts view limit opening events most bound caller result (inr u) =
+    subst (FrontsGo opening.kept.count most) (sym u.no_turns) tt

@@ -9,7 +9,7 @@ use Rattle.config_core.specs.State.{State}
 use Rattle.config_db.specs.declared.answer.Answered.{Answered}
 use Rattle.config_db.specs.declared.answer.Answered.TheVariants.{Kept as DoneAt, NoMemory as Wanting}
 use Rattle.session_history.specs.declared.history.Happened.{Happened}
-use Rattle.session_history.specs.Events.{IsAsked, IsAt, IsLegal, Leads, is_asked_by, is_command, places_from}
+use Rattle.session_history.specs.Events.{IsAsked, IsAt, IsLegal, Leads, is_asked_by, is_command, places_from, IsEventOf}
 use Rattle.session_history.specs.Kept.{WasKept}
 use Rattle.session_shell.specs.declared.door.Given0.{Given0}
 use Rattle.session_shell.specs.declared.door.Given0.TheVariants.{Kept as KeptAt, Seen, NoMemory}
@@ -18,7 +18,7 @@ use Rattle.session_shell.specs.Exchange.{Exchange, Asked, Refused}
 use Rattle.session_shell.specs.Law.{Agree, SeeAlike, Undisturbed, front_at}
 use Rattle.session_shell.specs.Transcript.{Following, GoesBy, SessionView, TakesAnswers, Turns}
 use Rattle.session_shell.proofs.LawLemmas.{Once, all_same, outcome_same}
-use Rattle.session_threads.specs.History.{Follows, FollowsTurn, HasEvent, HasView, IsMade, IsTurn, Known, Names, ShowsKept, known_first, places_answered}
+use Rattle.session_threads.specs.History.{Follows, FollowsTurn, HasEvent, HasView, IsTurn, Known, Names, ShowsKept, known_first, places_answered}
 use Rattle.session_threads.proofs.ListLemmas.{all_back, some_is}
 use Rattle.service.specs.Alone.{AreAlike, IsAlone, IsCalm, uncounted}
 use Rattle.service.proofs.AloneLemmas.{FollowsPlain, IsPlain, Leads-split}
@@ -102,7 +102,7 @@ plain_follows opening caller events command answer answered events' follows =
         not_own = All-map uncounted (λ event. event.caller ≢ caller) (λ event. event.caller ≢ caller) grows.others (λ event is. is) grows.not_own;
         before = grows.before;
         leads = subst (λ l. Leads opening l grows.before) (plain_append events grows.others) (plain_leads opening (events ++ grows.others) grows.before grows.leads);
-        made = All-map uncounted (IsMade caller (max answer grows.before.greatest)) (IsMade caller (max answer grows.before.greatest)) grows.own (λ event is. is) grows.made;
+        made = All-map uncounted (IsEventOf caller (max answer grows.before.greatest)) (IsEventOf caller (max answer grows.before.greatest)) grows.own (λ event is. is) grows.made;
       };
       named = plain_event opening caller events' command answer answered follows.named;
       turn = plain_turn answered grows.own events' follows.turn;

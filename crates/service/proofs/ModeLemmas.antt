@@ -1,5 +1,6 @@
 -- The runs that serve no session.
-use Rattle.std.proofs.Common.{◌≡◌, ◌≢◌, inl, inr, ⊎_elim, ℕ, Bool, List, [], ◌∷◌, length, codes, get_or, Option, refl, sym, ap, subst, ◌∙◌, arith}
+use Rattle.std.proofs.Common.{◌≡◌, ◌≢◌, ◌⊎◌, inl, inr, ⊎_elim, ℕ, Bool, List, [], ◌∷◌, length, codes, get_or, refl, sym, ap, subst, ◌∙◌, arith}
+use Rattle.std.proofs.lemmas.List.{length-map}
 use Rattle.command_line.specs.Asked.{Asks, name_of}
 use Rattle.command_line.specs.Asked.{users_of as users_asked}
 use Rattle.command_line.specs.Given.{given}
@@ -9,19 +10,18 @@ use Rattle.command_line.specs.declared.asked.RunMode.TheVariants.{Init, Serve, C
 use Rattle.cfg_base.specs.declared.kind.Kind.TheVariants.{Number}
 use Rattle.cfg_values.specs.Number.{IsNumberWithin}
 use Rattle.cfg_values.specs.Spelling.{IsSpelling}
-use Rattle.disk_model.specs.Disk.{History as DiskHistory}
-use Rattle.modes.specs.declared.did.Did.{Did}
+use Rattle.disk_model.specs.Disk.{DiskView}
+use Rattle.disk_model.specs.Pair.{DiskPair, pair_of}
+use Rattle.io_edge.specs.Ends.{SinkView}
+use Rattle.modes.specs.declared.did.StartWhy0.{StartWhy0}
 use Rattle.modes.specs.Modes.{IsCheck, IsInit, IsTold, status_of}
 use Rattle.session_history.specs.declared.history.History.{History}
 use Rattle.session_shell.specs.declared.end.End.{End}
 use Rattle.stored_ledger.specs.declared.why.StartWhy.{StartWhy}
 use Rattle.stored_ledger.specs.declared.why.StartWhy.TheVariants.{Exists, NotAJournal, Damaged, BadRecord, DiskFault, NoMemory}
-use Rattle.service.specs.declared.closed.Closed.{Closed}
-use Rattle.service.specs.Modes.{IsGen, RunsIn, RunsMode, did_of}
 use Rattle.session_threads.specs.Results.{users_of}
-use Rattle.service.specs.Run.{AreEnds}
-use Rattle.std.proofs.lemmas.List.{length-map}
-use Rattle.service.proofs.RunLemmas.{as_many}
+use Rattle.service.specs.Modes.{IsGen, RunsIn, RunsMode}
+use Rattle.service.specs.World.{Told, Views, World}
 
 first_byte : (a b : List ℕ) → a ≡ b → get_or a 0 0 ≡ get_or b 0 0
 first_byte a b is = ap (λ (l : List ℕ). get_or l 0 0) is
@@ -40,9 +40,14 @@ one_user words asked asks other = ⊎_elim
     (λ served. absurd (other (named_serve asked.mode (sym asks.meant.mode ∙ served))))
     asks.meant.served
 
+-- as many ends as users
+pub ends_are : {S K C : Type 0} (ends : List (End S K C)) (users : List (List ℕ)) → users_of ends ≡ users → length ends ≡ length users
+ends_are ends users is = sym (length-map ends (λ end. end.user)) ∙ ap length is
+
 -- and one end
-pub one_end : {S K C : Type 0} (words : List (List ℕ)) (ends : List (End S K C)) (asked : Asked) → AreEnds words ends → Asks words asked → asked.mode ≢ Serve → length ends ≡ 1
-one_end words ends asked are asks other = as_many words ends asked are asks ∙ one_user words asked asks other
+pub one_end : {S K C : Type 0} (words : List (List ℕ)) (ends : List (End S K C)) (asked : Asked) → users_of ends ≡ asked.users
+    → Asks words asked → asked.mode ≢ Serve → length ends ≡ 1
+one_end words ends asked are asks other = ends_are ends asked.users are ∙ one_user words asked asks other
 
 pub some_user : (words : List (List ℕ)) (asked : Asked) → Asks words asked → asked.mode ≢ Serve → length asked.users ≡ 1
 some_user words asked asks other = one_user words asked asks other
@@ -56,72 +61,39 @@ refused_is_not_1 (BadRecord offset) is = omega (arith, is)
 refused_is_not_1 DiskFault is = omega (arith, is)
 refused_is_not_1 NoMemory is = omega (arith, is)
 
-told_is_not_1 : {K : Type 0} (held : K → Option (List ℕ)) (faults : K → ℕ) (text : List ℕ) (old new : K) (status : ℕ) → IsTold held faults text old new status → status ≡ 1 → ⊥
-told_is_not_1 held faults text old new status (inl whole) is = omega (arith, is, whole.0)
-told_is_not_1 held faults text old new status (inr cut) is = omega (arith, is, cut.status_is)
+told_is_not_1 : (text : List ℕ) (old new : SinkView) (status : ℕ) → IsTold text old new status → status ≡ 1 → ⊥
+told_is_not_1 text old new status (inl whole) is = omega (arith, is, whole.0)
+told_is_not_1 text old new status (inr cut) is = omega (arith, is, cut.status_is)
 
-init_is_not_1 : {K D : Type 0} (held : K → Option (List ℕ)) (sink_faults : K → ℕ) (tells : D → Bool) (history : D → DiskHistory) (faults : D → ℕ) (old new : K) (a b : D) (did : Did D)
-    → IsInit held sink_faults tells history faults old new a b did → did.status ≡ 1 → ⊥
-init_is_not_1 held sink_faults tells history faults old new a b did (inl refused) is = refused_is_not_1 refused.0 (sym refused.1.status_is ∙ is)
-init_is_not_1 held sink_faults tells history faults old new a b did (inr made) is = told_is_not_1 held sink_faults _ old new did.status made.1 is
+-- of words that ask for a number in mode gen
+runs_is_not_1 : (Untouched : Type 0) (mode : RunMode) (asked : Asked) (old new : SinkView) (before after : DiskPair) (told : Told)
+    → (mode ≡ Gen → (number : ℕ) × IsNumberWithin 1 3000 asked.place number)
+    → RunsIn Untouched mode asked old new before after told → told.status ≡ 1 → ⊥
+runs_is_not_1 Untouched Init asked old new before after told spelled (inl refused, empty) is =
+    refused_is_not_1 refused.0 (sym refused.1.status_is ∙ is)
+runs_is_not_1 Untouched Init asked old new before after told spelled (inr made, empty) is =
+    told_is_not_1 _ old new told.status made.1 is
+runs_is_not_1 Untouched Check asked old new before after told spelled (inl refused, empty) is =
+    refused_is_not_1 refused.0 (sym refused.1.status_is ∙ is)
+runs_is_not_1 Untouched Check asked old new before after told spelled (inr found, empty) is =
+    ⊎_elim (λ whole. told_is_not_1 _ old new told.status whole is) (λ untold. omega (arith, is, untold.0)) found.3
+runs_is_not_1 Untouched Gen asked old new before after told spelled ran is =
+    let number = spelled refl in
+    ⊎_elim (λ none. omega (arith, is, none.0)) (λ made. told_is_not_1 made.0 old new told.status made.2 is) (ran number.0 number.1)
+runs_is_not_1 Untouched Serve asked old new before after told spelled ran is = ran
 
-check_is_not_1 : {K D : Type 0} (held : K → Option (List ℕ)) (sink_faults : K → ℕ) (tells : D → Bool) (history : D → DiskHistory) (faults : D → ℕ) (old new : K) (a b : D) (did : Did D)
-    → IsCheck held sink_faults tells history faults old new a b did → did.status ≡ 1 → ⊥
-check_is_not_1 held sink_faults tells history faults old new a b did (inl refused) is = refused_is_not_1 refused.0 (sym refused.1.status_is ∙ is)
-check_is_not_1 held sink_faults tells history faults old new a b did (inr found) is = ⊎_elim
-    (λ told. told_is_not_1 held sink_faults _ old new did.status told is)
-    (λ untold. omega (arith, is, untold.0))
-    found.3
+-- the place of mode gen says a number
+pub place_of : (words : List (List ℕ)) (asked : Asked) → Asks words asked → asked.mode ≡ Gen → IsSpelling (Number 1 3000) asked.place
+place_of words asked asks is = subst (λ (l : List ℕ). IsSpelling (Number 1 3000) l) (sym asks.meant.place) (asks.meant.number (asks.meant.mode ∙ ap name_of is))
 
-gen_is_not_1 : {K : Type 0} (held : K → Option (List ℕ)) (faults : K → ℕ) (number : ℕ) (users : List (List ℕ)) (old new : K) (status : ℕ) (all : History)
-    → IsGen held faults number users old new status all → status ≡ 1 → ⊥
-gen_is_not_1 held faults number users old new status all (inl none) is = omega (arith, is, none.0)
-gen_is_not_1 held faults number users old new status all (inr made) is = told_is_not_1 held faults made.0 old new status made.2 is
-
-module _ {S K C B D : Type 0} (held : K → Option (List ℕ)) (sink_faults : K → ℕ) (tells : D → Bool) (history : D → DiskHistory) (faults : D → ℕ) where
-  runs_is_not_1 : (mode : RunMode) (asked : Asked) (old new : K) (a b : D) (closed : Closed S K C B D) → (mode ≡ Gen → (number : ℕ) × IsNumberWithin 1 3000 asked.place number)
-      → RunsIn held sink_faults tells history faults mode asked old new a b closed → closed.status ≡ 1 → ⊥
-  runs_is_not_1 Init asked old new a b closed spelled ran is = init_is_not_1 held sink_faults tells history faults old new a b (did_of closed) ran.0 is
-  runs_is_not_1 Check asked old new a b closed spelled ran is = check_is_not_1 held sink_faults tells history faults old new a b (did_of closed) ran.0 is
-  runs_is_not_1 Gen asked old new a b closed spelled ran is =
-      let number = spelled refl in
-      gen_is_not_1 held sink_faults number.0 asked.users old new closed.status closed.history (ran.0 number.0 number.1) is
-  runs_is_not_1 Serve asked old new a b closed spelled ran is = ran
-
-  pub mode_is_not_1 : (words : List (List ℕ)) (asked : Asked) (ends : List (End S K C)) (a b : D) (closed : Closed S K C B D) → Asks words asked
-      → RunsMode held sink_faults tells history faults asked ends a b closed → closed.status ≡ 1 → ⊥
-  mode_is_not_1 words asked ends a b closed asks runs is =
-      runs_is_not_1 asked.mode asked runs.old.sink runs.new.sink a b closed
-      (λ gen. let spelled = asks.meant.number (asks.meant.mode ∙ ap name_of gen) in (spelled.value, subst (λ (l : List ℕ). IsNumberWithin 1 3000 l spelled.value) (sym asks.meant.place) spelled.spells))
-      runs.ran is
-
-  -- a run of a mode, by its end before and after
-  pub ran_mode : (asked : Asked) (mode : RunMode) (ends : List (End S K C)) (old new : End S K C) (a b : D) (closed : Closed S K C B D) → asked.mode ≡ mode → ends ≡ old ∷ []
-      → closed.ends.items ≡ new ∷ [] → new ≡ record old { sink = new.sink } → closed.turns.items ≡ [] → RunsIn held sink_faults tells history faults mode asked old.sink new.sink a b closed
-      → RunsMode held sink_faults tells history faults asked ends a b closed
-  ran_mode asked mode ends old new a b closed is one one_now same no_turns ran = record {
-    old = old;
-    new = new;
-    one = one;
-    one_now = one_now;
-    same = same;
-    no_turns = no_turns;
-    ran = subst (λ (m : RunMode). RunsIn held sink_faults tells history faults m asked old.sink new.sink a b closed) (sym is) ran;
-  }
-
-  -- of the words that are asked
-  pub moded : (asked other : Asked) (ends : List (End S K C)) (a b : D) (closed : Closed S K C B D) → asked ≡ other → RunsMode held sink_faults tells history faults asked ends a b closed
-      → RunsMode held sink_faults tells history faults other ends a b closed
-  moded asked other ends a b closed same runs = subst (λ (x : Asked). RunsMode held sink_faults tells history faults x ends a b closed) same runs
-
-  -- mode gen leaves the disks alone
-  pub gen_leaves : (asked : Asked) (ends : List (End S K C)) (a b : D) (closed : Closed S K C B D) → asked.mode ≡ Gen → (runs : RunsMode held sink_faults tells history faults asked ends a b closed)
-      → RunsIn held sink_faults tells history faults Gen asked runs.old.sink runs.new.sink a b closed
-  gen_leaves asked ends a b closed is runs = subst (λ (m : RunMode). RunsIn held sink_faults tells history faults m asked runs.old.sink runs.new.sink a b closed) is runs.ran
-
--- as many ends as users
-pub ends_are : {S K C : Type 0} (ends : List (End S K C)) (users : List (List ℕ)) → users_of ends ≡ users → length ends ≡ length users
-ends_are ends users is = sym (length-map ends (λ end. end.user)) ∙ ap length is
+pub mode_is_not_1 : {E T D : Type 0} (see : Views E T D) (SinkAlone : E → E → Type 0) (words : List (List ℕ)) (asked : Asked)
+    (before after : World E T D) (told : Told) → Asks words asked → RunsMode see SinkAlone asked before after told
+    → told.status ≡ 1 → ⊥
+mode_is_not_1 see SinkAlone words asked before after told asks runs is =
+    runs_is_not_1 (runs.new ≡ runs.old) asked.mode asked (see.end runs.old).sink (see.end runs.new).sink
+    (see.disks before.a before.b) (see.disks after.a after.b) told
+    (λ gen. let spelled = asks.meant.number (asks.meant.mode ∙ ap name_of gen) in (spelled.value, subst (λ (l : List ℕ). IsNumberWithin 1 3000 l spelled.value) (sym asks.meant.place) spelled.spells))
+    runs.ran is
 
 -- the only one of a list
 pub the_one : {X : Type 0} (xs : List X) (x : X) → length xs ≡ 1 → x ≡ get_or xs 0 x → xs ≡ x ∷ []
@@ -129,28 +101,45 @@ the_one [] x one is = absurd (omega (arith, one))
 the_one (y ∷ []) x one is = ap (λ z. z ∷ []) (sym is)
 the_one (y ∷ (z ∷ xs)) x one is = absurd (omega (arith, one))
 
--- what a run came to, by its parts
-pub did_is : {S K C B D : Type 0} (closed : Closed S K C B D) (did : Did D) → closed.status ≡ did.status → closed.why ≡ did.why → closed.disk_a ≡ did.a → closed.disk_b ≡ did.b → did ≡ did_of closed
-did_is closed did status why a b =
-    let path : did ≡ did_of closed =
-    ap (λ n. record { status = n; why = did.why; a = did.a; b = did.b }) (sym status)
-    ∙ ap (λ w. record { status = closed.status; why = w; a = did.a; b = did.b }) (sym why)
-    ∙ ap (λ d. record { status = closed.status; why = closed.why; a = d; b = did.b }) (sym a)
-    ∙ ap (λ d. record { status = closed.status; why = closed.why; a = closed.disk_a; b = d }) (sym b) in
-    path
+-- what is handed back of two disks, with a status and a cause
+pub handed_back : {D : Type 0} (view : D → DiskView) (P : DiskPair → ℕ → StartWhy0 → Type 0) (a a' b b' : D) (status status' : ℕ)
+    (why why' : StartWhy0) → a' ≡ a → b' ≡ b → status' ≡ status → why' ≡ why → P (pair_of view a b) status why
+    → P (pair_of view a' b') status' why'
+handed_back view P a a' b b' status status' why why' same_a same_b same_status same_why is =
+    subst (λ d. P (pair_of view d b') status' why') (sym same_a)
+    (subst (λ d. P (pair_of view a d) status' why') (sym same_b)
+    (subst (λ n. P (pair_of view a b) n why') (sym same_status) (subst (λ w. P (pair_of view a b) status w) (sym same_why) is)))
+
+-- an end whose sink wasn't called is as it was
+pub untouched_end : {S K C : Type 0} (end : End S K C) (sink : K) → sink ≡ end.sink → record end { sink = sink } ≡ end
+untouched_end {S} {K} end sink same = ap (λ (k : K). record end { sink = k }) same
+
+pub init_by : (U V : Type 0) → (U → V) → (old new : SinkView) (before after : DiskPair) (status : ℕ) (why : StartWhy0)
+    → IsInit U old new before after status why → IsInit V old new before after status why
+init_by U V by old new before after status why (inl (cause, refused, not)) =
+    inl (cause, record { same = by refused.same; told = refused.told; status_is = refused.status_is }, not)
+init_by U V by old new before after status why (inr made) = inr made
+
+pub check_by : (U V : Type 0) → (U → V) → (old new : SinkView) (before after : DiskPair) (status : ℕ) (why : StartWhy0)
+    → IsCheck U old new before after status why → IsCheck V old new before after status why
+check_by U V by old new before after status why (inl (cause, refused, not)) =
+    inl (cause, record { same = by refused.same; told = refused.told; status_is = refused.status_is }, not)
+check_by U V by old new before after status why (inr (no_why, kept, found, inl whole)) = inr (no_why, kept, found, inl whole)
+check_by U V by old new before after status why (inr (no_why, kept, found, inr untold)) =
+    inr (no_why, kept, found, inr (untold.0, by untold.1))
 
 -- what is told of the number that a place says holds of each number that it says
-pub gen_ran : {K : Type 0} (held : K → Option (List ℕ)) (faults : K → ℕ) (place : List ℕ) (count status status' : ℕ) (users : List (List ℕ)) (old new : K) (all all' : History)
-    → IsNumberWithin 1 3000 place count → IsGen held faults count users old new status all → status' ≡ status → all' ≡ all → (number : ℕ) → IsNumberWithin 1 3000 place number
-    → IsGen held faults number users old new status' all'
-gen_ran held faults place count status status' users old new all all' counted is status_is all_is number says =
-    subst (λ (n : ℕ). IsGen held faults number users old new n all') (sym status_is)
-    (subst (λ (h : History). IsGen held faults number users old new status h) (sym all_is)
-    (subst (λ (n : ℕ). IsGen held faults n users old new status all) (counted.read.value ∙ sym says.read.value) is))
-
--- one thing is asked, and it isn't to serve
-pub not_served : (mode : RunMode) (asked other : Asked) → (mode ≡ Serve → ⊥) → asked ≡ other → asked.mode ≡ mode → other.mode ≡ Serve → ⊥
-not_served mode asked other apart same is serve = apart (sym is ∙ ap (λ (x : Asked). x.mode) same ∙ serve)
+pub gen_ran : (U V : Type 0) → (U → V) → (place : List ℕ) (count status status' : ℕ) (users : List (List ℕ)) (old new : SinkView)
+    (all all' : History) → IsNumberWithin 1 3000 place count → IsGen U count users old new status all → status' ≡ status
+    → all' ≡ all → (number : ℕ) → IsNumberWithin 1 3000 place number → IsGen V number users old new status' all'
+gen_ran U V by place count status status' users old new all all' counted is status_is all_is number says =
+    subst (λ (n : ℕ). IsGen V number users old new n all') (sym status_is)
+    (subst (λ (h : History). IsGen V number users old new status h) (sym all_is)
+    (subst (λ (n : ℕ). IsGen V n users old new status all) (counted.read.value ∙ sym says.read.value) (by_sum is)))
+  where
+    by_sum : IsGen U count users old new status all → IsGen V count users old new status all
+    by_sum (inl none) = inl (none.0, by none.1, none.2)
+    by_sum (inr made) = inr made
 
 pub init_apart : Init ≡ Serve → ⊥
 init_apart is = let other : 105 ≡ 115 = first_byte (codes "init") (codes "serve") (ap name_of is) in omega (arith, other)
@@ -166,7 +155,3 @@ init_is_not_gen is = let other : 105 ≡ 103 = first_byte (codes "init") (codes 
 
 pub check_is_not_gen : Check ≡ Gen → ⊥
 check_is_not_gen is = let other : 99 ≡ 103 = first_byte (codes "check") (codes "gen") (ap name_of is) in omega (arith, other)
-
--- the place of mode gen says a number
-pub place_of : (words : List (List ℕ)) (asked : Asked) → Asks words asked → asked.mode ≡ Gen → IsSpelling (Number 1 3000) asked.place
-place_of words asked asks is = subst (λ (l : List ℕ). IsSpelling (Number 1 3000) l) (sym asks.meant.place) (asks.meant.number (asks.meant.mode ∙ ap name_of is))

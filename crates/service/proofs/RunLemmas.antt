@@ -10,14 +10,14 @@ use Rattle.command_line.specs.declared.asked.Asked.{Asked}
 use Rattle.config_core.specs.State.{State}
 use Rattle.io_edge.specs.Line.{TellsBoth}
 use Rattle.session_history.specs.declared.history.Happened.{Happened}
-use Rattle.session_shell.specs.declared.end.End.{End}
 use Rattle.session_shell.specs.declared.turn.How.{How}
 use Rattle.session_shell.specs.declared.turn.How.TheVariants.{Clean, SourceFault, SinkFault, InputFull, NoMemory}
-use Rattle.session_shell.specs.Transcript.{IsInput}
-use Rattle.session_threads.specs.History.{HasSession}
-use Rattle.session_threads.specs.Results.{IsResult, IsUnbegun, SessionResult, status_of_all}
+use Rattle.session_shell.specs.Transcript.{EndView, IsInput}
+use Rattle.io_edge.specs.declared.lines.Line.{Line}
+use Rattle.session_shell.specs.declared.reading.Reading.{Reading}
+use Rattle.session_threads.specs.Results.{IsResult, SessionResult, status_of_all}
 use Rattle.session_threads.specs.Served.{HasReaders}
-use Rattle.service.specs.Run.{AreEnds, Fits, IsFaultless}
+use Rattle.service.specs.Run.{IsFaultless, IsWithinLimit}
 
 -- no sessions come to the status of words that ask nothing
 pub status_is_not_1 : (hows : List How) → status_of_all hows ≡ 1 → ⊥
@@ -36,10 +36,6 @@ few_users words asked asks = subst (λ n. n ≤ 64) (ap length (sym asks.meant.u
     few user [] most = omega arith
     few user (word ∷ words) most = omega (arith, most, length-map words user_in)
 
--- as many ends as users
-pub as_many : {S K C : Type 0} (words : List (List ℕ)) (ends : List (End S K C)) (asked : Asked) → AreEnds words ends → Asks words asked → length ends ≡ length asked.users
-as_many words ends asked are asks = sym (length-map ends (λ end. end.user)) ∙ ap length (are asked asks)
-
 all_alike : (reader : ReaderState) (count : ℕ) → AllByRecursion (λ (r : ReaderState). r ≡ reader) (replicate count reader)
 all_alike reader zero = tt
 all_alike reader (suc count) = (refl, all_alike reader count)
@@ -54,28 +50,29 @@ quiet_first how hows (inl is) then_all = subst (λ h. (status_of_all (h ∷ hows
 quiet_first how hows (inr is) then_all = inr (ap (λ h. status_of_all (h ∷ hows)) is)
 
 -- sessions of which each ended clean or for want of memory
-pub quiet_status : {S K C : Type 0} (results : List (SessionResult S K C)) → ((k : ℕ) (result : SessionResult S K C) → slice_get results k ≡ Some result → (result.how ≡ Clean) ⊎ (result.how ≡ NoMemory)) →
+pub quiet_status : {E : Type 0} (results : List (SessionResult E)) → ((k : ℕ) (result : SessionResult E) → slice_get results k ≡ Some result → (result.how ≡ Clean) ⊎ (result.how ≡ NoMemory)) →
     (status_of_all (map (λ result. result.how) results) ≡ 0) ⊎ (status_of_all (map (λ result. result.how) results) ≡ 9)
 quiet_status [] each = inl refl
 quiet_status (result ∷ results) each = quiet_first result.how (map (λ r. r.how) results) (each 0 result refl) (quiet_status results (λ k. each (suc k)))
 
-module _ {S K C : Type 0} (left : S → Option (List ℕ)) (source_faults : S → ℕ) (held : K → Option (List ℕ)) (sink_faults : K → ℕ) (coming : C → Option (ℕ → ℕ)) (limit : ℕ) where
-  -- how a session ends that no fault disturbs, within the limit
-  pub quiet : (opening : State) (events : List Happened) (caller : ℕ) (result : SessionResult S K C) → IsResult left source_faults held sink_faults coming opening limit events caller result → IsFaultless left source_faults sink_faults limit result.old result.new → (result.how ≡ Clean) ⊎ (result.how ≡ NoMemory)
-  quiet opening events caller result is faultless = by_session is.session
-    where
-      within : (h : HasSession left held sink_faults coming opening caller limit events result.how result.turns result.old result.new) (a b : Option (List ℕ)) → Fits limit a → TellsBoth (IsInput h.session.lines h.session.reading result.how limit) a b → result.how ≡ InputFull → ⊥
-      within h None b fit tells full = fit
-      within h (Some a) None fit tells full = tells
-      within h (Some a) (Some b) fit tells full = omega (arith, fit, tells.full.0 full, ap length tells.first.split, length-append tells.first.taken tells.left, ap length tells.is_left, length-append tells.ahead b)
+within : (how : How) (a b : Option (List ℕ)) (limit : ℕ) (lines : List Line) (reading : Reading) → IsWithinLimit limit a
+    → TellsBoth (IsInput lines reading how limit) a b → how ≡ InputFull → ⊥
+within how None b limit lines reading fit tells full = fit
+within how (Some a) None limit lines reading fit tells full = tells
+within how (Some a) (Some b) limit lines reading fit tells full =
+    omega (arith, fit, tells.full.0 full, ap length tells.first.split, length-append tells.first.taken tells.left, ap length tells.is_left, length-append tells.ahead b)
 
-      by_how : (h : HasSession left held sink_faults coming opening caller limit events result.how result.turns result.old result.new) (how : How) → how ≡ result.how → (result.how ≡ Clean) ⊎ (result.how ≡ NoMemory)
-      by_how h Clean at = inl (sym at)
-      by_how h SourceFault at = absurd (faultless.source (is.source_cause (sym at)))
-      by_how h SinkFault at = absurd (faultless.sink (is.sink_cause (sym at)))
-      by_how h InputFull at = absurd (within h (left result.old.source) (left result.new.source) faultless.fits h.session.input (sym at))
-      by_how h NoMemory at = inr (sym at)
-
-      by_session : HasSession left held sink_faults coming opening caller limit events result.how result.turns result.old result.new ⊎ IsUnbegun events caller result → (result.how ≡ Clean) ⊎ (result.how ≡ NoMemory)
-      by_session (inl h) = by_how h result.how refl
-      by_session (inr u) = inr u.how
+-- how a session ends that no fault disturbs, within the limit
+pub quiet : {E : Type 0} (view : E → EndView) (limit : ℕ) (opening : State) (events : List Happened) (caller : ℕ)
+    (result : SessionResult E) → IsResult view opening limit events caller result
+    → IsFaultless limit (view result.old) (view result.new) → (result.how ≡ Clean) ⊎ (result.how ≡ NoMemory)
+quiet view limit opening events caller result (inl h) faultless = by_how result.how refl
+  where
+    by_how : (how : How) → how ≡ result.how → (result.how ≡ Clean) ⊎ (result.how ≡ NoMemory)
+    by_how Clean at = inl (sym at)
+    by_how SourceFault at = absurd (faultless.source (h.session.source_cause (sym at)))
+    by_how SinkFault at = absurd (faultless.sink (h.session.sink_cause (sym at)))
+    by_how InputFull at = absurd (within result.how (view result.old).source.left (view result.new).source.left limit
+        h.session.transcript.lines h.session.transcript.reading faultless.fits h.session.transcript.input (sym at))
+    by_how NoMemory at = inr (sym at)
+quiet view limit opening events caller result (inr u) faultless = inr u.how

@@ -4,15 +4,15 @@ use Rattle.std.specs.List.{AllByRecursion}
 use Rattle.config_core.specs.State.{State, opening_of}
 use Rattle.config_db.specs.View.{DatabaseView, IsSameRun, opened}
 use Rattle.session_history.specs.declared.history.Happened.{Happened}
-use Rattle.session_shell.specs.Opened.{end_view}
-use Rattle.session_threads.specs.History.{HasSession, known_first}
-use Rattle.session_threads.specs.Results.{IsResult, IsUnbegun, SessionResult}
+use Rattle.session_shell.specs.Transcript.{EndView}
+use Rattle.session_threads.specs.History.{known_first}
+use Rattle.session_threads.specs.Results.{IsResult, SessionResult}
 use Rattle.session_threads.specs.Served.{EachFrom}
 use Rattle.session_threads.proofs.LaterLemmas.{IsSession-later}
 use Rattle.session_threads.proofs.ListLemmas.{All-append, some_is}
 
 -- one run has one opening
-pub same_opened : {D : Type 0} (v v' : DatabaseView D) → IsSameRun v v' → opened v' ≡ opened v
+pub same_opened : (v v' : DatabaseView) → IsSameRun v v' → opened v' ≡ opened v
 same_opened v v' same = ap (λ k. opening_of k v'.users) same.opening ∙ ap (opening_of v.opening) same.users
 
 -- a caller's own events are nobody else's
@@ -28,37 +28,23 @@ EachFrom-at Is number (y ∷ xs) zero m x each is at =
     subst (λ n. Is n x) (omega (arith, at)) (subst (Is number) (some_is is) each.0)
 EachFrom-at Is number (y ∷ xs) (suc k) m x each is at = EachFrom-at Is (number + 1) xs k m x each.1 is (omega (arith, at))
 
-module _ {S K C : Type 0} (left : S → Option (List ℕ)) (source_faults : S → ℕ) (held : K → Option (List ℕ)) (sink_faults : K → ℕ)
-    (coming : C → Option (ℕ → ℕ)) (limit : ℕ) where
-  -- more events of others behind a session
-  pub longer : (opening : State) (events more : List Happened) (caller : ℕ) (result : SessionResult S K C)
-      → AllByRecursion (λ event. event.caller ≢ caller) more
-      → IsResult left source_faults held sink_faults coming opening limit events caller result
-      → IsResult left source_faults held sink_faults coming opening limit (events ++ more) caller result
-  longer opening events more caller result others is = record {
-    session = by_session is.session;
-    user = is.user;
-    source_cause = is.source_cause;
-    sink_cause = is.sink_cause;
-  }
-    where
-      by_session : HasSession left held sink_faults coming opening caller limit events result.how result.turns result.old result.new
-          ⊎ IsUnbegun events caller result
-          → HasSession left held sink_faults coming opening caller limit (events ++ more) result.how result.turns result.old result.new
-          ⊎ IsUnbegun (events ++ more) caller result
-      by_session (inl h) = inl (record {
-        before = h.before;
-        after = h.after;
-        later = h.later ++ more;
-        begins = ap (λ l. l ++ more) h.begins ∙ append_assoc h.after.events h.later more;
-        others_first = h.others_first;
-        none_later = All-append (λ (event : Happened). event.caller ≢ caller) h.later more h.none_later others;
-        session = IsSession-later opening caller events more limit result.how (left result.old.source) (left result.new.source) (known_first opening h.before) h.after
-            (end_view coming held sink_faults result.old []) (end_view coming held sink_faults result.new result.turns) h.session;
-      })
-      by_session (inr u) = inr (record {
-        how = u.how;
-        same = u.same;
-        no_turns = u.no_turns;
-        no_events = All-append (λ (event : Happened). event.caller ≢ caller) events more u.no_events others;
-      })
+-- more events of others after a session
+pub longer : {E : Type 0} (view : E → EndView) (opening : State) (limit : ℕ) (events more : List Happened) (caller : ℕ)
+    (result : SessionResult E) → AllByRecursion (λ event. event.caller ≢ caller) more
+    → IsResult view opening limit events caller result → IsResult view opening limit (events ++ more) caller result
+longer view opening limit events more caller result others (inl h) = inl (record {
+  before = h.before;
+  after = h.after;
+  later = h.later ++ more;
+  begins = ap (λ l. l ++ more) h.begins ∙ append_assoc h.after.events h.later more;
+  others_first = h.others_first;
+  none_later = All-append (λ (event : Happened). event.caller ≢ caller) h.later more h.none_later others;
+  session = IsSession-later opening caller events more limit result.how result.turns (view result.old) (view result.new)
+      (known_first opening h.before) h.after h.session;
+})
+longer view opening limit events more caller result others (inr u) = inr (record {
+  how = u.how;
+  same = u.same;
+  no_turns = u.no_turns;
+  no_events = All-append (λ (event : Happened). event.caller ≢ caller) events more u.no_events others;
+})

@@ -1,42 +1,48 @@
 -- A run of mode serve, put together from the start, the sessions and the closing.
-use Rattle.std.proofs.Common.{◌≡◌, ◌⊎◌, ◌≤◌, ◌+◌, ℕ, Bool, true, false, IsTrue, is_some, List, [], ◌++◌, length, map, refl, sym, ap, subst, ◌∙◌, arith, Option, Some, slice_get, inl, inr}
+use Rattle.std.proofs.Common.{◌≡◌, ◌⊎◌, ◌≤◌, ◌<◌, ◌+◌, ⊎_elim, ℕ, Bool, true, false, IsTrue, is_some, List, [], ◌++◌, length, map, refl, sym, ap, subst, ◌∙◌, arith, Option, Some, slice_get, inl, inr}
 use Rattle.std.specs.List.{AllByRecursion}
-use Rattle.std.proofs.lemmas.List.{length-map}
+use Rattle.std.proofs.lemmas.Bool.{cases_lt}
+use Rattle.std.proofs.lemmas.List.{append-nil, length-map}
+use Rattle.std.specs.Prelude.{IsSome, count_by, ◌^◌, ◌-◌}
 use Rattle.command_line.specs.declared.asked.Asked.{Asked}
-use Rattle.commit_journal.specs.Journal.{disk_a, disk_b}
+use Rattle.commit_journal.specs.Journal.{Tell, calls_a, calls_b, disk_a, disk_b, disks_of}
+use Rattle.commit_journal.specs.Pair.{first_of, second_of}
 use Rattle.commit_ledger.specs.Kept.{Kept}
 use Rattle.config_core.specs.declared.event.Outcome.TheVariants.{Fault}
 use Rattle.config_core.specs.State.{State, opening_of}
 use Rattle.config_db.specs.Closing.{IsHandedBack, SettlesLast}
-use Rattle.config_db.specs.Crash.{IsCrashSafe}
-use Rattle.config_db.specs.Faults.{AreCounted}
+use Rattle.cfg_base.specs.declared.calls.Calls.{Calls}
+use Rattle.config_db.specs.Crash.{CallsOn, HasCalled, HaveCalled, IsCrashSafe}
+use Rattle.config_db.specs.Faults.{AreCounted, RoseBy, is_failed_command, is_failed_other}
 use Rattle.config_db.specs.Moves.{HasCause}
 use Rattle.config_db.specs.Numbers.{AreRising, calls_of, no_calls}
 use Rattle.config_db.specs.Starting.{IsBegun}
 use Rattle.config_db.specs.View.{DatabaseView, opened}
+use Rattle.config_db.proofs.DiskLemmas.{tell_ab}
 use Rattle.config_db.proofs.FaultLemmas.{counted_more, counted_none}
 use Rattle.disk_model.specs.Disk.{History as DiskHistory}
+use Rattle.disk_model.specs.Pair.{BothTell, DiskPair, FaultOnEither, NoneFell}
 use Rattle.modes.specs.Modes.{status_of as status_of_start}
 use Rattle.session_history.specs.declared.history.Happened.{Happened}
 use Rattle.session_history.specs.Events.{Leads, StaysAccepted}
 use Rattle.session_history.proofs.KeptLemmas.{WasKept-last_count}
-use Rattle.session_shell.specs.declared.end.End.{End}
 use Rattle.session_shell.specs.declared.turn.How.{How}
 use Rattle.stored_ledger.specs.declared.why.StartWhy.{StartWhy}
 use Rattle.stored_ledger.specs.declared.why.StartWhy.TheVariants.{Exists, NotAJournal, Damaged, BadRecord, DiskFault, NoMemory}
 use Rattle.stored_ledger.specs.Starting.{Explains, IsByBytes, IsFound, IsNotFound}
 use Rattle.stored_ledger.specs.Stored.{SpellsKept}
-use Rattle.session_threads.specs.declared.ticking.Ticker.{Ticker}
 use Rattle.session_threads.specs.Adding.{AddsUp}
 use Rattle.session_threads.specs.Looks.{HasTicked}
-use Rattle.session_threads.specs.Results.{IsResult, status_of_all, users_of}
+use Rattle.session_threads.specs.Results.{IsResult, status_of_all}
 use Rattle.session_threads.specs.Served.{AreServed}
 use Rattle.session_threads.proofs.ListLemmas.{All-weaker}
-use Rattle.session_threads.proofs.LogLemmas.{AddsUp-then, rose_since}
-use Rattle.service.specs.declared.closed.Closed.{Closed}
+use Rattle.io_edge.proofs.RoseLemmas.{rose_since}
+use Rattle.session_threads.proofs.LogLemmas.{AddsUp-then}
 use Rattle.service.specs.Run.{EachEnd, IsFaultless}
 use Rattle.service.specs.ServedOver.{IsServedOver, status_over}
-use Rattle.service.specs.Serving.{AreSessions, AreSound, AreStored, AreTheirs, DiskRose, FrontsGo, HasHappened, HaveCauses, IsEnded, IsServed, Serves, status_at_end}
+use Rattle.service.specs.Running.{Serves}
+use Rattle.service.specs.Serving.{AreSessions, AreSound, AreStored, AreTheirs, FrontsGo, HasHappened, HaveCauses, IsEnded, IsServed, status_at_end}
+use Rattle.service.specs.World.{Told, Views, World}
 use Rattle.service.proofs.GrowthLemmas.{each_turns, result_fronts}
 use Rattle.service.proofs.ListLemmas.{slice_get-map}
 use Rattle.service.proofs.ModeLemmas.{refused_is_not_1}
@@ -44,9 +50,27 @@ use Rattle.service.proofs.RunLemmas.{quiet, quiet_status, status_is_not_1}
 use Rattle.service.proofs.ServedLemmas.{EachFrom-at, longer, not_theirs, same_opened}
 
 -- a count that rose in the last part of a run rose in all of it
-disk_rose_since : {D : Type 0} (faults : D → ℕ) (a b m n a' b' : D) → (faults a ≤ faults m) × (faults m ≤ faults a') → (faults b ≤ faults n) × (faults n ≤ faults b') → DiskRose faults m n a' b' → DiskRose faults a b a' b'
-disk_rose_since faults a b m n a' b' between_a between_b (inl rose) = inl (rose_since (faults a) (faults m) (faults a') between_a.0 between_a.1 rose)
-disk_rose_since faults a b m n a' b' between_a between_b (inr rose) = inr (rose_since (faults b) (faults n) (faults b') between_b.0 between_b.1 rose)
+rose_later : (p q r : DiskPair) → NoneFell p q → NoneFell q r → FaultOnEither q r → FaultOnEither p r
+rose_later p q r first next (inl rose) = inl (rose_since p.a.faults q.a.faults r.a.faults first.0 next.0 rose)
+rose_later p q r first next (inr rose) = inr (rose_since p.b.faults q.b.faults r.b.faults first.1 next.1 rose)
+
+-- a count that rose by so many calls and one more rose
+rose_by_more : (many : ℕ) (p q : DiskPair) → NoneFell p q → RoseBy (many + 1) p q → FaultOnEither p q
+rose_by_more many p q fell (inl full) = inl (⊎_elim (λ (less : p.a.faults < 2 ^ 64 - 1). inl (omega (arith, less, full)))
+    (λ (more : 2 ^ 64 - 1 ≤ p.a.faults). inr more) (cases_lt p.a.faults (2 ^ 64 - 1)))
+rose_by_more many p q fell (inr (inl full)) = inr (⊎_elim (λ (less : p.b.faults < 2 ^ 64 - 1). inl (omega (arith, less, full)))
+    (λ (more : 2 ^ 64 - 1 ≤ p.b.faults). inr more) (cases_lt p.b.faults (2 ^ 64 - 1)))
+rose_by_more many p q fell (inr (inr rose)) = ⊎_elim (λ (less : p.a.faults < q.a.faults). inl (inl less))
+    (λ (more : q.a.faults ≤ p.a.faults). inr (inl (omega (arith, more, rose)))) (cases_lt p.a.faults q.a.faults)
+
+-- where so many failed, and then one more call
+rose_once_more : (many : ℕ) (p q r : DiskPair) → NoneFell q r → RoseBy many p q → FaultOnEither q r → RoseBy (many + 1) p r
+rose_once_more many p q r fell (inl full) rose = inl (omega (arith, full, fell.0))
+rose_once_more many p q r fell (inr (inl full)) rose = inr (inl (omega (arith, full, fell.1)))
+rose_once_more many p q r fell (inr (inr rises)) (inl (inl up)) = inr (inr (omega (arith, rises, up, fell.1)))
+rose_once_more many p q r fell (inr (inr rises)) (inl (inr full)) = inl (omega (arith, full, fell.0))
+rose_once_more many p q r fell (inr (inr rises)) (inr (inl up)) = inr (inr (omega (arith, rises, up, fell.0)))
+rose_once_more many p q r fell (inr (inr rises)) (inr (inr full)) = inr (inl (omega (arith, full, fell.1)))
 
 -- the status at the end, of the status that the sessions came to
 status_over_is : (fault : Bool) (status : ℕ) (hows : List How) → status ≡ status_of_all hows → status_over fault status ≡ status_at_end fault hows
@@ -59,88 +83,113 @@ end_is_not_1 true hows is = omega (arith, is)
 end_is_not_1 false hows is = status_is_not_1 hows is
 
 -- a start over disks that spell a list, and that don't fail, is refused only for want of memory
-refused_for_memory : {D : Type 0} (tells : D → Bool) (history : D → DiskHistory) (faults : D → ℕ) (spelled_once : (a b : List ℕ) (kept : Kept) (why : StartWhy) → SpellsKept a b kept → IsByBytes why → Explains a b why → ⊥) (a b a' b' : D) (why : StartWhy) → IsNotFound tells history faults a b why a' b' → AreSound tells history faults a b a' b' → (status_of_start why ≡ 0) ⊎ (status_of_start why ≡ 9)
-refused_for_memory tells history faults spelled_once a b a' b' Exists not sound = absurd (not.not_there refl)
-refused_for_memory tells history faults spelled_once a b a' b' NotAJournal not sound = absurd (spelled_once _ _ sound.kept NotAJournal sound.spelled tt (not.explained sound.tell))
-refused_for_memory tells history faults spelled_once a b a' b' (Damaged offset kept computed) not sound = absurd (spelled_once _ _ sound.kept (Damaged offset kept computed) sound.spelled tt (not.explained sound.tell))
-refused_for_memory tells history faults spelled_once a b a' b' (BadRecord offset) not sound = absurd (spelled_once _ _ sound.kept (BadRecord offset) sound.spelled tt (not.explained sound.tell))
-refused_for_memory tells history faults spelled_once a b a' b' DiskFault not sound = absurd (sound.no_fault (not.cause.rose refl))
-refused_for_memory tells history faults spelled_once a b a' b' NoMemory not sound = inr refl
+refused_for_memory : (spelled_once : (a b : List ℕ) (kept : Kept) (why : StartWhy) → SpellsKept a b kept → IsByBytes why → Explains a b why → ⊥)
+    (before after : DiskPair) (why : StartWhy) → IsNotFound before why after → AreSound before after
+    → (status_of_start why ≡ 0) ⊎ (status_of_start why ≡ 9)
+refused_for_memory spelled_once before after Exists not sound = absurd (not.not_there refl)
+refused_for_memory spelled_once before after NotAJournal not sound = absurd (spelled_once _ _ sound.kept NotAJournal sound.spelled tt (not.explained sound.tell))
+refused_for_memory spelled_once before after (Damaged offset kept computed) not sound = absurd (spelled_once _ _ sound.kept (Damaged offset kept computed) sound.spelled tt (not.explained sound.tell))
+refused_for_memory spelled_once before after (BadRecord offset) not sound = absurd (spelled_once _ _ sound.kept (BadRecord offset) sound.spelled tt (not.explained sound.tell))
+refused_for_memory spelled_once before after DiskFault not sound = absurd (sound.no_fault (not.cause.rose refl))
+refused_for_memory spelled_once before after NoMemory not sound = inr refl
 
-module _ {S K C B D : Type 0} (left : S → Option (List ℕ)) (source_faults : S → ℕ) (held : K → Option (List ℕ)) (sink_faults : K → ℕ)
-    (coming : C → Option (ℕ → ℕ)) (due : B → Option (ℕ → Bool)) (tells : D → Bool) (history : D → DiskHistory) (faults : D → ℕ) where
-  module _ (limit : ℕ) (ends : List (End S K C)) (ticker : Ticker B C) (a b : D) (users : List (List ℕ)) (journal : ℕ)
-      (first : DatabaseView D) (closed : Closed S K C B D) (theirs : users_of ends ≡ users) (begun : IsBegun tells faults a b users journal first)
-      (over : IsServedOver left source_faults held sink_faults coming due tells history faults limit ends ticker first closed)
+-- calls from a number on are calls from 0 on
+called_from : (h h' : DiskHistory) (m number : ℕ) → m ≡ 0 → CallsOn h h' m number → HasCalled h h' number
+called_from h h' m number zero (more, goes, told) = (more, goes, λ few. let is : number ≡ m + length more = told few (omega (arith, zero)) in omega (arith, zero, is))
+
+zero_first : (b : Bool) (m n : ℕ) → m ≡ 0 → n ≡ 0 → first_of b m n ≡ 0
+zero_first true m n one two = two
+zero_first false m n one two = one
+
+zero_second : (b : Bool) (m n : ℕ) → m ≡ 0 → n ≡ 0 → second_of b m n ≡ 0
+zero_second true m n one two = one
+zero_second false m n one two = two
+
+module _ {E T D : Type 0} (see : Views E T D) (asked : Asked) (before after : World E T D) (told : Told) where
+  -- the disks before and after
+  abbrev given : DiskPair
+  given = see.disks before.a before.b
+
+  abbrev back : DiskPair
+  back = see.disks after.a after.b
+
+  module _ (first : DatabaseView) (theirs : map (λ end. (see.end end).user) before.ends ≡ asked.users)
+      (begun : IsBegun given asked.users asked.limits.journal first)
+      (over : IsServedOver see asked.limits.input before.ends before.ticker first after told)
       (one_state : (kept : Kept) (users : List (List ℕ)) (events : List Happened) (one other : State) → Leads (opening_of kept users) events one → Leads (opening_of kept users) events other → one ≡ other) where
-    abbrev v : DatabaseView D
+    abbrev v : DatabaseView
     v = over.v
 
-    abbrev last : DatabaseView D
+    abbrev last : DatabaseView
     last = over.closes.last
 
     abbrev opening : State
-    opening = opening_of first.opening (users_of ends)
+    opening = opening_of first.opening asked.users
 
-    settles : SettlesLast tells faults over.fault v last
+    abbrev hows : List How
+    hows = map (λ result. result.how) over.served.results
+
+    settles : SettlesLast over.fault v last
     settles = over.closes.settles
 
-    handed : IsHandedBack tells history last closed.history closed.disk_a closed.disk_b
+    handed : IsHandedBack last told.history back
     handed = over.closes.handed
 
-    served : AreServed left source_faults held sink_faults coming due tells faults limit first ends closed.ends.items ticker closed.ticker
-        closed.turns.items v over.status
+    abbrev served : AreServed see.end asked.limits.input first before.ends after.ends (see.ticker before.ticker) (see.ticker after.ticker)
+        told.turns v over.status
     served = over.served
 
     opens_first : opened first ≡ opening
-    opens_first = ap (opening_of first.opening) (begun.users_are ∙ sym theirs)
+    opens_first = ap (opening_of first.opening) begun.users_are
 
     opens_last : opened last ≡ opening
     opens_last = same_opened v last settles.extends.same ∙ same_opened first v served.adds.same ∙ opens_first
 
-    events_are : closed.history.events.items ≡ v.events ++ settles.own
+    events_are : told.history.events.items ≡ v.events ++ settles.own
     events_are = handed.events ∙ settles.extends.grown
 
-    whole : AddsUp tells faults (v.events ++ settles.own) first last
-    whole = AddsUp-then tells faults 0 v.state.greatest v.events settles.own first v last served.adds settles.extends
+    whole : AddsUp (v.events ++ settles.own) first last
+    whole = AddsUp-then 0 v.state.greatest v.events settles.own first v last served.adds settles.extends
 
     nobodys : AllByRecursion (λ (event : Happened). event.caller ≡ 0) settles.own
     nobodys = All-weaker _ (λ (event : Happened). event.caller ≡ 0) settles.own (λ event made. made.0) settles.extends.made
 
-    sessions : AreSessions left source_faults held sink_faults coming opening limit ends closed.ends.items closed.turns.items closed.history.events.items (map (λ result. result.how) served.results)
+    sessions : AreSessions see.end opening asked.limits.input before.ends after.ends told.turns told.history.events.items hows
     sessions = record {
       results = served.results;
       old = served.old;
       new = served.new;
       turned = served.turned;
       ended = refl;
-      each = λ k result is. subst (λ l. IsResult left source_faults held sink_faults coming opening limit l (k + 1) result) (sym events_are)
-          (longer left source_faults held sink_faults coming limit opening v.events settles.own (k + 1) result (not_theirs (k + 1) 0 settles.own (λ none. omega (arith, none)) nobodys)
-          (subst (λ o. IsResult left source_faults held sink_faults coming o limit v.events (k + 1) result) opens_first
-          (EachFrom-at (IsResult left source_faults held sink_faults coming (opened first) limit v.events) 1 served.results k (k + 1) result served.each is (omega arith))));
+      each = λ k result is. subst (λ l. IsResult see.end opening asked.limits.input l (k + 1) result) (sym events_are)
+          (longer see.end opening asked.limits.input v.events settles.own (k + 1) result (not_theirs (k + 1) 0 settles.own (λ none. omega (arith, none)) nobodys)
+          (subst (λ o. IsResult see.end o asked.limits.input v.events (k + 1) result) opens_first
+          (EachFrom-at (IsResult see.end (opened first) asked.limits.input v.events) 1 served.results k (k + 1) result served.each is (omega arith))));
     }
 
-    are_theirs : AreTheirs due coming opening (length (users_of ends)) ticker closed.ticker closed.history.events.items
+    as_many_users : length before.ends ≡ length asked.users
+    as_many_users = sym (length-map before.ends (λ end. (see.end end).user)) ∙ ap length theirs
+
+    are_theirs : AreTheirs opening (length asked.users) (see.ticker before.ticker) (see.ticker after.ticker) told.history.events.items
     are_theirs = record {
       asked = v.events;
       closing = settles.own;
       are = events_are;
-      callers = subst (λ n. AllByRecursion (λ (event : Happened). event.caller ≤ n) v.events) (sym (length-map ends (λ end. end.user)))
-          served.callers;
-      ticked = subst (λ o. HasTicked due coming o ticker closed.ticker v.events) opens_first served.ticked;
+      callers = subst (λ n. AllByRecursion (λ (event : Happened). event.caller ≤ n) v.events) as_many_users served.callers;
+      ticked = subst (λ o. HasTicked o (see.ticker before.ticker) (see.ticker after.ticker) v.events) opens_first served.ticked;
       before = v.state;
       leads = subst (λ o. Leads o v.events v.state) opens_first served.leads;
       settles = settles.closing;
       made = settles.extends.made;
     }
 
-    leads_last : Leads opening closed.history.events.items last.state
+    leads_last : Leads opening told.history.events.items last.state
     leads_last = subst (λ l. Leads opening l last.state) (sym handed.events) (subst (λ o. Leads o last.events last.state) opens_last handed.legal)
 
-    happened : HasHappened due coming first.opening (users_of ends) ticker closed.ticker closed.history
+    happened : HasHappened first.opening asked.users (see.ticker before.ticker) (see.ticker after.ticker) told.history
     happened = record {
       opening = handed.opening ∙ ap Some (settles.extends.same.opening ∙ served.adds.same.opening);
-      users_are = handed.users ∙ settles.extends.same.users ∙ served.adds.same.users ∙ begun.users_are ∙ sym theirs;
+      users_are = handed.users ∙ settles.extends.same.users ∙ served.adds.same.users ∙ begun.users_are;
       last = last.state;
       leads = leads_last;
       theirs = are_theirs;
@@ -148,76 +197,100 @@ module _ {S K C B D : Type 0} (left : S → Option (List ℕ)) (source_faults : 
     }
 
     -- what was shown by views was kept at some moment of the run
-    fronts : AllByRecursion (FrontsGo first.opening.count last.state.kept.count) closed.turns.items
+    fronts : AllByRecursion (FrontsGo first.opening.count last.state.kept.count) told.turns
     fronts = subst (AllByRecursion (FrontsGo first.opening.count last.state.kept.count)) sessions.turned
         (each_turns (FrontsGo first.opening.count last.state.kept.count) sessions.results (λ k result is.
-        result_fronts left source_faults held sink_faults coming limit opening closed.history.events.items last.state.kept.count
-        (λ kept was. WasKept-last_count opening (one_state first.opening (users_of ends)) closed.history.events.items last.state kept leads_last was) (k + 1) result (sessions.each k result is)))
+        result_fronts see.end asked.limits.input opening told.history.events.items last.state.kept.count
+        (λ kept was. WasKept-last_count opening (one_state first.opening asked.users) told.history.events.items last.state kept leads_last was) (k + 1) result (sessions.each k result is)))
 
-    tells_a : tells closed.disk_a ≡ tells a
-    tells_a = ap tells handed.disk_of_a ∙ whole.goes.tells_a ∙ begun.opened.tells_a
+    tells_a : back.a.tells ≡ given.a.tells
+    tells_a = ap (λ (d : DiskPair). d.a.tells) handed.disks_are ∙ whole.goes.tells_a ∙ begun.opened.tells_a
 
-    tells_b : tells closed.disk_b ≡ tells b
-    tells_b = ap tells handed.disk_of_b ∙ whole.goes.tells_b ∙ begun.opened.tells_b
+    tells_b : back.b.tells ≡ given.b.tells
+    tells_b = ap (λ (d : DiskPair). d.b.tells) handed.disks_are ∙ whole.goes.tells_b ∙ begun.opened.tells_b
 
-    stored : AreStored tells history a b opening last.state closed.history closed.disk_a closed.disk_b
+    told_back : BothTell given → BothTell back
+    told_back tell = (subst IsTrue (sym tells_a) tell.0, subst IsTrue (sym tells_b) tell.1)
+
+    tells_first : BothTell given → Tell first.journal
+    tells_first tell = tell_ab first.journal (subst IsTrue (sym begun.opened.tells_a) tell.0) (subst IsTrue (sym begun.opened.tells_b) tell.1)
+
+    -- the calls since the start, as many as are told
+    called : BothTell given → HaveCalled (disks_of first.journal) back told.history.made
+    called tell =
+        let both = whole.called (tells_first tell) in
+        subst (λ (d : DiskPair). HaveCalled (disks_of first.journal) d told.history.made) (sym handed.disks_are)
+        (subst (λ (m : Calls). HaveCalled (disks_of first.journal) (disks_of last.journal) m) (sym handed.made) (record {
+          a = called_from (disk_a first.journal).history (disk_a last.journal).history (calls_a first.journal) (calls_a last.journal)
+              (zero_first first.journal.b_counts first.journal.counting_calls first.journal.other_calls begun.opened.no_calls.0 begun.opened.no_calls.1) both.a;
+          b = called_from (disk_b first.journal).history (disk_b last.journal).history (calls_b first.journal) (calls_b last.journal)
+              (zero_second first.journal.b_counts first.journal.counting_calls first.journal.other_calls begun.opened.no_calls.0 begun.opened.no_calls.1) both.b;
+        }))
+
+    stored : AreStored given (disks_of first.journal) opening last.state told.history back
     stored = record {
       tells_a = tells_a;
       tells_b = tells_b;
-      rising = subst (λ m. AreRising no_calls closed.history.events.items m) (sym handed.made) (subst (λ l. AreRising no_calls l (calls_of last.journal)) (sym handed.events) handed.rising);
-      crash_safe = λ tell. subst (λ l. IsCrashSafe opening l closed.history.made (history closed.disk_a) (history closed.disk_b)) (sym handed.events)
-          (subst (λ o. IsCrashSafe o last.events closed.history.made (history closed.disk_a) (history closed.disk_b)) opens_last
-          (handed.crash_safe (subst IsTrue (sym tells_a) tell.0) (subst IsTrue (sym tells_b) tell.1)));
-      read = λ tell. handed.spelled (subst IsTrue (sym tells_a) tell.0) (subst IsTrue (sym tells_b) tell.1);
+      called = called;
+      rising = subst (λ m. AreRising no_calls told.history.events.items m) (sym handed.made) (subst (λ l. AreRising no_calls l (calls_of last.journal)) (sym handed.events) handed.rising);
+      crash_safe = λ tell. subst (λ l. IsCrashSafe opening l told.history.made back.a.history back.b.history) (sym handed.events)
+          (subst (λ o. IsCrashSafe o last.events told.history.made back.a.history back.b.history) opens_last (handed.crash_safe (told_back tell)));
+      read = λ tell. handed.spelled (told_back tell);
     }
 
-    -- the counts of the disks, from the start on
-    since_a : (faults a ≤ faults (disk_a first.journal)) × (faults (disk_a first.journal) ≤ faults closed.disk_a)
-    since_a = (begun.opened.later_a, omega (arith, whole.goes.faults_a, ap faults handed.disk_of_a))
+    -- the counts of the disks: to the start, to the sessions' end, and to the end
+    to_start : NoneFell given (disks_of first.journal)
+    to_start = (begun.opened.later_a, begun.opened.later_b)
 
-    since_b : (faults b ≤ faults (disk_b first.journal)) × (faults (disk_b first.journal) ≤ faults closed.disk_b)
-    since_b = (begun.opened.later_b, omega (arith, whole.goes.faults_b, ap faults handed.disk_of_b))
-
-    -- what rose up to the last view rose up to the disks that are handed back
-    up_to : (m n : D) → DiskRose faults m n (disk_a last.journal) (disk_b last.journal) → DiskRose faults m n closed.disk_a closed.disk_b
-    up_to m n rose = subst (λ x. DiskRose faults m n x closed.disk_b) (sym handed.disk_of_a) (subst (λ x. DiskRose faults m n (disk_a last.journal) x) (sym handed.disk_of_b) rose)
+    from_start : NoneFell (disks_of first.journal) back
+    from_start = subst (NoneFell (disks_of first.journal)) (sym handed.disks_are) (whole.goes.faults_a, whole.goes.faults_b)
 
     -- no more events end with a fault than the counts rose by, from the disks that the start was handed on
-    counted : AreCounted faults closed.history.events.items a b closed.disk_a closed.disk_b
-    counted = subst (λ l. AreCounted faults l a b closed.disk_a closed.disk_b) (sym events_are)
-        (subst (λ x. AreCounted faults (v.events ++ settles.own) a b x closed.disk_b) (sym handed.disk_of_a)
-        (subst (λ x. AreCounted faults (v.events ++ settles.own) a b (disk_a last.journal) x) (sym handed.disk_of_b)
-        (counted_more faults [] (v.events ++ settles.own) a b (disk_a first.journal) (disk_b first.journal) (disk_a last.journal) (disk_b last.journal) whole.goes.faults_a whole.goes.faults_b
-        (counted_none faults a b (disk_a first.journal) (disk_b first.journal) begun.opened.later_a begun.opened.later_b) whole.counted)))
+    counted_by : (events : List Happened) (w : DatabaseView) → AddsUp events first w → AreCounted events given (disks_of w.journal)
+    counted_by events w adds =
+        counted_more [] events given (disks_of first.journal) (disks_of w.journal) adds.goes.faults_a adds.goes.faults_b
+        (counted_none given (disks_of first.journal) begun.opened.later_a begun.opened.later_b) adds.counted
 
-    causes : HaveCauses faults a b closed.disk_a closed.disk_b closed.history.events.items
+    counted : AreCounted told.history.events.items given back
+    counted = subst (λ l. AreCounted l given back) (sym events_are)
+        (subst (λ (d : DiskPair). AreCounted (v.events ++ settles.own) given d) (sym handed.disks_are) (counted_by (v.events ++ settles.own) last whole))
+
+    causes : HaveCauses given back told.history.events.items
     causes = record {
-      later_a = omega (arith, since_a.0, since_a.1);
-      later_b = omega (arith, since_b.0, since_b.1);
-      causes = subst (AllByRecursion (λ (event : Happened). event.outcome ≡ Fault → DiskRose faults a b closed.disk_a closed.disk_b)) (sym events_are)
-          (All-weaker (HasCause faults first.journal last.journal) (λ (event : Happened). event.outcome ≡ Fault → DiskRose faults a b closed.disk_a closed.disk_b) (v.events ++ settles.own)
-          (λ event cause fault. disk_rose_since faults a b (disk_a first.journal) (disk_b first.journal) closed.disk_a closed.disk_b since_a since_b (up_to (disk_a first.journal) (disk_b first.journal) (cause fault))) whole.causes);
+      later = (omega (arith, to_start.0, from_start.0), omega (arith, to_start.1, from_start.1));
+      causes = subst (AllByRecursion (λ (event : Happened). event.outcome ≡ Fault → FaultOnEither given back)) (sym events_are)
+          (All-weaker (HasCause first.journal last.journal) (λ (event : Happened). event.outcome ≡ Fault → FaultOnEither given back) (v.events ++ settles.own)
+          (λ event cause fault. rose_later given (disks_of first.journal) back to_start from_start
+          (subst (FaultOnEither (disks_of first.journal)) (sym handed.disks_are) (cause fault))) whole.causes);
       counted = counted;
     }
 
-    is_ended : IsEnded faults a b closed.disk_a closed.disk_b last.state (map (λ result. result.how) served.results) closed.status
+    -- one call more failed than the events account for, where an entry is in flight still
+    one_more : (p : Happened → Bool) → ((events : List Happened) (w : DatabaseView) → AddsUp events first w → RoseBy (count_by p events) given (disks_of w.journal))
+        → IsSome last.state.flight → RoseBy (count_by p told.history.events.items + 1) given back
+    one_more p so_many flying =
+        let unsettled = settles.cause (settles.fault_is ∙ flying) in
+        let same : told.history.events.items ≡ v.events = events_are ∙ ap (λ l. v.events ++ l) unsettled.0 ∙ append-nil v.events in
+        subst (λ l. RoseBy (count_by p l + 1) given back) (sym same)
+        (subst (λ (d : DiskPair). RoseBy (count_by p v.events + 1) given d) (sym handed.disks_are)
+        (rose_once_more (count_by p v.events) given (disks_of v.journal) (disks_of last.journal)
+        (settles.extends.goes.faults_a, settles.extends.goes.faults_b) (so_many v.events v served.adds) unsettled.1))
+
+    is_ended : IsEnded given back last.state told.history.events.items hows told.status
     is_ended = record {
-      before_a = disk_a v.journal;
-      before_b = disk_b v.journal;
-      between_a = (omega (arith, begun.opened.later_a, served.adds.goes.faults_a), omega (arith, settles.extends.goes.faults_a, ap faults handed.disk_of_a));
-      between_b = (omega (arith, begun.opened.later_b, served.adds.goes.faults_b), omega (arith, settles.extends.goes.faults_b, ap faults handed.disk_of_b));
-      rose = λ flying. up_to (disk_a v.journal) (disk_b v.journal) (settles.cause (settles.fault_is ∙ flying));
-      status_is = over.status_is ∙ status_over_is over.fault over.status _ served.is_status ∙ ap (λ f. status_at_end f (map (λ result. result.how) served.results)) settles.fault_is;
+      commands = one_more is_failed_command (λ events w adds. (counted_by events w adds).commands);
+      others = one_more is_failed_other (λ events w adds. (counted_by events w adds).others);
+      status_is = over.status_is ∙ status_over_is over.fault over.status _ served.is_status ∙ ap (λ f. status_at_end f hows) settles.fault_is;
     }
 
     -- the sessions were served over the list that the disks held
-    pub IsServed-of : IsFound tells history a b (disk_a first.journal) (disk_b first.journal) first.opening
-        → IsServed left source_faults held sink_faults coming due tells history faults limit ends ticker a b closed
+    pub IsServed-of : IsFound given (disks_of first.journal) first.opening → IsServed see asked before after told
     unfolding happened
     IsServed-of found = record {
       kept = first.opening;
-      found = record { start_a = disk_a first.journal; start_b = disk_b first.journal; found = found };
-      hows = map (λ result. result.how) served.results;
+      start = disks_of first.journal;
+      found = found;
+      hows = hows;
       sessions = sessions;
       happened = happened;
       fronts = fronts;
@@ -227,49 +300,36 @@ module _ {S K C B D : Type 0} (left : S → Option (List ℕ)) (source_faults : 
       why = over.why;
     }
 
-  abbrev pub Came : ℕ → List (End S K C) → Ticker B C → D → D → Closed S K C B D → Type 0
-  Came limit ends ticker a b closed = Serves left source_faults held sink_faults coming due tells history faults limit ends ticker a b closed
-
   -- mode serve doesn't come to the status of words that ask nothing
-  pub serves_is_not_1 : (limit : ℕ) (ends : List (End S K C)) (ticker : Ticker B C) (a b : D) (closed : Closed S K C B D)
-      → Came limit ends ticker a b closed → closed.status ≡ 1 → ⊥
-  serves_is_not_1 limit ends ticker a b closed (inl undone) one = omega (arith, one, undone.status_is)
-  serves_is_not_1 limit ends ticker a b closed (inr (inl refused)) one = refused_is_not_1 refused.cause (sym refused.status_is ∙ one)
-  serves_is_not_1 limit ends ticker a b closed (inr (inr served)) one =
+  pub serves_is_not_1 : Serves see asked before after told → told.status ≡ 1 → ⊥
+  serves_is_not_1 (inl refused) one = refused_is_not_1 refused.cause (sym refused.status_is ∙ one)
+  serves_is_not_1 (inr served) one =
       end_is_not_1 (is_some served.happened.last.flight) served.hows (sym served.ended.status_is ∙ one)
 
-  -- of the words that are asked
-  pub serves_so : (asked other : Asked) (ends : List (End S K C)) (ticker : Ticker B C) (a b : D) (closed : Closed S K C B D)
-      → asked ≡ other → Came asked.limits.input ends ticker a b closed → Came other.limits.input ends ticker a b closed
-  serves_so asked other ends ticker a b closed same came =
-      subst (λ (x : Asked). Came x.limits.input ends ticker a b closed) same came
-
   -- sessions that no fault disturbs, over disks that don't fail
-  served_quietly : (limit : ℕ) (ends : List (End S K C)) (ticker : Ticker B C) (a b : D) (closed : Closed S K C B D)
-      → IsServed left source_faults held sink_faults coming due tells history faults limit ends ticker a b closed
-      → AreSound tells history faults a b closed.disk_a closed.disk_b
-      → EachEnd (IsFaultless left source_faults sink_faults limit) ends closed.ends.items → (closed.status ≡ 0) ⊎ (closed.status ≡ 9)
-  served_quietly limit ends ticker a b closed served sound each = subst (λ n. (n ≡ 0) ⊎ (n ≡ 9)) (sym served.ended.status_is) (by_flight (is_some served.happened.last.flight) refl)
+  served_quietly : IsServed see asked before after told → AreSound given back
+      → EachEnd (λ old new. IsFaultless asked.limits.input (see.end old) (see.end new)) before.ends after.ends
+      → (told.status ≡ 0) ⊎ (told.status ≡ 9)
+  served_quietly served sound each = subst (λ n. (n ≡ 0) ⊎ (n ≡ 9)) (sym served.ended.status_is) (by_flight (is_some served.happened.last.flight) refl)
     where
-      s : AreSessions left source_faults held sink_faults coming (opening_of served.kept (users_of ends)) limit ends closed.ends.items closed.turns.items closed.history.events.items served.hows
+      s : AreSessions see.end (opening_of served.kept asked.users) asked.limits.input before.ends after.ends told.turns told.history.events.items served.hows
       s = served.sessions
 
       each_quiet : (status_of_all served.hows ≡ 0) ⊎ (status_of_all served.hows ≡ 9)
       each_quiet = subst (λ hows. (status_of_all hows ≡ 0) ⊎ (status_of_all hows ≡ 9)) s.ended (quiet_status s.results (λ k result is.
-          quiet left source_faults held sink_faults coming limit (opening_of served.kept (users_of ends)) closed.history.events.items (k + 1) result (s.each k result is)
+          quiet see.end asked.limits.input (opening_of served.kept asked.users) told.history.events.items (k + 1) result (s.each k result is)
           (each k result.old result.new (subst (λ l. slice_get l k ≡ Some result.old) s.old (slice_get-map (λ r. r.old) s.results k result is))
           (subst (λ l. slice_get l k ≡ Some result.new) s.new (slice_get-map (λ r. r.new) s.results k result is)))))
 
       by_flight : (flying : Bool) → is_some served.happened.last.flight ≡ flying → (status_at_end flying served.hows ≡ 0) ⊎ (status_at_end flying served.hows ≡ 9)
-      by_flight true is = absurd (sound.no_fault (disk_rose_since faults a b served.ended.before_a served.ended.before_b closed.disk_a closed.disk_b served.ended.between_a served.ended.between_b (served.ended.rose is)))
+      by_flight true is = absurd (sound.no_fault (rose_by_more (count_by is_failed_command told.history.events.items) given back served.causes.later (served.ended.commands is)))
       by_flight false is = each_quiet
 
   module _ (spelled_once : (a b : List ℕ) (kept : Kept) (why : StartWhy) → SpellsKept a b kept → IsByBytes why → Explains a b why → ⊥) where
     -- without a fault and within the limit the status is 0 or 9
-    pub serves_complete : (limit : ℕ) (ends : List (End S K C)) (ticker : Ticker B C) (a b : D) (closed : Closed S K C B D)
-        → Came limit ends ticker a b closed → AreSound tells history faults a b closed.disk_a closed.disk_b
-        → EachEnd (IsFaultless left source_faults sink_faults limit) ends closed.ends.items → (closed.status ≡ 0) ⊎ (closed.status ≡ 9)
-    serves_complete limit ends ticker a b closed (inl undone) sound each = inr undone.status_is
-    serves_complete limit ends ticker a b closed (inr (inl refused)) sound each = subst (λ n. (n ≡ 0) ⊎ (n ≡ 9)) (sym refused.status_is)
-        (refused_for_memory tells history faults spelled_once a b closed.disk_a closed.disk_b refused.cause refused.disks sound)
-    serves_complete limit ends ticker a b closed (inr (inr served)) sound each = served_quietly limit ends ticker a b closed served sound each
+    pub serves_complete : Serves see asked before after told → AreSound given back
+        → EachEnd (λ old new. IsFaultless asked.limits.input (see.end old) (see.end new)) before.ends after.ends
+        → (told.status ≡ 0) ⊎ (told.status ≡ 9)
+    serves_complete (inl refused) sound each = subst (λ n. (n ≡ 0) ⊎ (n ≡ 9)) (sym refused.status_is)
+        (refused_for_memory spelled_once given back refused.cause refused.disks sound)
+    serves_complete (inr served) sound each = served_quietly served sound each

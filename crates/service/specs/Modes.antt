@@ -1,61 +1,51 @@
 -- The runs that serve no session, by their mode. This project's own.
-use Rattle.std.specs.Prelude.{◌≡◌, ◌⊎◌, Bool, ℕ, List, [], ◌∷◌, Option}
+use Rattle.std.specs.Prelude.{◌≡◌, ◌⊎◌, ℕ, List, [], ◌∷◌}
 use Rattle.cfg_values.specs.Number.{IsNumberWithin}
 use Rattle.command_line.specs.declared.asked.Asked.{Asked}
 use Rattle.command_line.specs.declared.asked.RunMode.{RunMode}
 use Rattle.command_line.specs.declared.asked.RunMode.TheVariants.{Init, Serve, Check, Gen}
-use Rattle.disk_model.specs.Disk.{History as DiskHistory}
-use Rattle.modes.specs.declared.did.Did.{Did}
+use Rattle.disk_model.specs.Pair.{DiskPair}
+use Rattle.io_edge.specs.Ends.{SinkView}
 use Rattle.modes.specs.declared.did.StartWhy0.TheVariants.{None as NoWhy}
 use Rattle.modes.specs.Modes.{IsCheck, IsInit, IsTold}
 use Rattle.session_history.specs.declared.history.History.{History}
 use Rattle.session_shell.specs.declared.end.End.{End}
-use Rattle.session_threads.specs.declared.ticking.Ticker.{Ticker}
-use Rattle.service.specs.declared.closed.Closed.{Closed}
 use Rattle.service.specs.Generating.{IsGenerated}
-use Rattle.service.specs.Run.{IsEmpty, IsIdle}
+use Rattle.service.specs.Run.{IsEmpty}
+use Rattle.service.specs.World.{Told, Views, World}
 
 -- mode gen: the configuration was made, and that is told; or memory was wanting, and nothing happened
-abbrev pub IsGen : {K : Type 0} → (K → Option (List ℕ)) → (K → ℕ) → ℕ → List (List ℕ) → K → K → ℕ → History → Type 0
-IsGen held faults number users old new status history =
-    ((status ≡ 9) × (new ≡ old) × IsEmpty history)
-    ⊎ ((text : List ℕ) × IsGenerated number users history text × IsTold held faults text old new status)
+abbrev pub IsGen : Type 0 → ℕ → List (List ℕ) → SinkView → SinkView → ℕ → History → Type 0
+IsGen Untouched number users old new status history =
+    ((status ≡ 9) × Untouched × IsEmpty history)
+    ⊎ ((text : List ℕ) × IsGenerated number users history text × IsTold text old new status)
 
--- what a run came to
-abbrev pub did_of : {S K C B D : Type 0} → Closed S K C B D → Did D
-did_of closed = record { status = closed.status; why = closed.why; a = closed.disk_a; b = closed.disk_b }
+-- what came of a mode, of the one sink and the two disks; `Untouched` says that the sink wasn't called
+abbrev pub RunsIn : Type 0 → RunMode → Asked → SinkView → SinkView → DiskPair → DiskPair → Told → Type 0
+RunsIn Untouched Init asked old new before after told =
+    IsInit Untouched old new before after told.status told.why × IsEmpty told.history
+RunsIn Untouched Check asked old new before after told =
+    IsCheck Untouched old new before after told.status told.why × IsEmpty told.history
+RunsIn Untouched Gen asked old new before after told =
+    (number : ℕ) → IsNumberWithin 1 3000 asked.place number
+    → IsGen Untouched number asked.users old new told.status told.history
+RunsIn Untouched Serve asked old new before after told = ⊥
 
--- what came of the mode, of the one sink and the two disks; mode gen leaves the disks alone
-abbrev pub RunsIn : {S K C B D : Type 0} → (K → Option (List ℕ)) → (K → ℕ) → (D → Bool) → (D → DiskHistory) → (D → ℕ)
-    → RunMode → Asked → K → K → D → D → Closed S K C B D → Type 0
-RunsIn held sink_faults tells history faults Init asked old new a b closed =
-    IsInit held sink_faults tells history faults old new a b (did_of closed) × IsEmpty closed.history
-RunsIn held sink_faults tells history faults Check asked old new a b closed =
-    IsCheck held sink_faults tells history faults old new a b (did_of closed) × IsEmpty closed.history
-RunsIn held sink_faults tells history faults Gen asked old new a b closed =
-    ((number : ℕ) → IsNumberWithin 1 3000 asked.place number
-    → IsGen held sink_faults number asked.users old new closed.status closed.history)
-    × (closed.disk_a ≡ a) × (closed.disk_b ≡ b) × (closed.why ≡ NoWhy)
-RunsIn held sink_faults tells history faults Serve asked old new a b closed = ⊥
+-- of an end the sink alone was called
+abbrev pub IsSinkAlone : {S K C : Type 0} → End S K C → End S K C → Type 0
+IsSinkAlone old new = new ≡ record old { sink = new.sink }
 
--- a run of a mode that serves no session: there is one end, of which the sink alone was called
-pub record RunsMode {S K C B D : Type 0} (held : K → Option (List ℕ)) (sink_faults : K → ℕ) (tells : D → Bool)
-    (history : D → DiskHistory) (faults : D → ℕ) (asked : Asked) (ends : List (End S K C)) (a b : D) (closed : Closed S K C B D) : Type 0 where
-  pub old : End S K C
-  pub new : End S K C
-  pub one : ends ≡ old ∷ []
-  pub one_now : closed.ends.items ≡ new ∷ []
-  pub same : new ≡ record old { sink = new.sink }
-  pub no_turns : closed.turns.items ≡ []
-  pub ran : RunsIn held sink_faults tells history faults asked.mode asked old.sink new.sink a b closed
-
--- memory was wanting for the words themselves: nothing was done, no disk was called, the ticker is as it was given, and the
--- start has no cause
-pub record IsUndone {S K C B D : Type 0} (ends : List (End S K C)) (ticker : Ticker B C) (a b : D)
-    (closed : Closed S K C B D) : Type 0 where
-  pub status_is : closed.status ≡ 9
-  pub idle : IsIdle ends closed.ends.items closed.turns.items closed.history
-  pub why : closed.why ≡ NoWhy
-  pub ticker_same : closed.ticker ≡ ticker
-  pub disk_a_same : closed.disk_a ≡ a
-  pub disk_b_same : closed.disk_b ≡ b
+-- a run of a mode that serves no session: there is one end, of which the sink alone was called; the ticker isn't asked, and mode
+-- gen calls no disk
+pub record RunsMode {E T D : Type 0} (see : Views E T D) (SinkAlone : E → E → Type 0) (asked : Asked)
+    (before after : World E T D) (told : Told) : Type 0 where
+  pub old : E
+  pub new : E
+  pub one : before.ends ≡ old ∷ []
+  pub one_now : after.ends ≡ new ∷ []
+  pub alone : SinkAlone old new
+  pub ticker_same : after.ticker ≡ before.ticker
+  pub disks_same : asked.mode ≡ Gen → (after.a ≡ before.a) × (after.b ≡ before.b) × (told.why ≡ NoWhy)
+  pub no_turns : told.turns ≡ []
+  pub ran : RunsIn (new ≡ old) asked.mode asked (see.end old).sink (see.end new).sink (see.disks before.a before.b)
+      (see.disks after.a after.b) told

@@ -6,14 +6,15 @@ ghost use Rattle.cfg_values.specs.Number.{IsNumberWithin};
 ghost use Rattle.cfg_values.specs.Spelling.{IsSpelling};
 ghost use Rattle.command_line.specs.declared.asked.RunMode.TheVariants.{Init, Check, Gen};
 ghost use Rattle.modes.specs.declared.did.StartWhy0.TheVariants.{None as NoWhy};
-ghost use Rattle.service.specs.Modes.{IsGen, RunsMode};
+ghost use Rattle.service.specs.Modes.{IsGen, IsSinkAlone, RunsMode};
+ghost use Rattle.service.specs.World.{Views, World, told_of, views, world_of};
 
 use crate::closed::{Closed, no_history};
 use crate::generating::{Generated, generate};
 use cfg_base::{NoMemory, Users};
 use command_line::Asked;
 use disk_model::Disk;
-use io_edge::Sink;
+use io_edge::{Beat, Clock, Sink, Source};
 use modes::{Did, StartWhy0, check, init, number_of, tell};
 use session_history::History;
 use session_shell::End;
@@ -44,7 +45,7 @@ fn closed<S, K, C, B, D>(
 }
 
 /// Makes a list of commits on the disks.
-pub(crate) fn run_init<S, K: Sink, C, B, D: Disk>(
+pub(crate) fn run_init<S: Source, K: Sink, C: Clock, B: Beat, D: Disk>(
     alloc: Global,
     asked: Asked,
     ends: Vec<End<S, K, C>>,
@@ -54,8 +55,9 @@ pub(crate) fn run_init<S, K: Sink, C, B, D: Disk>(
 ) -> Closed<S, K, C, B, D>
     requires mode { asked.mode ≡ Init }
     requires one { length ends.items ≡ 1 }
-    ensures ran { RunsMode K.held K.faults D.tells D.history D.faults asked ends.items disk_a disk_b result }
-    ensures ticker { result.ticker ≡ ticker }
+    ensures { let see : Views _ _ _ = views S.view K.view C.coming B.coming D.view in
+        let before : World _ _ _ = record { ends = ends.items; ticker = ticker; a = disk_a; b = disk_b } in
+        RunsMode see IsSinkAlone asked before (world_of result) (told_of result) }
 {
     let mut ends = ends;
     let mut end = ends.remove(0);
@@ -65,7 +67,7 @@ pub(crate) fn run_init<S, K: Sink, C, B, D: Disk>(
 }
 
 /// Tells what the list of commits on the disks has.
-pub(crate) fn run_check<S, K: Sink, C, B, D: Disk>(
+pub(crate) fn run_check<S: Source, K: Sink, C: Clock, B: Beat, D: Disk>(
     alloc: Global,
     asked: Asked,
     ends: Vec<End<S, K, C>>,
@@ -75,8 +77,9 @@ pub(crate) fn run_check<S, K: Sink, C, B, D: Disk>(
 ) -> Closed<S, K, C, B, D>
     requires mode { asked.mode ≡ Check }
     requires one { length ends.items ≡ 1 }
-    ensures ran { RunsMode K.held K.faults D.tells D.history D.faults asked ends.items disk_a disk_b result }
-    ensures ticker { result.ticker ≡ ticker }
+    ensures { let see : Views _ _ _ = views S.view K.view C.coming B.coming D.view in
+        let before : World _ _ _ = record { ends = ends.items; ticker = ticker; a = disk_a; b = disk_b } in
+        RunsMode see IsSinkAlone asked before (world_of result) (told_of result) }
 {
     let mut ends = ends;
     let mut end = ends.remove(0);
@@ -88,7 +91,7 @@ pub(crate) fn run_check<S, K: Sink, C, B, D: Disk>(
 /// Makes a configuration of so many interfaces, and tells what came of it.
 fn tell_generated<K: Sink>(alloc: Global, sink: &mut K, count: u64, users: Users) -> (u8, History)
     requires { 0 < length users }
-    ensures { IsGen K.held K.faults count users sink.old sink.new result.0 result.1 }
+    ensures { IsGen (sink.new ≡ sink.old) count users (K.view sink.old) (K.view sink.new) result.0 result.1 }
 {
     match generate(alloc, count, users) {
         Ok(Generated { history, text }) => (tell(sink, text.as_slice()), history),
@@ -105,7 +108,7 @@ fn count_of(place: &[u8]) -> u64
 }
 
 /// Makes a configuration of as many interfaces as the place says. The disks aren't called.
-pub(crate) fn run_gen<S, K: Sink, C, B, D: Disk>(
+pub(crate) fn run_gen<S: Source, K: Sink, C: Clock, B: Beat, D: Disk>(
     alloc: Global,
     asked: Asked,
     ends: Vec<End<S, K, C>>,
@@ -117,8 +120,9 @@ pub(crate) fn run_gen<S, K: Sink, C, B, D: Disk>(
     requires one { length ends.items ≡ 1 }
     requires place { IsSpelling (Number 1 3000) asked.place }
     requires users { 0 < length asked.users }
-    ensures ran { RunsMode K.held K.faults D.tells D.history D.faults asked ends.items disk_a disk_b result }
-    ensures ticker { result.ticker ≡ ticker }
+    ensures { let see : Views _ _ _ = views S.view K.view C.coming B.coming D.view in
+        let before : World _ _ _ = record { ends = ends.items; ticker = ticker; a = disk_a; b = disk_b } in
+        RunsMode see IsSinkAlone asked before (world_of result) (told_of result) }
 {
     let mut ends = ends;
     let mut end = ends.remove(0);

@@ -1,19 +1,23 @@
 //! The top call: it does what its words ask, and hands everything back.
 
-ghost use Rattle.std.specs.Prelude.{◌≡◌, ◌≢◌, ◌⊎◌, ◌↔◌, ◌≤◌, [], length};
+ghost use Rattle.std.specs.Prelude.{◌≡◌, ◌≢◌, ◌⊎◌, ◌↔◌, ◌≤◌, ℕ, List, [], length, Option, Some};
 ghost use Rattle.command_line.specs.Asked.{Asks};
 ghost use Rattle.command_line.specs.declared.asked.Asked.{Asked};
 ghost use Rattle.command_line.specs.declared.asked.RunMode.TheVariants.{Serve};
-ghost use Rattle.modes.specs.declared.did.StartWhy0.TheVariants.{None as NoWhy, Why};
+ghost use Rattle.disk_model.specs.Pair.{pair_of};
+ghost use Rattle.modes.specs.declared.did.StartWhy0.TheVariants.{Why};
 ghost use Rattle.modes.specs.Modes.{status_of as status_of_start};
 ghost use Rattle.config_db.specs.View.{opened};
+ghost use Rattle.session_shell.specs.Opened.{end_view};
 ghost use Rattle.session_threads.specs.Results.{users_of};
 ghost use Rattle.session_threads.specs.Rows.{HasRoom};
 ghost use Rattle.session_threads.specs.Served.{HasReaders};
-ghost use Rattle.service.specs.Modes.{IsUndone, RunsMode};
-ghost use Rattle.service.specs.Run.{AreEnds, AsksToServe, BeginsWithDisks, EachEnd, IsAsking, IsFaultless, IsIdle};
+ghost use Rattle.service.specs.Modes.{IsSinkAlone};
+ghost use Rattle.service.specs.Run.{AreEnds, AsksFor, EachEnd, IsAsking, IsFaultless, IsIdle, IsUndone, IsUntouched};
+ghost use Rattle.service.specs.Running.{Ran, RanIn, Serves};
 ghost use Rattle.service.specs.ServedOver.{IsServedOver, status_over};
-ghost use Rattle.service.specs.Serving.{AreSound, Serves};
+ghost use Rattle.service.specs.Serving.{AreSound};
+ghost use Rattle.service.specs.World.{Views, World, told_of, views, world_of};
 
 use crate::alone::{run_check, run_gen, run_init};
 use crate::closed::{Closed, no_history};
@@ -23,7 +27,7 @@ use command_line::{Asked, RunMode, Usage, read_words, words_ask_one_thing};
 use config_db::{ClosedBook, Database};
 use disk_model::Disk;
 use io_edge::{Beat, Clock, Sink, Source};
-use modes::StartWhy0;
+use modes::{StartWhy0, status_of_start};
 use session_history::histories_have_one_outcome;
 use session_shell::End;
 use session_threads::{Room, Sessions, Ticker, make_room, serve_all};
@@ -31,7 +35,7 @@ use std::alloc::Global;
 use std::marker::Brand;
 use std::sync::Wait;
 use std::thread::Threads;
-use stored_ledger::{StartFault, StartWhy, starts_have_one_cause};
+use stored_ledger::{StartFault, starts_have_one_cause};
 
 /// A run that was not begun.
 fn idle<S, K, C, B, D>(
@@ -43,10 +47,8 @@ fn idle<S, K, C, B, D>(
     disk_b: D,
 ) -> Closed<S, K, C, B, D>
     ensures status { result.status ≡ status }
-    ensures idle { IsIdle ends.items result.ends.items result.turns.items result.history }
-    ensures why { result.why ≡ NoWhy }
-    ensures ticker { result.ticker ≡ ticker }
-    ensures disks { (result.disk_a ≡ disk_a) × (result.disk_b ≡ disk_b) }
+    ensures untouched { let before : World _ _ _ = record { ends = ends.items; ticker = ticker; a = disk_a; b = disk_b } in
+        IsUntouched before (world_of result) (told_of result) }
 {
     Closed {
         status,
@@ -60,20 +62,6 @@ fn idle<S, K, C, B, D>(
     }
 }
 
-/// The status of a refused start.
-fn status_of_start(why: StartWhy) -> u8
-    ensures { result ≡ status_of_start why }
-{
-    match why {
-        StartWhy::NotAJournal => 2,
-        StartWhy::Damaged { .. } => 3,
-        StartWhy::DiskFault => 4,
-        StartWhy::Exists => 8,
-        StartWhy::NoMemory => 9,
-        StartWhy::BadRecord { .. } => 10,
-    }
-}
-
 /// A run whose start was refused.
 fn refused<S, K, C, B, D>(
     alloc: Global,
@@ -82,9 +70,9 @@ fn refused<S, K, C, B, D>(
     ticker: Ticker<B, C>,
 ) -> Closed<S, K, C, B, D>
     ensures status { result.status ≡ status_of_start fault.why }
-    ensures idle { IsIdle ends.items result.ends.items result.turns.items result.history }
     ensures why { result.why ≡ Why fault.why }
-    ensures ticker { result.ticker ≡ ticker }
+    ensures idle { IsIdle (told_of result) }
+    ensures ends { (result.ends ≡ ends) × (result.ticker ≡ ticker) }
     ensures disks { (result.disk_a ≡ fault.a) × (result.disk_b ≡ fault.b) }
 {
     let StartFault {
@@ -134,8 +122,8 @@ where
     requires room { HasRoom (length ends.items) room }
     requires few { length ends.items ≤ 64 }
     requires readers { HasReaders database.opening (length ends.items) database.readers }
-    ensures { IsServedOver S.left S.faults K.held K.faults C.coming B.coming D.tells D.history D.faults limits.input
-        ends.items ticker database result }
+    ensures { let see : Views _ _ _ = views S.view K.view C.coming B.coming D.view in
+        IsServedOver see limits.input ends.items ticker database (world_of result) (told_of result) }
 {
     let Sessions {
         database,
@@ -187,8 +175,9 @@ where
     requires users { users_of ends.items ≡ asked.users }
     requires few { length asked.users ≤ 64 }
     requires room { HasRoom (length asked.users) room }
-    ensures { Serves S.left S.faults K.held K.faults C.coming B.coming D.tells D.history D.faults asked.limits.input
-        ends.items ticker disk_a disk_b result }
+    ensures { let see : Views _ _ _ = views S.view K.view C.coming B.coming D.view in
+        let before : World _ _ _ = record { ends = ends.items; ticker = ticker; a = disk_a; b = disk_b } in
+        Serves see asked before (world_of result) (told_of result) }
 {
     histories_have_one_outcome();
     let limits = asked.limits;
@@ -224,8 +213,9 @@ where
     requires book { (front.book ≡ J.book) × (shelf ≡ J.book) × (front.list ≡ []) }
     requires users { users_of ends.items ≡ asked.users }
     requires few { length asked.users ≤ 64 }
-    ensures { Serves S.left S.faults K.held K.faults C.coming B.coming D.tells D.history D.faults asked.limits.input
-        ends.items ticker disk_a disk_b result }
+    ensures { let see : Views _ _ _ = views S.view K.view C.coming B.coming D.view in
+        let before : World _ _ _ = record { ends = ends.items; ticker = ticker; a = disk_a; b = disk_b } in
+        IsUndone before (world_of result) (told_of result) ⊎ Serves see asked before (world_of result) (told_of result) }
 {
     match make_room(alloc, &asked.users) {
         Ok(room) => serve_from::<R, S, K, C, B, D, J>(
@@ -254,13 +244,45 @@ where
     D: Disk + Send,
     requires users { users_of ends.items ≡ asked.users }
     requires few { length asked.users ≤ 64 }
-    ensures { Serves S.left S.faults K.held K.faults C.coming B.coming D.tells D.history D.faults asked.limits.input
-        ends.items ticker disk_a disk_b result }
+    ensures { let see : Views _ _ _ = views S.view K.view C.coming B.coming D.view in
+        let before : World _ _ _ = record { ends = ends.items; ticker = ticker; a = disk_a; b = disk_b } in
+        IsUndone before (world_of result) (told_of result) ⊎ Serves see asked before (world_of result) (told_of result) }
 {
     let (shelf, front) = open_book();
     serve_under::<R, S, K, C, B, D, Brand>(
         rt, alloc, shelf, front, asked, ends, ticker, disk_a, disk_b,
     )
+}
+
+/// Does what is asked, in its mode.
+fn run_asked<R, S, K, C, B, D>(
+    rt: &R,
+    alloc: Global,
+    asked: Asked,
+    ends: Vec<End<S, K, C>>,
+    ticker: Ticker<B, C>,
+    disk_a: D,
+    disk_b: D,
+) -> Closed<S, K, C, B, D>
+where
+    R: Threads + Wait + Sync,
+    S: Source + Send,
+    K: Sink + Send,
+    C: Clock + Send,
+    B: Beat + Send,
+    D: Disk + Send,
+    requires asks { (words : List (List ℕ)) × Asks words asked }
+    requires users { users_of ends.items ≡ asked.users }
+    ensures { let see : Views _ _ _ = views S.view K.view C.coming B.coming D.view in
+        let before : World _ _ _ = record { ends = ends.items; ticker = ticker; a = disk_a; b = disk_b } in
+        Ran see IsSinkAlone (Some asked) before (world_of result) (told_of result) }
+{
+    match asked.mode {
+        RunMode::Serve => serve_asked(rt, alloc, asked, ends, ticker, disk_a, disk_b),
+        RunMode::Init => run_init(alloc, asked, ends, ticker, disk_a, disk_b),
+        RunMode::Check => run_check(alloc, asked, ends, ticker, disk_a, disk_b),
+        RunMode::Gen => run_gen(alloc, asked, ends, ticker, disk_a, disk_b),
+    }
 }
 
 /// Does what the words ask, with the ends that they ask for. Mode serve opens the list of commits on the two disks,
@@ -283,37 +305,25 @@ where
     B: Beat + Send,
     D: Disk + Send,
     requires ends { AreEnds words.now ends.items }
+    // What the words ask, and what it came to; `AsksFor words None` says that they ask nothing.
+    ensures ran { let see : Views _ _ _ = views S.view K.view C.coming B.coming D.view in
+        let before : World _ _ _ = record { ends = ends.items; ticker = ticker; a = disk_a; b = disk_b } in
+        (asked : Option Asked) → AsksFor words.now asked
+        → Ran see IsSinkAlone asked before (world_of result) (told_of result) }
     ensures usage { (result.status ≡ 1) ↔ ((result.status ≢ 9) × (IsAsking words.now → ⊥)) }
-    ensures refused { (IsAsking words.now → ⊥) → IsIdle ends.items result.ends.items result.turns.items result.history }
-    ensures served { (asked : Asked) → Asks words.now asked → asked.mode ≡ Serve
-        → Serves S.left S.faults K.held K.faults C.coming B.coming D.tells D.history D.faults asked.limits.input
-        ends.items ticker disk_a disk_b result }
     // Where the disks spell a list, no disk, no source and no sink has a fault, and each input is told and within the limit, all
     // sessions end clean.
     ensures complete { (asked : Asked) → Asks words.now asked → asked.mode ≡ Serve
-        → AreSound D.tells D.history D.faults disk_a disk_b result.disk_a result.disk_b
-        → EachEnd (IsFaultless S.left S.faults K.faults asked.limits.input) ends.items result.ends.items
+        → AreSound (pair_of D.view disk_a disk_b) (pair_of D.view result.disk_a result.disk_b)
+        → EachEnd (λ old new. IsFaultless asked.limits.input (end_view S.view K.view C.coming old)
+        (end_view S.view K.view C.coming new)) ends.items result.ends.items
         → (result.status ≡ 0) ⊎ (result.status ≡ 9) }
-    ensures modes { (asked : Asked) → Asks words.now asked → asked.mode ≢ Serve
-        → IsUndone ends.items ticker disk_a disk_b result
-        ⊎ RunsMode K.held K.faults D.tells D.history D.faults asked ends.items disk_a disk_b result }
-    // Mode serve alone asks the ticker.
-    ensures ticker { (AsksToServe words.now → ⊥) → result.ticker ≡ ticker }
-    // Only the modes that begin with disks call them, and have a refused start.
-    ensures disks { (BeginsWithDisks words.now → ⊥)
-        → (result.disk_a ≡ disk_a) × (result.disk_b ≡ disk_b) × (result.why ≡ NoWhy) }
 {
     words_ask_one_thing();
     starts_have_one_cause();
-    let asked = match read_words(alloc, words) {
-        Ok(asked) => asked,
-        Err(Usage::Refused) => return idle(alloc, 1, ends, ticker, disk_a, disk_b),
-        Err(Usage::NoMemory) => return idle(alloc, 9, ends, ticker, disk_a, disk_b),
-    };
-    match asked.mode {
-        RunMode::Serve => serve_asked(rt, alloc, asked, ends, ticker, disk_a, disk_b),
-        RunMode::Init => run_init(alloc, asked, ends, ticker, disk_a, disk_b),
-        RunMode::Check => run_check(alloc, asked, ends, ticker, disk_a, disk_b),
-        RunMode::Gen => run_gen(alloc, asked, ends, ticker, disk_a, disk_b),
+    match read_words(alloc, words) {
+        Ok(asked) => run_asked(rt, alloc, asked, ends, ticker, disk_a, disk_b),
+        Err(Usage::Refused) => idle(alloc, 1, ends, ticker, disk_a, disk_b),
+        Err(Usage::NoMemory) => idle(alloc, 9, ends, ticker, disk_a, disk_b),
     }
 }

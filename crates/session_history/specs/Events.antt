@@ -1,5 +1,6 @@
 -- The events of a run, as the machine takes them one by one. This project's own.
 use Rattle.std.specs.Prelude.{◌≡◌, ℕ, ◌+◌, ◌==◌, ◌<◌, ◌&&◌, Bool, true, false, List, [], ◌∷◌, length, take, if◌then◌else◌, Some, slice_get, max}
+use Rattle.std.specs.List.{AllByRecursion}
 use Rattle.commands.specs.declared.command.Command.{Command}
 use Rattle.config_core.specs.declared.event.Event.{Event}
 use Rattle.config_core.specs.declared.event.Event.TheVariants.{Settle, Revert, Command as CommandOf}
@@ -44,6 +45,14 @@ abbrev pub is_command : Event → Bool
 is_command (CommandOf command) = true
 is_command (Settle is_kept) = false
 is_command Revert = false
+
+-- no event is a command
+abbrev pub NoCommand : List Happened → Type 0
+NoCommand events = AllByRecursion (λ event. is_command event.event ≡ false) events
+
+-- an event is a caller's, at that moment
+abbrev pub IsEventOf : ℕ → ℕ → Happened → Type 0
+IsEventOf caller moment event = (event.caller ≡ caller) × (event.moment ≡ moment)
 
 -- an event is a command of that caller
 abbrev pub is_asked_by : ℕ → Happened → Bool

@@ -6,7 +6,7 @@ use Rattle.std.proofs.lemmas.Bool.{false≢true}
 use Rattle.cfg_base.specs.Counts.{Rose}
 use Rattle.io_edge.specs.Ends.{behind}
 use Rattle.io_edge.specs.Feed.{Feed}
-use Rattle.io_edge.specs.Line.{TellsBoth, Gives, IsEndedLine, IsLastLine, IsFull, IsCutOff}
+use Rattle.io_edge.specs.Line.{HasNoLf, TellsBoth, Gives, IsEndedLine, IsLastLine, IsFull, IsCutOff}
 use Rattle.io_edge.specs.Wrote.{WrotePart}
 use Rattle.io_edge.specs.declared.lines.Line.{Line}
 use Rattle.io_edge.specs.declared.lines.Line.TheVariants.{Text, TooLong, End, Failed, InputFull as Full}
@@ -64,14 +64,20 @@ pub record Stopped (how : How) (reading : Reading) (room room' : ℕ) (before le
   pub is : before ≡ part ++ left
   pub took : room ≡ length part + room'
   pub ends : EndsBy how reading (lines_of room before)
+  pub cut : how ≡ SourceFault → HasNoLf part
 
 -- a line that was taken and not served
 skipped : (line : Line) (reading : Reading) (room room' : ℕ) (old left : List ℕ) → (reading ≡ Out → ⊥) → Took line room room' old left → Stopped NoMemory reading room room' old left
 skipped line reading room room' old left within (inl (more, inl took)) =
-    record { part = took.line ++ 10 ∷ []; is = took.bytes ∙ sym (append_assoc took.line (10 ∷ []) left); took = omega (arith, took.room, length-append took.line (10 ∷ [])); ends = within }
+    record { part = took.line ++ 10 ∷ []; is = took.bytes ∙ sym (append_assoc took.line (10 ∷ []) left); took = omega (arith, took.room, length-append took.line (10 ∷ [])); ends = within; cut = λ is. absurd (cc) }
 skipped line reading room room' old left within (inl (more, inr took)) =
-    record { part = took.line; is = took.bytes ∙ sym (append-nil took.line) ∙ ap (λ l. took.line ++ l) (sym took.used_up); took = took.room; ends = within }
-skipped line reading room room' old left within (inr (is, none, none', same)) = record { part = []; is = none ∙ sym none'; took = omega (arith, same); ends = within }
+    record { part = took.line; is = took.bytes ∙ sym (append-nil took.line) ∙ ap (λ l. took.line ++ l) (sym took.used_up); took = took.room; ends = within; cut = λ is. absurd (cc) }
+skipped line reading room room' old left within (inr (is, none, none', same)) = record { part = []; is = none ∙ sym none'; took = omega (arith, same); ends = within; cut = λ failed. absurd (cc) }
+
+-- what was read of a line that a source cut off, where nothing more is held
+cut_whole : (part ahead : List ℕ) → HasNoLf part → length ahead ≡ 0 → HasNoLf (part ++ ahead)
+cut_whole part [] no_lf none = subst HasNoLf (sym (append-nil part)) no_lf
+cut_whole part (byte ∷ ahead) no_lf none = absurd (omega (arith, none))
 
 in_by : (reading : Reading) → is_out reading ≡ false → reading ≡ Out → ⊥
 in_by reading going is = false≢true (sym going ∙ ap is_out is)
@@ -92,9 +98,9 @@ module _ {D : Type 0} (follows : Following D) (limit : ℕ) (source : Option (Li
 
   -- a session that stops before a line
   pub Ends-before : (how : How) (e : D) (feed feed' : Feed) (reading : Reading) (now : SessionView) (so : SoFar follows limit source d e feed reading old now) →
-      TellsBoth (λ before left. Stopped how reading feed.room feed'.room before left) feed.left feed'.left → (how ≡ InputFull) ↔ (feed'.room < feed'.ahead) →
+      TellsBoth (λ before left. Stopped how reading feed.room feed'.room before left) feed.left feed'.left → (how ≡ InputFull) ↔ (feed'.room < feed'.ahead) → (how ≡ SourceFault → feed'.ahead ≡ 0) →
       (Wrote (flat_map text_of so.exchanges) [] old now → Texts how so.exchanges [] old now) → Ends follows limit how source d e feed' reading old now
-  Ends-before how e feed feed' reading now so stop full texts = record {
+  Ends-before how e feed feed' reading now so stop full none texts = record {
     lines = so.lines;
     asked = so.exchanges;
     reads = so.reads;
@@ -113,14 +119,15 @@ module _ {D : Type 0} (follows : Following D) (limit : ℕ) (source : Option (Li
         ends = stop.ends;
         ahead = stop.part ++ ahead;
         is_left = stop.is ∙ ap (λ l. stop.part ++ l) is ∙ sym (append_assoc stop.part ahead now);
+        cut = λ failed. cut_whole stop.part ahead (stop.cut failed) (held ∙ none failed);
         full = (λ is. omega (arith, full.0 is, first.within, stop.took, held, length-append stop.part ahead), λ over. full.1 (omega (arith, over, first.within, stop.took, held, length-append stop.part ahead)));
       }
 
   -- a session that ends by a line
   Ends-by : (how : How) (line : Line) (more : List Exchange) (m e : D) (feed feed' : Feed) (reading reading' : Reading) (mid now : SessionView) (so : SoFar follows limit source d m feed reading old mid) →
-      TellsBoth (λ before left. Took line feed.room feed'.room before left) feed.left feed'.left → feed'.ahead ≤ feed'.room → (how ≡ InputFull → ⊥) → ServesLine follows line more m e reading reading' mid now →
+      TellsBoth (λ before left. Took line feed.room feed'.room before left) feed.left feed'.left → feed'.ahead ≤ feed'.room → (how ≡ InputFull → ⊥) → (how ≡ SourceFault → ⊥) → ServesLine follows line more m e reading reading' mid now →
       ((rest : List Line) → (is_end line ≡ false) ⊎ (rest ≡ []) → EndsBy how reading' rest) → Texts how (so.exchanges ++ more) [] old now → Ends follows limit how source d e feed' reading' old now
-  Ends-by how line more m e feed feed' reading reading' mid now so took within other came ends texts = record {
+  Ends-by how line more m e feed feed' reading reading' mid now so took within other heard came ends texts = record {
     lines = so.lines ++ line ∷ [];
     asked = so.exchanges ++ more;
     reads = ReadsAs-append so.lines (line ∷ []) Operational reading reading' so.exchanges more so.reads came.reads;
@@ -139,6 +146,7 @@ module _ {D : Type 0} (follows : Following D) (limit : ℕ) (source : Option (Li
         ends = ends g.rest g.which;
         ahead = ahead;
         is_left = is;
+        cut = λ failed. absurd (heard failed);
         full = not_over how limit (length g.first.taken) (length ahead) feed'.room other g.first.within (omega (arith, held, within));
       }
 
@@ -176,17 +184,17 @@ module _ {D : Type 0} (follows : Following D) (limit : ℕ) (source : Option (Li
       SoFar follows limit source d m feed reading old mid → TellsBoth (λ before left. Took line feed.room feed'.room before left) feed.left feed'.left → feed'.ahead ≤ feed'.room →
       Takes follows line (Some how) m e reading reading' mid now → Ends follows limit how source d e feed' reading' old now
   Ends-line Clean line m e feed feed' reading reading' mid now later later' rose so took within takes =
-      Ends-by Clean line takes.0 m e feed feed' reading reading' mid now so took within (λ is. cc) takes.1 (λ rest which. ends takes.3 which) (whole_text (so.exchanges ++ takes.0) now (longer so.exchanges takes.0 mid now so.text takes.2))
+      Ends-by Clean line takes.0 m e feed feed' reading reading' mid now so took within (λ is. cc) (λ is. cc) takes.1 (λ rest which. ends takes.3 which) (whole_text (so.exchanges ++ takes.0) now (longer so.exchanges takes.0 mid now so.text takes.2))
     where
       ends : {rest : List Line} → (is_out reading' ≡ true) ⊎ (is_end line ≡ true) → (is_end line ≡ false) ⊎ (rest ≡ []) → (reading' ≡ Out) ⊎ (rest ≡ [])
       ends (inl out) which = inl (out_is reading' out)
       ends (inr is) (inl isn't) = absurd (false≢true (sym isn't ∙ is))
       ends (inr is) (inr none) = inr none
   Ends-line SinkFault line m e feed feed' reading reading' mid now later later' rose so took within takes =
-      Ends-by SinkFault line (takes.0 ∷ []) m e feed feed' reading reading' mid now so took within (λ is. cc) takes.1 (λ rest which. tt) (so.exchanges, takes.0, refl, part_text so.exchanges takes.0 mid now so.text takes.2 later later' (rose refl))
+      Ends-by SinkFault line (takes.0 ∷ []) m e feed feed' reading reading' mid now so took within (λ is. cc) (λ is. cc) takes.1 (λ rest which. tt) (so.exchanges, takes.0, refl, part_text so.exchanges takes.0 mid now so.text takes.2 later later' (rose refl))
   Ends-line NoMemory line m e feed feed' reading reading' mid now later later' rose so took within takes =
       subst (λ x. Ends follows limit NoMemory source d x feed' reading' old now) (sym takes.0) (subst (λ r. Ends follows limit NoMemory source d m feed' r old now) (sym takes.1) (subst (λ s. Ends follows limit NoMemory source d m feed' reading old s) (sym takes.2)
-      (Ends-before NoMemory m feed feed' reading mid so (tells feed.left feed'.left took) (λ is. cc, λ over. absurd (omega (arith, over, within))) (λ w. w))))
+      (Ends-before NoMemory m feed feed' reading mid so (tells feed.left feed'.left took) (λ is. cc, λ over. absurd (omega (arith, over, within))) (λ is. absurd (cc)) (λ w. w))))
     where
       tells : (a b : Option (List ℕ)) → TellsBoth (λ before left. Took line feed.room feed'.room before left) a b → TellsBoth (λ before left. Stopped NoMemory reading feed.room feed'.room before left) a b
       tells None None took = tt
@@ -211,21 +219,21 @@ moved follows how d feed feed' reading reading' view view' same same' steps =
 
 -- no line was taken: the input is full
 pub Steps-full : {D : Type 0} (follows : Following D) (d : D) (feed feed' : Feed) (reading reading' : Reading) (view view' : SessionView) → reading ≡ reading' → view ≡ view' → TellsBoth (λ old left. IsFull old feed.room left feed'.room) feed.left feed'.left → feed'.room < feed'.ahead → Steps follows (Some InputFull) d d feed feed' reading reading' view view'
-Steps-full follows d feed feed' reading reading' view view' same same' full over = moved follows InputFull d feed feed' reading reading' view view' same same' (λ limit source first old later so. Ends-before follows limit source first old InputFull d feed feed' reading view so (tells (in_by reading so.going) feed.left feed'.left full) (λ is. over, λ o. refl) (λ w. w))
+Steps-full follows d feed feed' reading reading' view view' same same' full over = moved follows InputFull d feed feed' reading reading' view view' same same' (λ limit source first old later so. Ends-before follows limit source first old InputFull d feed feed' reading view so (tells (in_by reading so.going) feed.left feed'.left full) (λ is. over, λ o. refl) (λ is. absurd (cc)) (λ w. w))
   where
     tells : (reading ≡ Out → ⊥) → (a b : Option (List ℕ)) → TellsBoth (λ old left. IsFull old feed.room left feed'.room) a b → TellsBoth (λ before left. Stopped InputFull reading feed.room feed'.room before left) a b
     tells within None None is = tt
-    tells within (Some before) (Some left) is = record { part = is.part; is = is.bytes; took = omega (arith, is.whole_room, is.no_room); ends = (within, is_full before left feed.room feed'.room is) }
+    tells within (Some before) (Some left) is = record { part = is.part; is = is.bytes; took = omega (arith, is.whole_room, is.no_room); ends = (within, is_full before left feed.room feed'.room is); cut = λ failed. absurd (cc) }
     tells within None (Some left) is = absurd is
     tells within (Some before) None is = absurd is
 
 -- no line was taken: the source failed
-pub Steps-failed : {D : Type 0} (follows : Following D) (d : D) (feed feed' : Feed) (reading reading' : Reading) (view view' : SessionView) → reading ≡ reading' → view ≡ view' → TellsBoth (λ old left. IsCutOff old feed.room left feed'.room) feed.left feed'.left → feed'.ahead ≤ feed'.room → Steps follows (Some SourceFault) d d feed feed' reading reading' view view'
-Steps-failed follows d feed feed' reading reading' view view' same same' cut within = moved follows SourceFault d feed feed' reading reading' view view' same same' (λ limit source first old later so. Ends-before follows limit source first old SourceFault d feed feed' reading view so (tells (in_by reading so.going) feed.left feed'.left cut) (λ is. cc, λ over. absurd (omega (arith, over, within))) (λ w. w))
+pub Steps-failed : {D : Type 0} (follows : Following D) (d : D) (feed feed' : Feed) (reading reading' : Reading) (view view' : SessionView) → reading ≡ reading' → view ≡ view' → TellsBoth (λ old left. IsCutOff old feed.room left feed'.room) feed.left feed'.left → feed'.ahead ≡ 0 → Steps follows (Some SourceFault) d d feed feed' reading reading' view view'
+Steps-failed follows d feed feed' reading reading' view view' same same' cut none = moved follows SourceFault d feed feed' reading reading' view view' same same' (λ limit source first old later so. Ends-before follows limit source first old SourceFault d feed feed' reading view so (tells (in_by reading so.going) feed.left feed'.left cut) (λ is. cc, λ over. absurd (omega (arith, over, none))) (λ is. none) (λ w. w))
   where
     tells : (reading ≡ Out → ⊥) → (a b : Option (List ℕ)) → TellsBoth (λ old left. IsCutOff old feed.room left feed'.room) a b → TellsBoth (λ before left. Stopped SourceFault reading feed.room feed'.room before left) a b
     tells within None None is = tt
-    tells within (Some before) (Some left) is = record { part = is.part; is = is.bytes; took = is.room; ends = within }
+    tells within (Some before) (Some left) is = record { part = is.part; is = is.bytes; took = is.room; ends = within; cut = λ same. is.no_lf }
     tells within None (Some left) is = absurd is
     tells within (Some before) None is = absurd is
 
@@ -233,11 +241,11 @@ Steps-failed follows d feed feed' reading reading' view view' same same' cut wit
 pub Steps-no_memory : {D : Type 0} (follows : Following D) (d : D) (feed feed' : Feed) (reading reading' : Reading) (view view' : SessionView) → feed ≡ feed' → reading ≡ reading' → view ≡ view' → Steps follows (Some NoMemory) d d feed feed' reading reading' view view'
 Steps-no_memory follows d feed feed' reading reading' view view' still same same' =
     subst (λ f. Steps follows (Some NoMemory) d d feed f reading reading' view view') still (moved follows NoMemory d feed feed reading reading' view view' same same'
-    (λ limit source first old later so. Ends-before follows limit source first old NoMemory d feed feed reading view so (tells (in_by reading so.going) feed.left) (λ is. cc, λ over. absurd (omega (arith, over, so.within))) (λ w. w)))
+    (λ limit source first old later so. Ends-before follows limit source first old NoMemory d feed feed reading view so (tells (in_by reading so.going) feed.left) (λ is. cc, λ over. absurd (omega (arith, over, so.within))) (λ is. absurd (cc)) (λ w. w)))
   where
     tells : (reading ≡ Out → ⊥) → (a : Option (List ℕ)) → TellsBoth (λ before left. Stopped NoMemory reading feed.room feed.room before left) a a
     tells within None = tt
-    tells within (Some before) = record { part = []; is = refl; took = omega arith; ends = within }
+    tells within (Some before) = record { part = []; is = refl; took = omega arith; ends = within; cut = λ failed. absurd (cc) }
 
 -- no session so far
 pub SoFar-begins : {D : Type 0} (follows : Following D) (d : D) (feed : Feed) (reading : Reading) (view : SessionView) → reading ≡ Operational → feed.ahead ≡ 0 → SoFar follows feed.room feed.left d d feed reading view view

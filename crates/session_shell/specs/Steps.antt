@@ -3,7 +3,7 @@ use Rattle.std.specs.Prelude.{◌≡◌, ◌≤◌, ℕ, List, [], ◌∷◌, �
 use Rattle.std.specs.Prelude.{Result, Option, None, Some}
 use Rattle.std.specs.List.{flat_map}
 use Rattle.io_edge.specs.Feed.{Feed}
-use Rattle.io_edge.specs.Ends.{behind}
+use Rattle.io_edge.specs.Ends.{SinkView, behind}
 use Rattle.io_edge.specs.Line.{TellsBoth}
 use Rattle.io_edge.specs.Wrote.{Wrote as WroteAs, WrotePart}
 use Rattle.io_edge.specs.declared.lines.Line.{Line}
@@ -20,18 +20,17 @@ use Rattle.session_shell.specs.Cut.{lines_of, AreFirst}
 use Rattle.session_shell.specs.Transcript.{Following, IsInput, LogsOut, SessionView, Texts, Turns, Wrote}
 
 -- what a session holds while it is served; `spare` is for how many more turns it has room
-pub record Held (K C : Type 0) : Type 0 where
+pub record Held (C : Type 0) : Type 0 where
   pub feed : Feed
-  pub sink : K
+  pub sink : SinkView
   pub clock : C
   pub turns : List Turn
   pub spare : ℕ
   pub reading : Reading
 
--- its view, as its sink and clock tell it
-abbrev pub view_of : {K C : Type 0} → (C → Option (ℕ → ℕ)) → (K → Option (List ℕ)) → (K → ℕ) → Held K C → SessionView
-view_of coming held faults now =
-    record { coming = coming now.clock; held = held now.sink; faults = faults now.sink; turns = now.turns }
+-- its view, as its clock tells it
+abbrev pub view_of : {C : Type 0} → (C → Option (ℕ → ℕ)) → Held C → SessionView
+view_of coming now = record { coming = coming now.clock; held = now.sink.held; faults = now.sink.faults; turns = now.turns }
 
 abbrev pub is_out : Reading → Bool
 is_out Out = true

@@ -6,8 +6,8 @@ use Rattle.commands.specs.declared.command.Command.{Command}
 use Rattle.commands.specs.declared.command.Command.TheVariants.{Logout}
 use Rattle.io_edge.specs.declared.lines.Line.{Line}
 use Rattle.io_edge.specs.declared.lines.Line.TheVariants.{InputFull as Full}
-use Rattle.io_edge.specs.Ends.{behind}
-use Rattle.io_edge.specs.Line.{TellsBoth}
+use Rattle.io_edge.specs.Ends.{SinkView, SourceView, behind}
+use Rattle.io_edge.specs.Line.{HasNoLf, TellsBoth}
 use Rattle.session_shell.specs.declared.turn.How.{How}
 use Rattle.session_shell.specs.declared.turn.How.TheVariants.{Clean, SourceFault, SinkFault, InputFull, NoMemory}
 use Rattle.session_shell.specs.declared.turn.Turn.{Turn}
@@ -101,12 +101,14 @@ pub record IsInput (lines : List Line) (reading : Reading) (how : How) (limit : 
   -- what was read behind these lines
   pub ahead : List ℕ
   pub is_left : left ≡ ahead ++ now
+  -- where the source failed that is no whole line
+  pub cut : how ≡ SourceFault → HasNoLf ahead
   -- the input is full exactly where more bytes were read than the limit
   pub full : (how ≡ InputFull) ↔ (limit < length first.taken + length ahead)
 
 -- one session: its items are those of the lines that it read, and one last logout where it needs one; they took its turns,
 -- and their texts were written
-pub record IsSession {D : Type 0} (follows : Following D) (limit : ℕ) (how : How) (source source' : Option (List ℕ))
+pub record IsTranscript {D : Type 0} (follows : Following D) (limit : ℕ) (how : How) (source source' : Option (List ℕ))
     (d e : D) (old new : SessionView) : Type 0 where
   pub lines : List Line
   pub asked : List Exchange
@@ -117,3 +119,22 @@ pub record IsSession {D : Type 0} (follows : Following D) (limit : ℕ) (how : H
   pub logs_out : LogsOut reading final
   pub turns : Turns follows (asked ++ final) d e old new
   pub texts : Texts how asked final old new
+
+-- the ends of a session: whose they are, what is told of its source and its sink, and its clock's answers to come
+pub record EndView : Type 0 where
+  pub user : List ℕ
+  pub source : SourceView
+  pub sink : SinkView
+  pub coming : Option (ℕ → ℕ)
+
+-- these ends with turns
+abbrev pub session_view : EndView → List Turn → SessionView
+session_view end turns = record { coming = end.coming; held = end.sink.held; faults = end.sink.faults; turns = turns }
+
+-- one session, from its ends before to its ends after: a fault of its source or its sink is told only where that count rose
+pub record IsSession {D : Type 0} (follows : Following D) (limit : ℕ) (how : How) (turns : List Turn) (old new : EndView) (d e : D)
+    : Type 0 where
+  pub transcript : IsTranscript follows limit how old.source.left new.source.left d e (session_view old []) (session_view new turns)
+  pub user : new.user ≡ old.user
+  pub source_cause : how ≡ SourceFault → Rose old.source.faults new.source.faults
+  pub sink_cause : how ≡ SinkFault → Rose old.sink.faults new.sink.faults

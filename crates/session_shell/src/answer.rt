@@ -61,9 +61,9 @@ fn follow(reading: &mut Reading, given: &Given0)
 }
 
 fn put_given<K: Sink>(sink: &mut K, given: &Given0) -> Result<(), PutFailed>
-    ensures wrote { Wrote result (text_of_given given.now) (K.held sink.old) (K.held sink.new) }
-    ensures cause { OnErr result (Rose (K.faults sink.old) (K.faults sink.new)) }
-    ensures later { K.faults sink.old ≤ K.faults sink.new }
+    ensures wrote { Wrote result (text_of_given given.now) (K.view sink.old).held (K.view sink.new).held }
+    ensures cause { OnErr result (Rose (K.view sink.old).faults (K.view sink.new).faults) }
+    ensures later { (K.view sink.old).faults ≤ (K.view sink.new).faults }
 {
     match given {
         Given0::Kept { reply, .. } | Given0::Seen { reply, .. } => put_reply(sink, reply),
@@ -78,9 +78,9 @@ pub(crate) fn answer<K: Sink>(
     given: Given0,
 ) -> Result<(), PutFailed>
     ensures reading { reading.new ≡ after_given reading.old given }
-    ensures wrote { Wrote result (text_of_given given) (K.held sink.old) (K.held sink.new) }
-    ensures cause { OnErr result (Rose (K.faults sink.old) (K.faults sink.new)) }
-    ensures later { K.faults sink.old ≤ K.faults sink.new }
+    ensures wrote { Wrote result (text_of_given given) (K.view sink.old).held (K.view sink.new).held }
+    ensures cause { OnErr result (Rose (K.view sink.old).faults (K.view sink.new).faults) }
+    ensures later { (K.view sink.old).faults ≤ (K.view sink.new).faults }
 {
     follow(reading, &given);
     put_given(sink, &given)

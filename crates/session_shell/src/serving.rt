@@ -44,11 +44,11 @@ impl<S: Source, K: Sink, C: Clock> Model for Serving<S, K, C> {
     ghost use Rattle.std.specs.Prelude.{◌-◌, vec_len, vec_capacity};
     ghost use Rattle.session_shell.specs.Steps.{Held};
 
-    ghost Value = { Held K C };
+    ghost Value = { Held C };
 
     ghost view = { λ s. record {
       feed = s.lines;
-      sink = s.sink;
+      sink = K.view s.sink;
       clock = s.clock;
       turns = s.turns.items;
       spare = vec_capacity s.turns - vec_len s.turns;
@@ -67,9 +67,9 @@ impl<S: Source, K: Sink, C: Clock> Serving<S, K, C> {
         limits: Limits,
     ) -> Serving<S, K, C>
         requires { turns.items ≡ [] }
-        ensures input { (result.feed.left ≡ S.left source) × (result.feed.room ≡ limits.input) × (result.feed.ahead ≡ 0)
-            × (result.feed.faults ≡ S.faults source) }
-        ensures ends { (result.sink ≡ sink) × (result.clock ≡ clock) × (result.turns ≡ []) }
+        ensures input { (result.feed.left ≡ (S.view source).left) × (result.feed.room ≡ limits.input) × (result.feed.ahead ≡ 0)
+            × (result.feed.faults ≡ (S.view source).faults) }
+        ensures ends { (result.sink ≡ K.view sink) × (result.clock ≡ clock) × (result.turns ≡ []) }
         ensures room { result.spare ≡ vec_capacity turns }
         ensures first { result.reading ≡ Operational }
     {
@@ -85,9 +85,9 @@ impl<S: Source, K: Sink, C: Clock> Serving<S, K, C> {
 
     /// Its parts. What was read ahead is gone.
     pub(crate) fn into_parts(self) -> Parts<S, K, C>
-        ensures left { (ahead : List ℕ) × (length ahead ≡ self.feed.ahead) × (self.feed.left ≡ onto ahead (S.left result.source)) }
-        ensures faults { S.faults result.source ≡ self.feed.faults }
-        ensures rest { (result.sink ≡ self.sink) × (result.clock ≡ self.clock) × (result.turns.items ≡ self.turns) }
+        ensures left { (ahead : List ℕ) × (length ahead ≡ self.feed.ahead) × (self.feed.left ≡ onto ahead (S.view result.source).left) }
+        ensures faults { (S.view result.source).faults ≡ self.feed.faults }
+        ensures rest { (K.view result.sink ≡ self.sink) × (result.clock ≡ self.clock) × (result.turns.items ≡ self.turns) }
     {
         let Serving {
             alloc: _,
@@ -115,11 +115,11 @@ impl<S: Source, K: Sink, C: Clock> Serving<S, K, C> {
         requires room { 0 < self.old.spare }
         requires sound { AsksSound (Some item) }
         ensures serves { Serves D.follows item result door.old door.new self.old.reading self.new.reading
-            (view_of C.coming K.held K.faults self.old) (view_of C.coming K.held K.faults self.new) }
+            (view_of C.coming self.old) (view_of C.coming self.new) }
         ensures feed { self.new.feed ≡ self.old.feed }
         ensures spare { self.old.spare ≡ self.new.spare + 1 }
-        ensures cause { OnErr result (Rose (K.faults self.old.sink) (K.faults self.new.sink)) }
-        ensures later { K.faults self.old.sink ≤ K.faults self.new.sink }
+        ensures cause { OnErr result (Rose self.old.sink.faults self.new.sink.faults) }
+        ensures later { self.old.sink.faults ≤ self.new.sink.faults }
     {
         let moment = self.clock.now();
         match item {
@@ -140,12 +140,12 @@ impl<S: Source, K: Sink, C: Clock> Serving<S, K, C> {
         requires room { 0 < self.old.spare }
         requires reads { IsRead self.old.reading line.now }
         ensures takes { Takes D.follows line.now result door.old door.new self.old.reading self.new.reading
-            (view_of C.coming K.held K.faults self.old) (view_of C.coming K.held K.faults self.new) }
+            (view_of C.coming self.old) (view_of C.coming self.new) }
         ensures feed { self.new.feed ≡ self.old.feed }
         ensures spare { self.old.spare ≤ self.new.spare + 1 }
         ensures end { result ≡ None → is_end line.now ≡ false }
-        ensures cause { result ≡ Some SinkFault → Rose (K.faults self.old.sink) (K.faults self.new.sink) }
-        ensures later { K.faults self.old.sink ≤ K.faults self.new.sink }
+        ensures cause { result ≡ Some SinkFault → Rose self.old.sink.faults self.new.sink.faults }
+        ensures later { self.old.sink.faults ≤ self.new.sink.faults }
     {
         match comes_of(self.alloc, &mut self.reading, line) {
             Ok(None) => how_next(line, &self.reading, Ok(())),
@@ -162,13 +162,13 @@ impl<S: Source, K: Sink, C: Clock> Serving<S, K, C> {
         requires room { 0 < self.old.spare }
         requires going { is_out self.old.reading ≡ false }
         ensures steps { Steps D.follows result door.old door.new self.old.feed self.new.feed self.old.reading self.new.reading
-            (view_of C.coming K.held K.faults self.old) (view_of C.coming K.held K.faults self.new) }
+            (view_of C.coming self.old) (view_of C.coming self.new) }
         ensures spare { self.old.spare ≤ self.new.spare + 1 }
         ensures falls { result ≡ None → self.new.feed.room < self.old.feed.room }
         ensures source_cause { result ≡ Some SourceFault → Rose self.old.feed.faults self.new.feed.faults }
-        ensures sink_cause { result ≡ Some SinkFault → Rose (K.faults self.old.sink) (K.faults self.new.sink) }
+        ensures sink_cause { result ≡ Some SinkFault → Rose self.old.sink.faults self.new.sink.faults }
         ensures later_source { self.old.feed.faults ≤ self.new.feed.faults }
-        ensures later_sink { K.faults self.old.sink ≤ K.faults self.new.sink }
+        ensures later_sink { self.old.sink.faults ≤ self.new.sink.faults }
     {
         match self.lines.next() {
             Ok(Line::Failed) => Some(How::SourceFault),
@@ -183,13 +183,13 @@ impl<S: Source, K: Sink, C: Clock> Serving<S, K, C> {
         requires room { 0 < self.old.spare }
         requires going { is_out self.old.reading ≡ false }
         ensures steps { Steps D.follows result door.old door.new self.old.feed self.new.feed self.old.reading self.new.reading
-            (view_of C.coming K.held K.faults self.old) (view_of C.coming K.held K.faults self.new) }
+            (view_of C.coming self.old) (view_of C.coming self.new) }
         ensures room { 0 < self.new.spare }
         ensures falls { result ≡ None → self.new.feed.room < self.old.feed.room }
         ensures source_cause { result ≡ Some SourceFault → Rose self.old.feed.faults self.new.feed.faults }
-        ensures sink_cause { result ≡ Some SinkFault → Rose (K.faults self.old.sink) (K.faults self.new.sink) }
+        ensures sink_cause { result ≡ Some SinkFault → Rose self.old.sink.faults self.new.sink.faults }
         ensures later_source { self.old.feed.faults ≤ self.new.feed.faults }
-        ensures later_sink { K.faults self.old.sink ≤ K.faults self.new.sink }
+        ensures later_sink { self.old.sink.faults ≤ self.new.sink.faults }
     {
         match self.turns.reserve(2) {
             Ok(()) => self.read_next(rt, door),
@@ -203,12 +203,12 @@ impl<S: Source, K: Sink, C: Clock> Serving<S, K, C> {
         requires first { self.old.reading ≡ Operational }
         requires none_ahead { self.old.feed.ahead ≡ 0 }
         ensures ends { Ends D.follows self.old.feed.room result self.old.feed.left door.old door.new self.new.feed self.new.reading
-            (view_of C.coming K.held K.faults self.old) (view_of C.coming K.held K.faults self.new) }
+            (view_of C.coming self.old) (view_of C.coming self.new) }
         ensures room { 0 < self.new.spare }
         ensures source_cause { result ≡ SourceFault → Rose self.old.feed.faults self.new.feed.faults }
-        ensures sink_cause { result ≡ SinkFault → Rose (K.faults self.old.sink) (K.faults self.new.sink) }
+        ensures sink_cause { result ≡ SinkFault → Rose self.old.sink.faults self.new.sink.faults }
         ensures later_source { self.old.feed.faults ≤ self.new.feed.faults }
-        ensures later_sink { K.faults self.old.sink ≤ K.faults self.new.sink }
+        ensures later_sink { self.old.sink.faults ≤ self.new.sink.faults }
     {
         'lines: loop {
             if let Some(how) = self.step(rt, door) {
@@ -221,9 +221,9 @@ impl<S: Source, K: Sink, C: Clock> Serving<S, K, C> {
     fn ask_unheard<D: Door, R: Wait>(&mut self, rt: &R, door: &mut D)
         requires room { 0 < self.old.spare }
         ensures asks { AsksOnly D.follows (Ask Logout) door.old door.new
-            (view_of C.coming K.held K.faults self.old) (view_of C.coming K.held K.faults self.new) }
+            (view_of C.coming self.old) (view_of C.coming self.new) }
         ensures feed { self.new.feed ≡ self.old.feed }
-        ensures same { K.faults self.new.sink ≡ K.faults self.old.sink }
+        ensures same { self.new.sink.faults ≡ self.old.sink.faults }
     {
         let moment = self.clock.now();
         let given = door.ask(rt, moment, Command::Logout);
@@ -236,7 +236,7 @@ impl<S: Source, K: Sink, C: Clock> Serving<S, K, C> {
         requires room { 0 < self.old.spare }
         requires going { is_out self.old.reading ≡ false }
         ensures finishes { Finishes D.follows how door.old door.new self.old.reading
-            (view_of C.coming K.held K.faults self.old) (view_of C.coming K.held K.faults self.new) }
+            (view_of C.coming self.old) (view_of C.coming self.new) }
         ensures feed { self.new.feed ≡ self.old.feed }
     {
         match how {
@@ -251,7 +251,7 @@ impl<S: Source, K: Sink, C: Clock> Serving<S, K, C> {
     pub(crate) fn finish<D: Door, R: Wait>(&mut self, rt: &R, door: &mut D, how: How)
         requires room { 0 < self.old.spare }
         ensures finishes { Finishes D.follows how door.old door.new self.old.reading
-            (view_of C.coming K.held K.faults self.old) (view_of C.coming K.held K.faults self.new) }
+            (view_of C.coming self.old) (view_of C.coming self.new) }
         ensures feed { self.new.feed ≡ self.old.feed }
     {
         if !is_out(&self.reading) {

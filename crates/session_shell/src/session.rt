@@ -1,8 +1,6 @@
 //! One session, from its ends to its turns.
 
-ghost use Rattle.std.specs.Prelude.{◌≡◌, [], IfOk, IfErr};
-ghost use Rattle.cfg_base.specs.Counts.{Rose};
-ghost use Rattle.session_shell.specs.declared.turn.How.TheVariants.{SinkFault, SourceFault};
+ghost use Rattle.std.specs.Prelude.{◌≡◌, IfOk, IfErr};
 ghost use Rattle.session_shell.specs.Opened.{end_view};
 ghost use Rattle.session_shell.specs.Transcript.{IsSession};
 
@@ -66,11 +64,9 @@ impl<S, K, C> Session<S, K, C> {
         S: Source,
         K: Sink,
         C: Clock,
-        ensures session { IsSession D.follows self.limit result.how (S.left self.end.source) (S.left result.end.source)
-            door.old door.new (end_view C.coming K.held K.faults self.end []) (end_view C.coming K.held K.faults result.end result.turns) }
-        ensures kept { (result.number ≡ self.number) × (result.end.user ≡ self.end.user) }
-        ensures source_cause { result.how ≡ SourceFault → Rose (S.faults self.end.source) (S.faults result.end.source) }
-        ensures sink_cause { result.how ≡ SinkFault → Rose (K.faults self.end.sink) (K.faults result.end.sink) }
+        ensures session { IsSession D.follows self.limit result.how result.turns (end_view S.view K.view C.coming self.end)
+            (end_view S.view K.view C.coming result.end) door.old door.new }
+        ensures number { result.number ≡ self.number }
     {
         let Session {
             alloc,

@@ -75,93 +75,92 @@ module _ (command : Command) (answer : ℕ) (old new : ReaderState) (later : IsP
     pub ReadsShow-wanting : ReadsShow command answer (Some NoMemory) old new
     ReadsShow-wanting = record { reads = ReadsOn-read old new later same; gives = tt }
 
-module _ {D : Type 0} where
-  looks_at : (d : GateView D) (command : Command) (answer : ℕ) (given : Option Given0) (reader : ReaderState) → KnowsOwn d.pass
-      → ((first : DatabaseView D) → d.pass.fixed ≡ Some first → IsLegal (opened first) d.pass.seen) → IsActiveShow command
-      → GivesShow command answer given reader → LooksAt d command answer given reader
-  looks_at d command answer None reader own legal is gives = λ _. gives
-  looks_at d command answer (Some given) reader own legal is gives =
-      record { is_show = is; gives = gives; own = own; legal = legal }
+looks_at : (d : GateView) (command : Command) (answer : ℕ) (given : Option Given0) (reader : ReaderState) → KnowsOwn d.pass
+    → ((first : DatabaseView) → d.pass.fixed ≡ Some first → IsLegal (opened first) d.pass.seen) → IsActiveShow command
+    → GivesShow command answer given reader → LooksAt d command answer given reader
+looks_at d command answer None reader own legal is gives = λ _. gives
+looks_at d command answer (Some given) reader own legal is gives =
+    record { is_show = is; gives = gives; own = own; legal = legal }
 
-  -- a reader was asked for a show
-  pub LooksIn-read : (lock : TableId) (pass : CallerPass D) (old new : ReaderState) (command : Command) (answer : ℕ)
-      (given : Option Given0) → ((first : DatabaseView D) × IsReady lock first pass) → IsActiveShow command
-      → ReadsShow command answer given old new
-      → LooksIn (record { pass = pass; reader = old }) command answer given (record { pass = pass; reader = new })
-  LooksIn-read lock pass old new command answer given ready is read = record {
-    same = refl;
-    reads = read.reads;
-    looks = looks_at (record { pass = pass; reader = old }) command answer given new ready.1.own
-        (λ first fixed. subst (λ (f : DatabaseView D). IsLegal (opened f) pass.seen) (some_is (sym ready.1.fixed ∙ fixed)) ready.1.legal)
-        is read.gives;
-  }
+-- a reader was asked for a show
+pub LooksIn-read : (lock : TableId) (pass : CallerPass) (old new : ReaderState) (command : Command) (answer : ℕ)
+    (given : Option Given0) → ((first : DatabaseView) × IsReady lock first pass) → IsActiveShow command
+    → ReadsShow command answer given old new
+    → LooksIn (record { pass = pass; reader = old }) command answer given (record { pass = pass; reader = new })
+LooksIn-read lock pass old new command answer given ready is read = record {
+  same = refl;
+  reads = read.reads;
+  looks = looks_at (record { pass = pass; reader = old }) command answer given new ready.1.own
+      (λ first fixed. subst (λ (f : DatabaseView). IsLegal (opened f) pass.seen) (some_is (sym ready.1.fixed ∙ fixed)) ready.1.legal)
+      is read.gives;
+}
 
-  -- no show is asked for
-  pub LooksIn-other : (d : GateView D) (command : Command) (answer : ℕ) → (IsActiveShow command → ⊥)
-      → LooksIn d command answer None d
-  LooksIn-other d command answer other =
-      record { same = refl; reads = ReadsOn-same d.reader; looks = λ is. absurd (other is) }
+-- no show is asked for
+pub LooksIn-other : (d : GateView) (command : Command) (answer : ℕ) → (IsActiveShow command → ⊥)
+    → LooksIn d command answer None d
+LooksIn-other d command answer other =
+    record { same = refl; reads = ReadsOn-same d.reader; looks = λ is. absurd (other is) }
 
-  -- a show was answered without a turn
-  pub FollowsIn-looked : (d e : GateView D) (command : Command) (answer : ℕ) (given : Given0) → LooksIn d command answer (Some given) e
-      → FollowsIn d command answer given e
-  FollowsIn-looked d e command answer (KeptAt place reply) looked = absurd looked.looks.gives
-  FollowsIn-looked d e command answer (Seen front reply) looked = record {
-    goes = subst (WentOn d.pass) (sym looked.same) (WentOn-same d.pass looked.looks.own);
-    reads = looked.reads;
-    comes = record { same = looked.same; is_show = looked.looks.is_show; answers = looked.looks.gives };
-  }
-  FollowsIn-looked d e command answer NoMemory looked = record {
-    goes = subst (WentOn d.pass) (sym looked.same) (WentOn-same d.pass looked.looks.own);
-    reads = looked.reads;
-    comes = λ first fixed.
-        subst (λ (p : CallerPass D). FollowsTurn (opened first) d.pass.caller d.pass.seen command answer Wanting p.seen) (sym looked.same)
-        (FollowsTurn-none (opened first) d.pass.caller answer d.pass.seen command (looked.looks.legal first fixed));
-  }
+-- a show was answered without a turn
+pub FollowsIn-looked : (d e : GateView) (command : Command) (answer : ℕ) (given : Given0) → LooksIn d command answer (Some given) e
+    → FollowsIn d command answer given e
+FollowsIn-looked d e command answer (KeptAt place reply) looked = absurd looked.looks.gives
+FollowsIn-looked d e command answer (Seen front reply) looked = record {
+  goes = subst (WentOn d.pass) (sym looked.same) (WentOn-same d.pass looked.looks.own);
+  reads = looked.reads;
+  comes = record { same = looked.same; is_show = looked.looks.is_show; answers = looked.looks.gives };
+}
+FollowsIn-looked d e command answer NoMemory looked = record {
+  goes = subst (WentOn d.pass) (sym looked.same) (WentOn-same d.pass looked.looks.own);
+  reads = looked.reads;
+  comes = λ first fixed.
+      subst (λ (p : CallerPass). FollowsTurn (opened first) d.pass.caller d.pass.seen command answer Wanting p.seen) (sym looked.same)
+      (FollowsTurn-none (opened first) d.pass.caller answer d.pass.seen command (looked.looks.legal first fixed));
+}
 
-  turns_from : (first : DatabaseView D) (d mid e : GateView D) (command : Command) (answer : ℕ) (answered : Answered) → mid.pass ≡ d.pass
-      → TurnsIn first mid command answer answered e → TurnsIn first d command answer answered e
-  turns_from first d mid e command answer answered same turns = record {
-    turn = subst (λ (p : CallerPass D). FollowsTurn (opened first) p.caller p.seen command answer answered e.pass.seen) same turns.turn;
-    list = turns.list;
-    tells = turns.tells;
-    told = turns.told;
-  }
+turns_from : (first : DatabaseView) (d mid e : GateView) (command : Command) (answer : ℕ) (answered : Answered) → mid.pass ≡ d.pass
+    → TurnsIn first mid command answer answered e → TurnsIn first d command answer answered e
+turns_from first d mid e command answer answered same turns = record {
+  turn = subst (λ (p : CallerPass). FollowsTurn (opened first) p.caller p.seen command answer answered e.pass.seen) same turns.turn;
+  list = turns.list;
+  tells = turns.tells;
+  told = turns.told;
+}
 
-  by_answer : (d mid e : GateView D) (command : Command) (answer : ℕ) (answered : Answered) → LooksIn d command answer None mid
-      → TookIn mid command answer answered e → FollowsIn d command answer (given_of answered) e
-  by_answer d mid e command answer (Done place reply) looked took = record {
-    goes = subst (λ p. WentOn p e.pass) looked.same took.goes;
-    reads = ReadsOn-then d.reader mid.reader e.reader looked.reads took.reads;
-    comes = record {
-      turns = λ first fixed. turns_from first d mid e command answer (Done place reply) looked.same
-          (took.turns first (ap (λ (p : CallerPass D). p.fixed) looked.same ∙ fixed));
-      missed = λ is. record { mid = mid.reader; before = looked.reads; missed = looked.looks is; behind = took.reads };
-    };
-  }
-  by_answer d mid e command answer Wanting looked took = record {
-    goes = subst (λ p. WentOn p e.pass) looked.same took.goes;
-    reads = ReadsOn-then d.reader mid.reader e.reader looked.reads took.reads;
-    comes = λ first fixed. (turns_from first d mid e command answer Wanting looked.same
-        (took.turns first (ap (λ (p : CallerPass D). p.fixed) looked.same ∙ fixed))).turn;
-  }
+by_answer : (d mid e : GateView) (command : Command) (answer : ℕ) (answered : Answered) → LooksIn d command answer None mid
+    → TookIn mid command answer answered e → FollowsIn d command answer (given_of answered) e
+by_answer d mid e command answer (Done place reply) looked took = record {
+  goes = subst (λ p. WentOn p e.pass) looked.same took.goes;
+  reads = ReadsOn-then d.reader mid.reader e.reader looked.reads took.reads;
+  comes = record {
+    turns = λ first fixed. turns_from first d mid e command answer (Done place reply) looked.same
+        (took.turns first (ap (λ (p : CallerPass). p.fixed) looked.same ∙ fixed));
+    missed = λ is. record { mid = mid.reader; before = looked.reads; missed = looked.looks is; behind = took.reads };
+  };
+}
+by_answer d mid e command answer Wanting looked took = record {
+  goes = subst (λ p. WentOn p e.pass) looked.same took.goes;
+  reads = ReadsOn-then d.reader mid.reader e.reader looked.reads took.reads;
+  comes = λ first fixed. (turns_from first d mid e command answer Wanting looked.same
+      (took.turns first (ap (λ (p : CallerPass). p.fixed) looked.same ∙ fixed))).turn;
+}
 
-  -- a command took its turn
-  pub FollowsIn-took : (d mid e : GateView D) (command : Command) (answer : ℕ) (answered : Answered) (given : Given0)
-      → LooksIn d command answer None mid → TookIn mid command answer answered e → given ≡ given_of answered
-      → FollowsIn d command answer given e
-  FollowsIn-took d mid e command answer answered given looked took is =
-      subst (λ g. FollowsIn d command answer g e) (sym is) (by_answer d mid e command answer answered looked took)
+-- a command took its turn
+pub FollowsIn-took : (d mid e : GateView) (command : Command) (answer : ℕ) (answered : Answered) (given : Given0)
+    → LooksIn d command answer None mid → TookIn mid command answer answered e → given ≡ given_of answered
+    → FollowsIn d command answer given e
+FollowsIn-took d mid e command answer answered given looked took is =
+    subst (λ g. FollowsIn d command answer g e) (sym is) (by_answer d mid e command answer answered looked took)
 
-  -- the turn of a command, and what its reader learns
-  pub TookIn-turn : (old new : CallerPass D) (reader reader' : ReaderState) (command : Command) (answer : ℕ) (answered : Answered)
-      (list : List Kept) → Learns answered list reader reader'
-      → WentOn old new × ((first : DatabaseView D) → old.fixed ≡ Some first
-      → FollowsTurn (opened first) old.caller old.seen command answer answered new.seen × TellsKept (opened first) new.seen list)
-      → TookIn (record { pass = old; reader = reader }) command answer answered (record { pass = new; reader = reader' })
-  TookIn-turn old new reader reader' command answer answered list learns took = record {
-    goes = took.0;
-    reads = learns.reads;
-    turns = λ first fixed.
-        let both = took.1 first fixed in record { turn = both.0; list = list; tells = both.1; told = learns.told };
-  }
+-- the turn of a command, and what its reader learns
+pub TookIn-turn : (old new : CallerPass) (reader reader' : ReaderState) (command : Command) (answer : ℕ) (answered : Answered)
+    (list : List Kept) → Learns answered list reader reader'
+    → WentOn old new × ((first : DatabaseView) → old.fixed ≡ Some first
+    → FollowsTurn (opened first) old.caller old.seen command answer answered new.seen × TellsKept (opened first) new.seen list)
+    → TookIn (record { pass = old; reader = reader }) command answer answered (record { pass = new; reader = reader' })
+TookIn-turn old new reader reader' command answer answered list learns took = record {
+  goes = took.0;
+  reads = learns.reads;
+  turns = λ first fixed.
+      let both = took.1 first fixed in record { turn = both.0; list = list; tells = both.1; told = learns.told };
+}

@@ -7,8 +7,9 @@ use Rattle.session_history.proofs.KeptLemmas.{WasKept-append}
 use Rattle.session_shell.specs.declared.door.Given0.{Given0}
 use Rattle.session_shell.specs.declared.door.Given0.TheVariants.{Kept as KeptAt, Seen, NoMemory}
 use Rattle.session_shell.specs.declared.turn.How.{How}
+use Rattle.session_shell.specs.declared.turn.Turn.{Turn}
 use Rattle.session_shell.specs.Exchange.{Exchange, Asked as AskedOf, Refused}
-use Rattle.session_shell.specs.Transcript.{GoesBy, IsSession, SessionView}
+use Rattle.session_shell.specs.Transcript.{EndView, GoesBy, IsSession}
 use Rattle.session_threads.specs.History.{Follows, HasMissed, Known}
 
 module _ (opening : State) (caller : ℕ) (final more : List Happened) where
@@ -49,21 +50,26 @@ module _ (opening : State) (caller : ℕ) (final more : List Happened) where
   goes_later (Refused moment fault ∷ exchanges) d e goes = goes_later exchanges d e goes
 
   -- a session
-  pub IsSession-later : (limit : ℕ) (how : How) (source source' : Option (List ℕ)) (d e : Known) (old new : SessionView)
-      → IsSession (Follows opening caller final) limit how source source' d e old new
-      → IsSession (Follows opening caller (final ++ more)) limit how source source' d e old new
-  IsSession-later limit how source source' d e old new s = record {
-    lines = s.lines;
-    asked = s.asked;
-    final = s.final;
-    reading = s.reading;
-    reads = s.reads;
-    input = s.input;
-    logs_out = s.logs_out;
-    turns = record {
-      moments = s.turns.moments;
-      turned = s.turns.turned;
-      asked = goes_later (s.asked ++ s.final) d e s.turns.asked;
+  pub IsSession-later : (limit : ℕ) (how : How) (turns : List Turn) (old new : EndView) (d e : Known)
+      → IsSession (Follows opening caller final) limit how turns old new d e
+      → IsSession (Follows opening caller (final ++ more)) limit how turns old new d e
+  IsSession-later limit how turns old new d e s = record {
+    transcript = record {
+      lines = s.transcript.lines;
+      asked = s.transcript.asked;
+      final = s.transcript.final;
+      reading = s.transcript.reading;
+      reads = s.transcript.reads;
+      input = s.transcript.input;
+      logs_out = s.transcript.logs_out;
+      turns = record {
+        moments = s.transcript.turns.moments;
+        turned = s.transcript.turns.turned;
+        asked = goes_later (s.transcript.asked ++ s.transcript.final) d e s.transcript.turns.asked;
+      };
+      texts = s.transcript.texts;
     };
-    texts = s.texts;
+    user = s.user;
+    source_cause = s.source_cause;
+    sink_cause = s.sink_cause;
   }

@@ -2,13 +2,11 @@
 use Rattle.std.proofs.Common.{◌≡◌, ◌≤◌, ⊎_elim, inl, inr, ℕ, ◌+◌, Bool, List, [], ◌∷◌, ◌++◌, length, take, max}
 use Rattle.std.proofs.Common.{Option, None, Some, IfSome, slice_get, refl, sym, ap, subst, ◌∙◌, append_assoc, arith}
 use Rattle.std.specs.List.{AllByRecursion}
-use Rattle.std.proofs.lemmas.Bool.{cases_lt}
 use Rattle.std.proofs.lemmas.List.{append-nil, length-append}
 use Rattle.std.proofs.Math.Seq.{take-append_seam}
 use Rattle.active_snapshot.specs.Views.{AreViews, IsLast}
-use Rattle.cfg_base.specs.Counts.{Rose}
 use Rattle.commands.specs.declared.command.Command.{Command}
-use Rattle.commit_journal.specs.Journal.{JournalView, disk_a, disk_b}
+use Rattle.commit_journal.specs.Journal.{disks_of}
 use Rattle.commit_ledger.specs.Kept.{Kept as KeptList}
 use Rattle.config_core.specs.declared.event.Event.{Event}
 use Rattle.config_core.specs.declared.event.Event.TheVariants.{Command as CommandOf}
@@ -20,13 +18,14 @@ use Rattle.config_db.specs.declared.answer.Answered.{Answered}
 use Rattle.config_db.specs.declared.answer.Answered.TheVariants.{Kept, NoMemory}
 use Rattle.config_db.specs.declared.answer.Ticked.{Ticked}
 use Rattle.config_db.specs.Answers.{Answers, IsAnswer, IsAnswered, MakesWay, moment_at}
-use Rattle.config_db.specs.Disks.{FaultRose, GoesOn}
-use Rattle.config_db.specs.Moves.{Extends, HasCause, IsOf}
+use Rattle.config_db.specs.Moves.{Extends, HasCause}
 use Rattle.config_db.specs.Shown.{Shows}
 use Rattle.config_db.specs.View.{DatabaseView, opened}
+use Rattle.config_db.proofs.CalledLemmas.{called_none, called_then}
+use Rattle.config_db.proofs.DiskLemmas.{goes_further, goes_nowhere, rose_first, rose_last, tell_on}
 use Rattle.config_db.proofs.FaultLemmas.{counted_more, counted_none}
 use Rattle.session_history.specs.declared.history.Happened.{Happened}
-use Rattle.session_history.specs.Events.{IsAsked, IsAt, Leads, is_command, places_from, places_of}
+use Rattle.session_history.specs.Events.{IsAsked, IsAt, Leads, is_command, places_from, places_of, IsEventOf}
 use Rattle.session_history.specs.Kept.{WasKept}
 use Rattle.session_history.proofs.EventLemmas.{Leads-append, at_seam, no_places, one_place, places_from-append, places_of-append}
 use Rattle.turn_lock.specs.Histories.{AddsOwn}
@@ -50,84 +49,83 @@ steps_of s caller moment event turned h callers moments events steps =
 
 -- the last of a caller's own events is the caller's, at that moment
 last_of : (caller moment : ℕ) (front own : List Happened) (last : Happened) → own ≡ front ++ last ∷ []
-    → AllByRecursion (IsOf caller moment) own → IsOf caller moment last
+    → AllByRecursion (IsEventOf caller moment) own → IsEventOf caller moment last
 last_of caller moment front own last is made =
-    (all_back (IsOf caller moment) front (last ∷ []) (subst (AllByRecursion (IsOf caller moment)) is made)).0
+    (all_back (IsEventOf caller moment) front (last ∷ []) (subst (AllByRecursion (IsEventOf caller moment)) is made)).0
 
-module _ {D : Type 0} where
-  -- the command stands at its place of the grown history
-  is_asked : (opening : State) (caller answer moment : ℕ) (command : Command) (place : ℕ) (reply : Reply) (own : List Happened)
-      (v v' : DatabaseView D) → Leads opening v.events v.state → moment ≡ max answer v.state.greatest
-      → AllByRecursion (IsOf caller moment) own → IsAnswered caller moment command place reply own v v'
-      → IsAsked opening (v.events ++ own) place caller answer command reply
-  is_asked opening caller answer moment command place reply own v v' leads is_moment made given =
-      let ahead : List Happened = v.events ++ given.front in
-      let whole : v.events ++ own ≡ ahead ++ given.last ∷ [] =
-      ap (λ l. v.events ++ l) given.is_own ∙ sym (append_assoc v.events given.front (given.last ∷ [])) in
-      let last : IsOf caller moment given.last = last_of caller moment given.front own given.last given.is_own made in
-      record {
-        before = given.before;
-        event = given.last;
-        is_at = subst (λ l. IsAt opening l place given.before given.last reply) (sym whole) (record {
-          within = omega (arith, given.at_end, length-append ahead (given.last ∷ []));
-          is = ap (λ p. slice_get (ahead ++ given.last ∷ []) p) given.at_end ∙ at_seam ahead [] given.last;
-          leads = subst (λ front. Leads opening front given.before)
-              (sym (ap (λ p. take p (ahead ++ given.last ∷ [])) given.at_end ∙ take-append_seam ahead (given.last ∷ [])))
-              (Leads-append opening v.events given.front v.state given.before leads given.leads);
-          turned = given.turned;
-          steps = steps_of given.before caller moment (CommandOf command) given.turned given.last last.0 last.1 given.asks given.steps;
-          replied = given.replied;
-        });
-        own = last.0;
-        when = omega (arith, last.1, is_moment, given.since, given.no_later);
-        asks = given.asks;
-      }
+-- the command stands at its place of the grown history
+is_asked : (opening : State) (caller answer moment : ℕ) (command : Command) (place : ℕ) (reply : Reply) (own : List Happened)
+    (v v' : DatabaseView) → Leads opening v.events v.state → moment ≡ max answer v.state.greatest
+    → AllByRecursion (IsEventOf caller moment) own → IsAnswered caller moment command place reply own v v'
+    → IsAsked opening (v.events ++ own) place caller answer command reply
+is_asked opening caller answer moment command place reply own v v' leads is_moment made given =
+    let ahead : List Happened = v.events ++ given.front in
+    let whole : v.events ++ own ≡ ahead ++ given.last ∷ [] =
+    ap (λ l. v.events ++ l) given.is_own ∙ sym (append_assoc v.events given.front (given.last ∷ [])) in
+    let last : IsEventOf caller moment given.last = last_of caller moment given.front own given.last given.is_own made in
+    record {
+      before = given.before;
+      event = given.last;
+      is_at = subst (λ l. IsAt opening l place given.before given.last reply) (sym whole) (record {
+        within = omega (arith, given.at_end, length-append ahead (given.last ∷ []));
+        is = ap (λ p. slice_get (ahead ++ given.last ∷ []) p) given.at_end ∙ at_seam ahead [] given.last;
+        leads = subst (λ front. Leads opening front given.before)
+            (sym (ap (λ p. take p (ahead ++ given.last ∷ [])) given.at_end ∙ take-append_seam ahead (given.last ∷ [])))
+            (Leads-append opening v.events given.front v.state given.before leads given.leads);
+        turned = given.turned;
+        steps = steps_of given.before caller moment (CommandOf command) given.turned given.last last.0 last.1 given.asks given.steps;
+        replied = given.replied;
+      });
+      own = last.0;
+      when = omega (arith, last.1, is_moment, given.since, given.no_later);
+      asks = given.asks;
+    }
 
-  named : (opening : State) (caller answer moment : ℕ) (command : Command) (answered : Answered) (own : List Happened)
-      (v v' : DatabaseView D) → Leads opening v.events v.state → moment ≡ max answer v.state.greatest
-      → AllByRecursion (IsOf caller moment) own → IsAnswer caller moment command answered own v v'
-      → HasEvent opening caller (v.events ++ own) command answer answered
-  named opening caller answer moment command (Kept place reply) own v v' leads is_moment made given =
-      is_asked opening caller answer moment command place reply own v v' leads is_moment made given
-  named opening caller answer moment command NoMemory own v v' leads is_moment made given = tt
+named : (opening : State) (caller answer moment : ℕ) (command : Command) (answered : Answered) (own : List Happened)
+    (v v' : DatabaseView) → Leads opening v.events v.state → moment ≡ max answer v.state.greatest
+    → AllByRecursion (IsEventOf caller moment) own → IsAnswer caller moment command answered own v v'
+    → HasEvent opening caller (v.events ++ own) command answer answered
+named opening caller answer moment command (Kept place reply) own v v' leads is_moment made given =
+    is_asked opening caller answer moment command place reply own v v' leads is_moment made given
+named opening caller answer moment command NoMemory own v v' leads is_moment made given = tt
 
-  -- the places of a caller's own events
-  places : (caller moment : ℕ) (command : Command) (answered : Answered) (own : List Happened) (v v' : DatabaseView D)
-      → AllByRecursion (IsOf caller moment) own → IsAnswer caller moment command answered own v v'
-      → places_of caller (v.events ++ own) ≡ places_of caller v.events ++ places_answered answered
-  places caller moment command (Kept place reply) own v v' made given =
-      let at_end : length v.events + length given.front ≡ place = omega (arith, given.at_end, length-append v.events given.front) in
-      let last : IsOf caller moment given.last = last_of caller moment given.front own given.last given.is_own made in
-      places_of-append caller v.events own
-      ∙ ap (λ l. places_of caller v.events ++ places_from (length v.events) caller l) given.is_own
-      ∙ ap (λ l. places_of caller v.events ++ l) (places_from-append (length v.events) caller given.front (given.last ∷ [])
-      ∙ ap (λ l. l ++ places_from (length v.events + length given.front) caller (given.last ∷ []))
-      (no_places (length v.events) caller given.front given.no_command)
-      ∙ one_place (length v.events + length given.front) caller given.last (ap is_command given.asks) last.0
-      ∙ ap (λ p. p ∷ []) at_end)
-  places caller moment command NoMemory own v v' made given =
-      places_of-append caller v.events own
-      ∙ ap (λ l. places_of caller v.events ++ l) (no_places (length v.events) caller own given)
+-- the places of a caller's own events
+places : (caller moment : ℕ) (command : Command) (answered : Answered) (own : List Happened) (v v' : DatabaseView)
+    → AllByRecursion (IsEventOf caller moment) own → IsAnswer caller moment command answered own v v'
+    → places_of caller (v.events ++ own) ≡ places_of caller v.events ++ places_answered answered
+places caller moment command (Kept place reply) own v v' made given =
+    let at_end : length v.events + length given.front ≡ place = omega (arith, given.at_end, length-append v.events given.front) in
+    let last : IsEventOf caller moment given.last = last_of caller moment given.front own given.last given.is_own made in
+    places_of-append caller v.events own
+    ∙ ap (λ l. places_of caller v.events ++ places_from (length v.events) caller l) given.is_own
+    ∙ ap (λ l. places_of caller v.events ++ l) (places_from-append (length v.events) caller given.front (given.last ∷ [])
+    ∙ ap (λ l. l ++ places_from (length v.events + length given.front) caller (given.last ∷ []))
+    (no_places (length v.events) caller given.front given.no_command)
+    ∙ one_place (length v.events + length given.front) caller given.last (ap is_command given.asks) last.0
+    ∙ ap (λ p. p ∷ []) at_end)
+places caller moment command NoMemory own v v' made given =
+    places_of-append caller v.events own
+    ∙ ap (λ l. places_of caller v.events ++ l) (no_places (length v.events) caller own given)
 
-  -- what a turn's own events are
-  turned : (caller moment : ℕ) (command : Command) (answered : Answered) (own : List Happened) (v v' : DatabaseView D)
-      → v'.events ≡ v.events ++ own → IsAnswer caller moment command answered own v v' → IsTurn answered own v'.events
-  turned caller moment command (Kept place reply) own v v' grown given = record {
-    front = given.front;
-    last = given.last;
-    is_own = given.is_own;
-    no_command = given.no_command;
-    at_end = omega (
-      arith,
-      ap length grown,
-      length-append v.events own,
-      ap length given.is_own,
-      length-append given.front (given.last ∷ []),
-      given.at_end,
-      length-append v.events given.front,
-    );
-  }
-  turned caller moment command NoMemory own v v' grown given = given
+-- what a turn's own events are
+turned : (caller moment : ℕ) (command : Command) (answered : Answered) (own : List Happened) (v v' : DatabaseView)
+    → v'.events ≡ v.events ++ own → IsAnswer caller moment command answered own v v' → IsTurn answered own v'.events
+turned caller moment command (Kept place reply) own v v' grown given = record {
+  front = given.front;
+  last = given.last;
+  is_own = given.is_own;
+  no_command = given.no_command;
+  at_end = omega (
+    arith,
+    ap length grown,
+    length-append v.events own,
+    ap length given.is_own,
+    length-append given.front (given.last ∷ []),
+    given.at_end,
+    length-append v.events given.front,
+  );
+}
+turned caller moment command NoMemory own v v' grown given = given
 
 -- a copy of what is kept is the last of a list whose last one that is
 pub IsLast-again : {V : Type 0} (value : V → KeptList) (list : List KeptList) (view : Option V) (last kept : KeptList)
@@ -135,172 +133,138 @@ pub IsLast-again : {V : Type 0} (value : V → KeptList) (list : List KeptList) 
 IsLast-again value list None last kept same is is_last = tt
 IsLast-again value list (Some v) last kept same is is_last = subst (IsLast list) (sym (same ∙ is)) is_last
 
--- a count that rose in a part of the calls rose in all
-rose_more : (a b c : ℕ) → Rose a b → b ≤ c → Rose a c
-rose_more a b c (inl rose) le = inl (omega (arith, rose, le))
-rose_more a b c (inr full) le = inr full
+-- nothing happened
+pub AddsUp-none : (v : DatabaseView) → AddsUp [] v v
+AddsUp-none v = record {
+  same = record { opening = refl; users = refl };
+  goes = goes_nowhere v.journal;
+  called = λ tell. called_none v.journal;
+  causes = tt;
+  counted = counted_none (disks_of v.journal) (disks_of v.journal) (omega arith) (omega arith);
+}
 
-pub rose_since : (a b c : ℕ) → a ≤ b → b ≤ c → Rose b c → Rose a c
-rose_since a b c le more (inl rose) = inl (omega (arith, rose, le))
-rose_since a b c le more (inr full) =
-    ⊎_elim (λ below. inl (omega (arith, below, more))) (λ same. inr (omega (arith, same, full))) (cases_lt a b)
+-- events, and then those of one turn
+pub AddsUp-then : (caller moment : ℕ) (events own : List Happened) (u v w : DatabaseView) → AddsUp events u v
+    → Extends caller moment own v w → AddsUp (events ++ own) u w
+AddsUp-then caller moment events own u v w first next = record {
+  same = record { opening = next.same.opening ∙ first.same.opening; users = next.same.users ∙ first.same.users };
+  goes = goes_further u.journal v.journal w.journal first.goes next.goes;
+  called = λ tell. called_then u.journal v.journal w.journal (first.called tell) (next.called (tell_on u.journal v.journal first.goes tell));
+  causes = All-append (HasCause u.journal w.journal) events own
+      (All-weaker (HasCause u.journal v.journal) (HasCause u.journal w.journal) events
+      (λ e cause is. rose_first u.journal v.journal w.journal (cause is) next.goes) first.causes)
+      (All-weaker (HasCause v.journal w.journal) (HasCause u.journal w.journal) own
+      (λ e cause is. rose_last u.journal v.journal w.journal first.goes next.goes (cause is)) next.causes);
+  counted = counted_more events own (disks_of u.journal) (disks_of v.journal) (disks_of w.journal) next.goes.faults_a
+      next.goes.faults_b first.counted next.counted;
+}
 
-module _ {D : Type 0} (tells : D → Bool) (faults : D → ℕ) where
-  goes_nowhere : (j : JournalView D) → GoesOn tells faults j j
-  goes_nowhere j = record {
-    calls = record { a = omega arith; b = omega arith };
-    tells_a = refl;
-    tells_b = refl;
-    faults_a = omega arith;
-    faults_b = omega arith;
-  }
+-- what adds up from a database on adds up from how it began on
+AddsUp-begins : (events : List Happened) (v w : DatabaseView) → AddsUp events v w
+    → AddsUp events (start_of v) w
+AddsUp-begins events v w adds = record {
+  same = record { opening = adds.same.opening; users = adds.same.users };
+  goes = adds.goes;
+  called = adds.called;
+  causes = adds.causes;
+  counted = adds.counted;
+}
 
-  goes_further : (i j k : JournalView D) → GoesOn tells faults i j → GoesOn tells faults j k → GoesOn tells faults i k
-  goes_further i j k first then_on = record {
-    calls = record { a = omega (arith, first.calls.a, then_on.calls.a); b = omega (arith, first.calls.b, then_on.calls.b) };
-    tells_a = then_on.tells_a ∙ first.tells_a;
-    tells_b = then_on.tells_b ∙ first.tells_b;
-    faults_a = omega (arith, first.faults_a, then_on.faults_a);
-    faults_b = omega (arith, first.faults_b, then_on.faults_b);
-  }
+-- and the other way
+pub AddsUp-begun : (events : List Happened) (v w : DatabaseView) → AddsUp events (start_of v) w
+    → AddsUp events v w
+AddsUp-begun events v w adds = record {
+  same = record { opening = adds.same.opening; users = adds.same.users };
+  goes = adds.goes;
+  called = adds.called;
+  causes = adds.causes;
+  counted = adds.counted;
+}
 
-  rose_first : (i j k : JournalView D) → FaultRose faults i j → GoesOn tells faults j k → FaultRose faults i k
-  rose_first i j k (inl rose) on = inl (rose_more _ _ _ rose on.faults_a)
-  rose_first i j k (inr rose) on = inr (rose_more _ _ _ rose on.faults_b)
+-- before the first turn
+pub IsUnderway-none : (first v : DatabaseView) → first ≡ start_of v → v.events ≡ [] → v.state ≡ opened v
+    → IsUnderway (record { first = first; database = v })
+IsUnderway-none first v same fresh starts =
+    subst (λ (u : DatabaseView). IsUnderway (record { first = u; database = v })) (sym same) (record {
+      fresh = refl;
+      leads = subst (λ l. Leads (opened v) l v.state) (sym fresh) starts;
+      adds = subst (λ l. AddsUp l (start_of v) v) (sym fresh) (AddsUp-begins [] v v (AddsUp-none v));
+    })
 
-  rose_last : (i j k : JournalView D) → GoesOn tells faults i j → GoesOn tells faults j k → FaultRose faults j k
-      → FaultRose faults i k
-  rose_last i j k on more (inl rose) = inl (rose_since _ _ _ on.faults_a more.faults_a rose)
-  rose_last i j k on more (inr rose) = inr (rose_since _ _ _ on.faults_b more.faults_b rose)
+module _ (caller moment : ℕ) (own : List Happened) (first v v' : DatabaseView) (extends : Extends caller moment own v v')
+  where
+    -- after one turn more
+    pub IsUnderway-then : IsUnderway (record { first = first; database = v })
+        → IsUnderway (record { first = first; database = v' })
+    IsUnderway-then is = record {
+      fresh = is.fresh;
+      leads = subst (λ l. Leads (opened first) l v'.state) (sym extends.grown)
+          (Leads-append (opened first) v.events own v.state v'.state is.leads extends.leads);
+      adds = subst (λ l. AddsUp l first v') (sym extends.grown)
+          (AddsUp-then caller moment v.events own first v v' is.adds extends);
+    }
 
-  -- nothing happened
-  pub AddsUp-none : (v : DatabaseView D) → AddsUp tells faults [] v v
-  AddsUp-none v = record {
-    same = record { opening = refl; users = refl };
-    goes = goes_nowhere v.journal;
-    causes = tt;
-    counted = counted_none faults _ _ _ _ (omega arith) (omega arith);
-  }
+    -- the turn's events are the caller's
+    pub AddsOwn-of : AddsOwn caller_in caller v.events v'.events
+    AddsOwn-of = (
+      own,
+      extends.grown,
+      All-weaker (IsEventOf caller moment) (λ event. event.caller ≡ caller) own (λ event is. is.0) extends.made,
+    )
 
-  -- events, and then those of one turn
-  pub AddsUp-then : (caller moment : ℕ) (events own : List Happened) (u v w : DatabaseView D) → AddsUp tells faults events u v
-      → Extends tells faults caller moment own v w → AddsUp tells faults (events ++ own) u w
-  AddsUp-then caller moment events own u v w first next = record {
-    same = record { opening = next.same.opening ∙ first.same.opening; users = next.same.users ∙ first.same.users };
-    goes = goes_further u.journal v.journal w.journal first.goes next.goes;
-    causes = All-append (HasCause faults u.journal w.journal) events own
-        (All-weaker (HasCause faults u.journal v.journal) (HasCause faults u.journal w.journal) events
-        (λ e cause is. rose_first u.journal v.journal w.journal (cause is) next.goes) first.causes)
-        (All-weaker (HasCause faults v.journal w.journal) (HasCause faults u.journal w.journal) own
-        (λ e cause is. rose_last u.journal v.journal w.journal first.goes next.goes (cause is)) next.causes);
-    counted = counted_more faults events own (disk_a u.journal) (disk_b u.journal) (disk_a v.journal) (disk_b v.journal)
-        (disk_a w.journal) (disk_b w.journal) next.goes.faults_a next.goes.faults_b first.counted next.counted;
-  }
-
-  -- what adds up from a database on adds up from how it began on
-  AddsUp-begins : (events : List Happened) (v w : DatabaseView D) → AddsUp tells faults events v w
-      → AddsUp tells faults events (start_of v) w
-  AddsUp-begins events v w adds = record {
-    same = record { opening = adds.same.opening; users = adds.same.users };
-    goes = adds.goes;
-    causes = adds.causes;
-    counted = adds.counted;
-  }
-
-  -- and the other way
-  pub AddsUp-begun : (events : List Happened) (v w : DatabaseView D) → AddsUp tells faults events (start_of v) w
-      → AddsUp tells faults events v w
-  AddsUp-begun events v w adds = record {
-    same = record { opening = adds.same.opening; users = adds.same.users };
-    goes = adds.goes;
-    causes = adds.causes;
-    counted = adds.counted;
-  }
-
-  -- before the first turn
-  pub IsUnderway-none : (first v : DatabaseView D) → first ≡ start_of v → v.events ≡ [] → v.state ≡ opened v
-      → IsUnderway tells faults (record { first = first; database = v })
-  IsUnderway-none first v same fresh starts =
-      subst (λ (u : DatabaseView D). IsUnderway tells faults (record { first = u; database = v })) (sym same) (record {
-        fresh = refl;
-        leads = subst (λ l. Leads (opened v) l v.state) (sym fresh) starts;
-        adds = subst (λ l. AddsUp tells faults l (start_of v) v) (sym fresh) (AddsUp-begins [] v v (AddsUp-none v));
-      })
-
-  module _ (caller moment : ℕ) (own : List Happened) (first v v' : DatabaseView D) (extends : Extends tells faults caller moment own v v')
-    where
-      -- after one turn more
-      pub IsUnderway-then : IsUnderway tells faults (record { first = first; database = v })
-          → IsUnderway tells faults (record { first = first; database = v' })
-      IsUnderway-then is = record {
-        fresh = is.fresh;
-        leads = subst (λ l. Leads (opened first) l v'.state) (sym extends.grown)
-            (Leads-append (opened first) v.events own v.state v'.state is.leads extends.leads);
-        adds = subst (λ l. AddsUp tells faults l first v') (sym extends.grown)
-            (AddsUp-then caller moment v.events own first v v' is.adds extends);
-      }
-
-      -- the turn's events are the caller's
-      pub AddsOwn-of : AddsOwn caller_in caller v.events v'.events
-      AddsOwn-of = (
-        own,
-        extends.grown,
-        All-weaker (IsOf caller moment) (λ event. event.caller ≡ caller) own (λ event is. is.0) extends.made,
-      )
-
-  -- the history after the turn of a command
-  pub FollowsAlone-of : (first v v' : DatabaseView D) (caller answer : ℕ) (command : Command) (answered : Answered)
-      → Leads (opened first) v.events v.state → Answers tells faults caller (moment_at answer v) command answered v v'
-      → FollowsAlone first caller v.events command answer answered v'.events
-  FollowsAlone-of first v v' caller answer command answered leads asks = record {
-    follows = record {
-      grows = record {
-        others = [];
-        own = asks.own;
-        grown = asks.extends.grown;
-        not_own = tt;
-        before = v.state;
-        leads = subst (λ l. Leads (opened first) l v.state) (sym (append-nil v.events)) leads;
-        made = asks.extends.made;
-      };
-      named = subst (λ l. HasEvent (opened first) caller l command answer answered) (sym asks.extends.grown)
-          (named (opened first) caller answer (moment_at answer v) command answered asks.own v v' leads refl asks.extends.made
-          asks.answer);
-      turn = turned caller (moment_at answer v) command answered asks.own v v' asks.extends.grown asks.answer;
-      places = ap (places_of caller) asks.extends.grown
-          ∙ places caller (moment_at answer v) command answered asks.own v v' asks.extends.made asks.answer;
+-- the history after the turn of a command
+pub FollowsAlone-of : (first v v' : DatabaseView) (caller answer : ℕ) (command : Command) (answered : Answered)
+    → Leads (opened first) v.events v.state → Answers caller (moment_at answer v) command answered v v'
+    → FollowsAlone first caller v.events command answer answered v'.events
+FollowsAlone-of first v v' caller answer command answered leads asks = record {
+  follows = record {
+    grows = record {
+      others = [];
+      own = asks.own;
+      grown = asks.extends.grown;
+      not_own = tt;
+      before = v.state;
+      leads = subst (λ l. Leads (opened first) l v.state) (sym (append-nil v.events)) leads;
+      made = asks.extends.made;
     };
-    alone = refl;
-  }
+    named = subst (λ l. HasEvent (opened first) caller l command answer answered) (sym asks.extends.grown)
+        (named (opened first) caller answer (moment_at answer v) command answered asks.own v v' leads refl asks.extends.made
+        asks.answer);
+    turn = turned caller (moment_at answer v) command answered asks.own v v' asks.extends.grown asks.answer;
+    places = ap (places_of caller) asks.extends.grown
+        ∙ places caller (moment_at answer v) command answered asks.own v v' asks.extends.made asks.answer;
+  };
+  alone = refl;
+}
 
-  -- what a database tells of the lists that it kept
-  pub TellsKept-of : (first v : DatabaseView D) → IsUnderway tells faults (record { first = first; database = v })
-      → AreViews v.shown.list → Shows (opened v) v.events v.state v.shown → TellsKept (opened first) v.events v.shown.list
-  TellsKept-of first v underway views shows =
-      let same : opened v ≡ opened first = λ i. opening_of (underway.adds.same.opening i) (underway.adds.same.users i) in
-      record {
-        after = v.state;
-        leads = underway.leads;
-        views = views;
-        each = subst (λ s. AllByRecursion (WasKept s v.events) v.shown.list) same shows.all;
-        is_last = shows.last;
-      }
+-- what a database tells of the lists that it kept
+pub TellsKept-of : (first v : DatabaseView) → IsUnderway (record { first = first; database = v })
+    → AreViews v.shown.list → Shows (opened v) v.events v.state v.shown → TellsKept (opened first) v.events v.shown.list
+TellsKept-of first v underway views shows =
+    let same : opened v ≡ opened first = λ i. opening_of (underway.adds.same.opening i) (underway.adds.same.users i) in
+    record {
+      after = v.state;
+      leads = underway.leads;
+      views = views;
+      each = subst (λ s. AllByRecursion (WasKept s v.events) v.shown.list) same shows.all;
+      is_last = shows.last;
+    }
 
-  -- the history after one look at the time
-  pub LooksAlone-of : (first v v' : DatabaseView D) (answer : ℕ) (ticked : Ticked) → Leads (opened first) v.events v.state
-      → MakesWay tells faults 0 (moment_at answer v) ticked v v' → LooksAlone (opened first) answer v.events v'.events
-  LooksAlone-of first v v' answer ticked leads way = record {
-    looks = record {
-      grows = record {
-        others = [];
-        own = way.own;
-        grown = way.extends.grown;
-        not_own = tt;
-        before = v.state;
-        leads = subst (λ l. Leads (opened first) l v.state) (sym (append-nil v.events)) leads;
-        made = way.extends.made;
-      };
-      no_command = way.no_command;
+-- the history after one look at the time
+pub LooksAlone-of : (first v v' : DatabaseView) (answer : ℕ) (ticked : Ticked) → Leads (opened first) v.events v.state
+    → MakesWay 0 (moment_at answer v) ticked v v' → LooksAlone (opened first) answer v.events v'.events
+LooksAlone-of first v v' answer ticked leads way = record {
+  looks = record {
+    grows = record {
+      others = [];
+      own = way.own;
+      grown = way.extends.grown;
+      not_own = tt;
+      before = v.state;
+      leads = subst (λ l. Leads (opened first) l v.state) (sym (append-nil v.events)) leads;
+      made = way.extends.made;
     };
-    alone = refl;
-  }
+    no_command = way.no_command;
+  };
+  alone = refl;
+}

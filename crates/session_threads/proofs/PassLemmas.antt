@@ -110,86 +110,85 @@ FollowsTurn-none opening caller answer events command legal = record {
   places = sym (append-nil (places_of caller events));
 }
 
-module _ {D : Type 0} where
-  pub WentOn-same : (pass : CallerPass D) → KnowsOwn pass → WentOn pass pass
-  WentOn-same pass own = record {
-    lock = refl;
-    caller = refl;
-    fixed = refl;
-    callers = refl;
-    splits = refl;
-    ended = refl;
-    later = ([], append-nil pass.seen);
-    own = own;
+pub WentOn-same : (pass : CallerPass) → KnowsOwn pass → WentOn pass pass
+WentOn-same pass own = record {
+  lock = refl;
+  caller = refl;
+  fixed = refl;
+  callers = refl;
+  splits = refl;
+  ended = refl;
+  later = ([], append-nil pass.seen);
+  own = own;
+}
+
+pub WentOn-then : (a b c : CallerPass) → WentOn a b → WentOn b c → WentOn a c
+WentOn-then a b c first next = record {
+  lock = next.lock ∙ first.lock;
+  caller = next.caller ∙ first.caller;
+  fixed = next.fixed ∙ first.fixed;
+  callers = next.callers ∙ first.callers;
+  splits = next.splits ∙ first.splits;
+  ended = next.ended ∙ first.ended;
+  later = (
+    first.later.0 ++ next.later.0,
+    sym (append_assoc a.seen first.later.0 next.later.0) ∙ ap (λ l. l ++ next.later.0) first.later.1 ∙ next.later.1,
+  );
+  own = next.own;
+}
+
+module _ (says : DatabaseView → List Happened → List Happened → Type 0) (old new : CallerPass)
+    (took : TookTurn caller_in says old new) where
+  pub WentOn-took : WentOn old new
+  WentOn-took = record {
+    lock = ap (λ (p : CallerPass). p.lock) took.is_new;
+    caller = ap (λ (p : CallerPass). p.caller) took.is_new;
+    fixed = ap (λ (p : CallerPass). p.fixed) took.is_new;
+    callers = ap (λ (p : CallerPass). p.callers) took.is_new;
+    splits = ap (λ (p : CallerPass). p.splits) took.is_new;
+    ended = ap (λ (p : CallerPass). p.ended) took.is_new;
+    later = (grows caller_in says old new took).0;
+    own = (grows caller_in says old new took).1;
   }
 
-  pub WentOn-then : (a b c : CallerPass D) → WentOn a b → WentOn b c → WentOn a c
-  WentOn-then a b c first next = record {
-    lock = next.lock ∙ first.lock;
-    caller = next.caller ∙ first.caller;
-    fixed = next.fixed ∙ first.fixed;
-    callers = next.callers ∙ first.callers;
-    splits = next.splits ∙ first.splits;
-    ended = next.ended ∙ first.ended;
-    later = (
-      first.later.0 ++ next.later.0,
-      sym (append_assoc a.seen first.later.0 next.later.0) ∙ ap (λ l. l ++ next.later.0) first.later.1 ∙ next.later.1,
-    );
-    own = next.own;
-  }
+  -- what came behind the events that the pass had seen, before its turn, is others'
+  pub not_own-took : KnowsOwn old → AllByRecursion (λ event. event.caller ≢ old.caller) took.begins.0
+  not_own-took own = others_behind old.caller old.seen took.begins.0 old.own own
+      (ap (entries_by caller_in old.caller) took.begins.1 ∙ took.had_own)
 
-  module _ (says : DatabaseView D → List Happened → List Happened → Type 0) (old new : CallerPass D)
-      (took : TookTurn caller_in says old new) where
-    pub WentOn-took : WentOn old new
-    WentOn-took = record {
-      lock = ap (λ (p : CallerPass D). p.lock) took.is_new;
-      caller = ap (λ (p : CallerPass D). p.caller) took.is_new;
-      fixed = ap (λ (p : CallerPass D). p.fixed) took.is_new;
-      callers = ap (λ (p : CallerPass D). p.callers) took.is_new;
-      splits = ap (λ (p : CallerPass D). p.splits) took.is_new;
-      ended = ap (λ (p : CallerPass D). p.ended) took.is_new;
-      later = (grows caller_in says old new took).0;
-      own = (grows caller_in says old new took).1;
-    }
+  pub seen-took : new.seen ≡ took.before ++ took.added
+  seen-took = ap (λ (p : CallerPass). p.seen) took.is_new
 
-    -- what came behind the events that the pass had seen, before its turn, is others'
-    pub not_own-took : KnowsOwn old → AllByRecursion (λ event. event.caller ≢ old.caller) took.begins.0
-    not_own-took own = others_behind old.caller old.seen took.begins.0 old.own own
-        (ap (entries_by caller_in old.caller) took.begins.1 ∙ took.had_own)
+  pub own-took : new.own ≡ old.own ++ took.added
+  own-took = ap (λ (p : CallerPass). p.own) took.is_new
 
-    pub seen-took : new.seen ≡ took.before ++ took.added
-    seen-took = ap (λ (p : CallerPass D). p.seen) took.is_new
+-- how a pass follows after a turn that asked a command
+pub FollowsTurn-took : (old new : CallerPass) (command : Command) (answer : ℕ) (answered : Answered)
+    (More : DatabaseView → List Happened → Type 0) → KnowsOwn old
+    → TookTurn caller_in (λ first before after.
+    FollowsAlone first old.caller before command answer answered after × More first after) old new
+    → WentOn old new × ((first : DatabaseView) → old.fixed ≡ Some first
+    → FollowsTurn (opened first) old.caller old.seen command answer answered new.seen × More first new.seen)
+FollowsTurn-took old new command answer answered More own took =
+    let says : DatabaseView → List Happened → List Happened → Type 0 =
+    λ first before after. FollowsAlone first old.caller before command answer answered after × More first after in
+    let behind : FollowsTurn (opened took.fixed) old.caller old.seen command answer answered (took.before ++ took.added) =
+    Follows-behind (opened took.fixed) old.caller answer old.seen took.begins.0 took.before (took.before ++ took.added)
+    (sym took.begins.1) (not_own-took says old new took own) command answered took.said.0.follows took.said.0.alone in (
+      WentOn-took says old new took,
+      λ first fixed.
+          subst (λ f. FollowsTurn (opened f) old.caller old.seen command answer answered new.seen × More f new.seen)
+          (some_is (sym took.is_fixed ∙ fixed))
+          (subst (λ events'. FollowsTurn (opened took.fixed) old.caller old.seen command answer answered events'
+          × More took.fixed events') (sym (seen-took says old new took)) (behind, took.said.1)),
+    )
 
-    pub own-took : new.own ≡ old.own ++ took.added
-    own-took = ap (λ (p : CallerPass D). p.own) took.is_new
-
-  -- how a pass follows after a turn that asked a command
-  pub FollowsTurn-took : (old new : CallerPass D) (command : Command) (answer : ℕ) (answered : Answered)
-      (More : DatabaseView D → List Happened → Type 0) → KnowsOwn old
-      → TookTurn caller_in (λ first before after.
-      FollowsAlone first old.caller before command answer answered after × More first after) old new
-      → WentOn old new × ((first : DatabaseView D) → old.fixed ≡ Some first
-      → FollowsTurn (opened first) old.caller old.seen command answer answered new.seen × More first new.seen)
-  FollowsTurn-took old new command answer answered More own took =
-      let says : DatabaseView D → List Happened → List Happened → Type 0 =
-      λ first before after. FollowsAlone first old.caller before command answer answered after × More first after in
-      let behind : FollowsTurn (opened took.fixed) old.caller old.seen command answer answered (took.before ++ took.added) =
-      Follows-behind (opened took.fixed) old.caller answer old.seen took.begins.0 took.before (took.before ++ took.added)
-      (sym took.begins.1) (not_own-took says old new took own) command answered took.said.0.follows took.said.0.alone in (
-        WentOn-took says old new took,
-        λ first fixed.
-            subst (λ f. FollowsTurn (opened f) old.caller old.seen command answer answered new.seen × More f new.seen)
-            (some_is (sym took.is_fixed ∙ fixed))
-            (subst (λ events'. FollowsTurn (opened took.fixed) old.caller old.seen command answer answered events'
-            × More took.fixed events') (sym (seen-took says old new took)) (behind, took.said.1)),
-      )
-
-  pub IsReady-then : (lock : TableId) (first : DatabaseView D) (old new : CallerPass D) → IsReady lock first old → WentOn old new
-      → IsLegal (opened first) new.seen → IsReady lock first new
-  IsReady-then lock first old new ready goes legal = record {
-    here = goes.lock ∙ ready.here;
-    fixed = goes.fixed ∙ ready.fixed;
-    within = subst (λ c. (0 < c) × (c ≤ length first.users)) (sym goes.caller) ready.within;
-    own = goes.own;
-    legal = legal;
-  }
+pub IsReady-then : (lock : TableId) (first : DatabaseView) (old new : CallerPass) → IsReady lock first old → WentOn old new
+    → IsLegal (opened first) new.seen → IsReady lock first new
+IsReady-then lock first old new ready goes legal = record {
+  here = goes.lock ∙ ready.here;
+  fixed = goes.fixed ∙ ready.fixed;
+  within = subst (λ c. (0 < c) × (c ≤ length first.users)) (sym goes.caller) ready.within;
+  own = goes.own;
+  legal = legal;
+}

@@ -49,65 +49,65 @@ status_then (SinkFault ∷ hows) how = refl
 status_then (InputFull ∷ hows) how = refl
 status_then (NoMemory ∷ hows) how = refl
 
-module _ {S K C D J : Type 0} where
+module _ {S K C J : Type 0} where
   -- one more seat
-  taken-then : (seats : List (Option (Seat S K C (DatabaseView D) J))) (seat : Seat S K C (DatabaseView D) J)
+  taken-then : (seats : List (Option (Seat S K C DatabaseView J))) (seat : Seat S K C DatabaseView J)
       → taken (seats ++ Some seat ∷ []) ≡ taken seats ++ seat ∷ []
   taken-then [] seat = refl
   taken-then (None ∷ seats) seat = taken-then seats seat
   taken-then (Some one ∷ seats) seat = ap (λ l. one ∷ l) (taken-then seats seat)
 
-  with_all_ended-then : (pass : CallerPass D) (seats : List (Seat S K C (DatabaseView D) J)) (seat : Seat S K C (DatabaseView D) J)
+  with_all_ended-then : (pass : CallerPass) (seats : List (Seat S K C DatabaseView J)) (seat : Seat S K C DatabaseView J)
       → with_all_ended pass (seats ++ seat ∷ []) ≡ with_ended (with_all_ended pass seats) seat.pass
   with_all_ended-then pass [] seat = refl
   with_all_ended-then pass (one ∷ seats) seat = with_all_ended-then (with_ended pass one.pass) seats seat
 
   -- what the ended passes leave of the first one
-  pub lock-with_all_ended : (pass : CallerPass D) (seats : List (Seat S K C (DatabaseView D) J))
+  pub lock-with_all_ended : (pass : CallerPass) (seats : List (Seat S K C DatabaseView J))
       → (with_all_ended pass seats).lock ≡ pass.lock
   lock-with_all_ended pass [] = refl
   lock-with_all_ended pass (one ∷ seats) = lock-with_all_ended (with_ended pass one.pass) seats
 
-  pub caller-with_all_ended : (pass : CallerPass D) (seats : List (Seat S K C (DatabaseView D) J))
+  pub caller-with_all_ended : (pass : CallerPass) (seats : List (Seat S K C DatabaseView J))
       → (with_all_ended pass seats).caller ≡ pass.caller
   caller-with_all_ended pass [] = refl
   caller-with_all_ended pass (one ∷ seats) = caller-with_all_ended (with_ended pass one.pass) seats
 
-  pub fixed-with_all_ended : (pass : CallerPass D) (seats : List (Seat S K C (DatabaseView D) J))
+  pub fixed-with_all_ended : (pass : CallerPass) (seats : List (Seat S K C DatabaseView J))
       → (with_all_ended pass seats).fixed ≡ pass.fixed
   fixed-with_all_ended pass [] = refl
   fixed-with_all_ended pass (one ∷ seats) = fixed-with_all_ended (with_ended pass one.pass) seats
 
-  pub seen-with_all_ended : (pass : CallerPass D) (seats : List (Seat S K C (DatabaseView D) J))
+  pub seen-with_all_ended : (pass : CallerPass) (seats : List (Seat S K C DatabaseView J))
       → (with_all_ended pass seats).seen ≡ pass.seen
   seen-with_all_ended pass [] = refl
   seen-with_all_ended pass (one ∷ seats) = seen-with_all_ended (with_ended pass one.pass) seats
 
-  pub own-with_all_ended : (pass : CallerPass D) (seats : List (Seat S K C (DatabaseView D) J))
+  pub own-with_all_ended : (pass : CallerPass) (seats : List (Seat S K C DatabaseView J))
       → (with_all_ended pass seats).own ≡ pass.own
   own-with_all_ended pass [] = refl
   own-with_all_ended pass (one ∷ seats) = own-with_all_ended (with_ended pass one.pass) seats
 
-  pub splits-with_all_ended : (pass : CallerPass D) (seats : List (Seat S K C (DatabaseView D) J))
+  pub splits-with_all_ended : (pass : CallerPass) (seats : List (Seat S K C DatabaseView J))
       → (with_all_ended pass seats).splits ≡ pass.splits
   splits-with_all_ended pass [] = refl
   splits-with_all_ended pass (one ∷ seats) = splits-with_all_ended (with_ended pass one.pass) seats
 
-  pub ended-with_all_ended : (pass : CallerPass D) (seats : List (Seat S K C (DatabaseView D) J))
+  pub ended-with_all_ended : (pass : CallerPass) (seats : List (Seat S K C DatabaseView J))
       → (with_all_ended pass seats).ended ≡ pass.ended ++ map (λ seat. ended_of seat.pass) seats
   ended-with_all_ended pass [] = sym (append-nil pass.ended)
   ended-with_all_ended pass (one ∷ seats) = ended-with_all_ended (with_ended pass one.pass) seats
       ∙ append_assoc pass.ended (ended_of one.pass ∷ []) (map (λ seat. ended_of seat.pass) seats)
 
   -- no more seats are taken than there are
-  taken_few : (seats : List (Option (Seat S K C (DatabaseView D) J))) → length (taken seats) ≤ length seats
+  taken_few : (seats : List (Option (Seat S K C DatabaseView J))) → length (taken seats) ≤ length seats
   taken_few [] = omega arith
   taken_few (None ∷ seats) = let few : length (taken seats) ≤ length seats = taken_few seats in omega arith
   taken_few (Some seat ∷ seats) = let few : length (taken seats) ≤ length seats = taken_few seats in omega arith
 
   -- there is room for what one more leaves
-  pub room_left : {A : Type 0} (seats seats' : List (Option (Seat S K C (DatabaseView D) J))) (place : Option (Seat S K C (DatabaseView D) J))
-      (list : List A) (of_seat : Seat S K C (DatabaseView D) J → A) (capacity : ℕ) → seats' ≡ seats ++ place ∷ []
+  pub room_left : {A : Type 0} (seats seats' : List (Option (Seat S K C DatabaseView J))) (place : Option (Seat S K C DatabaseView J))
+      (list : List A) (of_seat : Seat S K C DatabaseView J → A) (capacity : ℕ) → seats' ≡ seats ++ place ∷ []
       → list ≡ map of_seat (taken seats) → length seats' ≤ capacity → length list < capacity
   room_left seats seats' place list of_seat capacity are is fits =
       let few : length (taken seats) ≤ length seats = taken_few seats in
@@ -116,15 +116,15 @@ module _ {S K C D J : Type 0} where
       omega (arith, few, size, more, fits)
 
   -- the last seat is of the lock, as all are
-  pub last_here : (lock : TableId) (seats seats' : List (Option (Seat S K C (DatabaseView D) J)))
-      (place : Option (Seat S K C (DatabaseView D) J)) (seat : Seat S K C (DatabaseView D) J) → All (IsSeatOf lock) seats'
+  pub last_here : (lock : TableId) (seats seats' : List (Option (Seat S K C DatabaseView J)))
+      (place : Option (Seat S K C DatabaseView J)) (seat : Seat S K C DatabaseView J) → All (IsSeatOf lock) seats'
       → seats' ≡ seats ++ place ∷ [] → place ≡ Some seat → seat.pass.lock ≡ lock
   last_here lock seats seats' place seat all are is =
       subst (IsSeatOf lock) is (All-pop (IsSeatOf lock) seats' seats (Some place) are all).1
 
   -- one more left
-  pub AreLeft-then : (seats seats' : List (Option (Seat S K C (DatabaseView D) J))) (place : Option (Seat S K C (DatabaseView D) J))
-      (seat : Seat S K C (DatabaseView D) J) (pass mid last : CallerPass D) (ends ends' : List (End S K C)) (turns turns' : List (List Turn))
+  pub AreLeft-then : (seats seats' : List (Option (Seat S K C DatabaseView J))) (place : Option (Seat S K C DatabaseView J))
+      (seat : Seat S K C DatabaseView J) (pass mid last : CallerPass) (ends ends' : List (End S K C)) (turns turns' : List (List Turn))
       (status status' : ℕ) → AreLeft seats pass mid ends turns status → seats' ≡ seats ++ place ∷ [] → place ≡ Some seat
       → last ≡ with_ended mid seat.pass → ends' ≡ ends ++ seat.end ∷ [] → turns' ≡ turns ++ seat.turns ∷ []
       → status' ≡ (if status == 0 then status_of seat.how else status) → AreLeft seats' pass last ends' turns' status'
@@ -135,20 +135,20 @@ module _ {S K C D J : Type 0} where
         passes = ended ∙ ap (λ p. with_ended p seat.pass) are.passes ∙ sym (with_all_ended-then pass (taken seats) seat)
             ∙ ap (with_all_ended pass) (sym all);
         ends_are = more_ends ∙ ap (λ l. l ++ seat.end ∷ []) are.ends_are
-            ∙ sym (map-append (λ (s : Seat S K C (DatabaseView D) J). s.end) (taken seats) (seat ∷ []))
-            ∙ ap (map (λ (s : Seat S K C (DatabaseView D) J). s.end)) (sym all);
+            ∙ sym (map-append (λ (s : Seat S K C DatabaseView J). s.end) (taken seats) (seat ∷ []))
+            ∙ ap (map (λ (s : Seat S K C DatabaseView J). s.end)) (sym all);
         turns_are = more_turns ∙ ap (λ l. l ++ seat.turns ∷ []) are.turns_are
-            ∙ sym (map-append (λ (s : Seat S K C (DatabaseView D) J). s.turns) (taken seats) (seat ∷ []))
-            ∙ ap (map (λ (s : Seat S K C (DatabaseView D) J). s.turns)) (sym all);
+            ∙ sym (map-append (λ (s : Seat S K C DatabaseView J). s.turns) (taken seats) (seat ∷ []))
+            ∙ ap (map (λ (s : Seat S K C DatabaseView J). s.turns)) (sym all);
         status_is = how_is ∙ ap (λ (n : ℕ). if n == 0 then status_of seat.how else n) are.status_is
             ∙ sym (status_then (map (λ s. s.how) (taken seats)) seat.how)
-            ∙ ap status_of_all (sym (map-append (λ (s : Seat S K C (DatabaseView D) J). s.how) (taken seats) (seat ∷ [])))
-            ∙ ap (λ l. status_of_all (map (λ (s : Seat S K C (DatabaseView D) J). s.how) l)) (sym all);
+            ∙ ap status_of_all (sym (map-append (λ (s : Seat S K C DatabaseView J). s.how) (taken seats) (seat ∷ [])))
+            ∙ ap (λ l. status_of_all (map (λ (s : Seat S K C DatabaseView J). s.how) l)) (sym all);
       }
 
   -- one more end sits in the seat that was made for it
-  pub SitsIn-then : (opening : Kept) (first mid own : CallerPass D) (ends ends' : List (End S K C))
-      (seats seats' : List (Option (Seat S K C (DatabaseView D) J))) (end : End S K C) (seat : Seat S K C (DatabaseView D) J)
+  pub SitsIn-then : (opening : Kept) (first mid own : CallerPass) (ends ends' : List (End S K C))
+      (seats seats' : List (Option (Seat S K C DatabaseView J))) (end : End S K C) (seat : Seat S K C DatabaseView J)
       → PairsFrom (SitsIn opening first) 1 ends seats → ends' ≡ ends ++ end ∷ [] → seats' ≡ seats ++ Some seat ∷ []
       → mid ≡ record first { splits = length ends } → own ≡ record mid { caller = mid.splits + 1; own = []; splits = 0; ended = [] }
       → seat.pass ≡ own → seat.end ≡ end → seat.reader ≡ first_read opening
@@ -156,7 +156,7 @@ module _ {S K C D J : Type 0} where
   SitsIn-then opening first mid own ends ends' seats seats' end seat sits ends_are seats_are split made pass is starts =
       let number : length ends + 1 ≡ 1 + length ends = omega arith in
       let of_caller : seat.pass ≡ pass_for first (1 + length ends) =
-      pass ∙ made ∙ ap (λ (p : CallerPass D). record p { caller = p.splits + 1; own = []; splits = 0; ended = [] }) split
+      pass ∙ made ∙ ap (λ (p : CallerPass). record p { caller = p.splits + 1; own = []; splits = 0; ended = [] }) split
       ∙ ap (pass_for first) number in
       subst (λ l. PairsFrom (SitsIn opening first) 1 l seats') (sym ends_are)
       (subst (λ l. PairsFrom (SitsIn opening first) 1 (ends ++ end ∷ []) l) (sym seats_are)

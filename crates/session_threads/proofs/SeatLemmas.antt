@@ -6,16 +6,12 @@ use Rattle.std.specs.List.{AllByRecursion}
 use Rattle.std.proofs.lemmas.List.{append-nil, append_cancel_left}
 use Rattle.active_snapshot.specs.States.{ReaderState}
 use Rattle.active_snapshot.specs.Views.{AreViews, IsLast}
-use Rattle.cfg_base.specs.Counts.{Rose}
 use Rattle.commit_ledger.specs.Kept.{Kept}
 use Rattle.config_db.specs.View.{DatabaseView, opened}
 use Rattle.session_history.specs.declared.history.Happened.{Happened}
-use Rattle.session_shell.specs.declared.end.End.{End}
 use Rattle.session_shell.specs.declared.turn.How.{How}
-use Rattle.session_shell.specs.declared.turn.How.TheVariants.{SourceFault, SinkFault}
 use Rattle.session_shell.specs.declared.turn.Turn.{Turn}
-use Rattle.session_shell.specs.Opened.{Opened, end_view}
-use Rattle.session_shell.specs.Transcript.{IsSession, SessionView}
+use Rattle.session_shell.specs.Transcript.{EndView, IsSession}
 use Rattle.turn_lock.specs.Histories.{entries_by}
 use Rattle.turn_lock.specs.Passes.{TookTurn}
 use Rattle.session_threads.specs.Gates.{FollowsIn, GateView, StartsReading, TellsKept}
@@ -26,76 +22,59 @@ use Rattle.session_threads.proofs.ListLemmas.{some_is}
 use Rattle.session_threads.proofs.PassLemmas.{WentOn-same, WentOn-then, WentOn-took, others_behind, own-took, seen-took}
 use Rattle.session_threads.proofs.TraceLemmas.{IsSession-known, WentOn-asked}
 
-module _ {D : Type 0} where
-  -- a pass took no turn yet
-  pub Waited-same : (pass : CallerPass D) → KnowsOwn pass → Waited pass pass
-  Waited-same pass own = record { goes = WentOn-same pass own; same_own = refl }
+-- a pass took no turn yet
+pub Waited-same : (pass : CallerPass) → KnowsOwn pass → Waited pass pass
+Waited-same pass own = record { goes = WentOn-same pass own; same_own = refl }
 
-  module _ (list : List Kept) (old new : CallerPass D)
-      (took : TookTurn caller_in (λ first before after. (after ≡ before) × TellsKept (opened first) after list) old new) where
-    abbrev says : DatabaseView D → List Happened → List Happened → Type 0
-    says first before after = (after ≡ before) × TellsKept (opened first) after list
+module _ (list : List Kept) (old new : CallerPass)
+    (took : TookTurn caller_in (λ first before after. (after ≡ before) × TellsKept (opened first) after list) old new) where
+  abbrev says : DatabaseView → List Happened → List Happened → Type 0
+  says first before after = (after ≡ before) × TellsKept (opened first) after list
 
-    none_added : took.added ≡ []
-    none_added = append_cancel_left took.before took.added [] (took.said.0 ∙ sym (append-nil took.before))
+  none_added : took.added ≡ []
+  none_added = append_cancel_left took.before took.added [] (took.said.0 ∙ sym (append-nil took.before))
 
-    -- a pass waited, and took one more turn in which its caller made nothing
-    pub Waited-then : (start : CallerPass D) → Waited start old → Waited start new
-    Waited-then start waited = record {
-      goes = WentOn-then start old new waited.goes (WentOn-took says old new took);
-      same_own = own-took says old new took ∙ ap (λ l. old.own ++ l) none_added ∙ append-nil old.own ∙ waited.same_own;
-    }
+  -- a pass waited, and took one more turn in which its caller made nothing
+  pub Waited-then : (start : CallerPass) → Waited start old → Waited start new
+  Waited-then start waited = record {
+    goes = WentOn-then start old new waited.goes (WentOn-took says old new took);
+    same_own = own-took says old new took ∙ ap (λ l. old.own ++ l) none_added ∙ append-nil old.own ∙ waited.same_own;
+  }
 
-    -- all that a reader has was kept by then
-    pub IsWithin-took : (reader : ReaderState) → IsPrefix reader.list list → (first : DatabaseView D) → old.fixed ≡ Some first
-        → IsWithin first new reader
-    IsWithin-took reader within first fixed = record {
-      list = list;
-      tells = subst (λ l. TellsKept (opened first) l list) (sym (seen-took says old new took))
-          (subst (λ f. TellsKept (opened f) (took.before ++ took.added) list) (some_is (sym took.is_fixed ∙ fixed)) took.said.1);
-      within = within;
-    }
+  -- all that a reader has was kept by then
+  pub IsWithin-took : (reader : ReaderState) → IsPrefix reader.list list → (first : DatabaseView) → old.fixed ≡ Some first
+      → IsWithin first new reader
+  IsWithin-took reader within first fixed = record {
+    list = list;
+    tells = subst (λ l. TellsKept (opened first) l list) (sym (seen-took says old new took))
+        (subst (λ f. TellsKept (opened f) (took.before ++ took.added) list) (some_is (sym took.is_fixed ∙ fixed)) took.said.1);
+    within = within;
+  }
 
-module _ {S K C D : Type 0} (left : S → Option (List ℕ)) (source_faults : S → ℕ) (held : K → Option (List ℕ))
-    (sink_faults : K → ℕ) (coming : C → Option (ℕ → ℕ)) where
+module _ {E : Type 0} (view : E → EndView) where
   -- a session ran over its pass and its reader
-  pub RunsOne-ran : (number limit : ℕ) (old new gate gate' : GateView D) (end end' : End S K C) (how : How)
-      (turns : List Turn) (session : Opened S K C) → session ≡ record { number = number; end = end; limit = limit }
-      → gate ≡ old → gate' ≡ new → KnowsOwn old.pass
-      → IsSession FollowsIn session.limit how (left session.end.source) (left end'.source) gate gate'
-      (end_view coming held sink_faults session.end []) (end_view coming held sink_faults end' turns)
-      → end'.user ≡ session.end.user
-      → (how ≡ SourceFault → Rose (source_faults session.end.source) (source_faults end'.source))
-      → (how ≡ SinkFault → Rose (sink_faults session.end.sink) (sink_faults end'.sink))
-      → RunsOne left source_faults held sink_faults coming limit old new
-      (record { how = how; old = end; new = end'; turns = turns })
-  RunsOne-ran number limit old new gate gate' end end' how turns session is began ended own ran user source_cause sink_cause =
-      let after : SessionView = end_view coming held sink_faults end' turns in
-      let of_end : IsSession FollowsIn limit how (left end.source) (left end'.source) gate gate'
-      (end_view coming held sink_faults end []) after =
-      subst (λ (s : Opened S K C). IsSession FollowsIn s.limit how (left s.end.source) (left end'.source) gate gate'
-      (end_view coming held sink_faults s.end []) after) is ran in
-      let of_gate : IsSession FollowsIn limit how (left end.source) (left end'.source) old new
-      (end_view coming held sink_faults end []) after =
-      subst (λ (g : GateView D). IsSession FollowsIn limit how (left end.source) (left end'.source) g new
-      (end_view coming held sink_faults end []) after) began
-      (subst (λ (g : GateView D). IsSession FollowsIn limit how (left end.source) (left end'.source) gate g
-      (end_view coming held sink_faults end []) after) ended of_end) in
+  pub RunsOne-ran : (limit : ℕ) (old new gate gate' : GateView) (before after end : E) (how : How) (turns : List Turn)
+      (bytes : ℕ) → before ≡ end → bytes ≡ limit → gate ≡ old → gate' ≡ new → KnowsOwn old.pass
+      → IsSession FollowsIn bytes how turns (view before) (view after) gate gate'
+      → RunsOne view limit old new (record { how = how; old = end; new = after; turns = turns })
+  RunsOne-ran limit old new gate gate' before after end how turns bytes is_end is_limit began ended own ran =
+      let of_end : IsSession FollowsIn limit how turns (view end) (view after) gate gate' =
+      subst (λ (e : E). IsSession FollowsIn limit how turns (view e) (view after) gate gate') is_end
+      (subst (λ n. IsSession FollowsIn n how turns (view before) (view after) gate gate') is_limit ran) in
+      let of_gate : IsSession FollowsIn limit how turns (view end) (view after) old new =
+      subst (λ (g : GateView). IsSession FollowsIn limit how turns (view end) (view after) g new) began
+      (subst (λ (g : GateView). IsSession FollowsIn limit how turns (view end) (view after) gate g) ended of_end) in
+      let t = of_gate.transcript in
       record {
-        goes = WentOn-asked (of_gate.asked ++ of_gate.final) old.pass old new (WentOn-same old.pass own) of_gate.turns.asked;
+        goes = WentOn-asked (t.asked ++ t.final) old.pass old new (WentOn-same old.pass own) t.turns.asked;
         session = inl of_gate;
-        user = user ∙ ap (λ (s : Opened S K C). s.end.user) is;
-        source_cause = λ faulty. subst (λ (s : Opened S K C). Rose (source_faults s.end.source) (source_faults end'.source)) is
-            (source_cause faulty);
-        sink_cause = λ faulty. subst (λ (s : Opened S K C). Rose (sink_faults s.end.sink) (sink_faults end'.sink)) is
-            (sink_cause faulty);
       }
 
   module _ (never_fall : (one two : List Kept) (view later : Kept) → AreViews two → IsPrefix one two → IsLast one view
-      → IsLast two later → view.count ≤ later.count) (limit : ℕ) (first : DatabaseView D) (old mid : GateView D)
-      (new : CallerPass D) (result : SessionResult S K C) (own : KnowsOwn old.pass) (fixed : old.pass.fixed ≡ Some first)
+      → IsLast two later → view.count ≤ later.count) (limit : ℕ) (first : DatabaseView) (old mid : GateView)
+      (new : CallerPass) (result : SessionResult E) (own : KnowsOwn old.pass) (fixed : old.pass.fixed ≡ Some first)
       (starts : StartsReading first old.reader)
-      (runs : RunsOne left source_faults held sink_faults coming limit old mid result) (gone : HasLeft first mid.pass new mid.reader)
+      (runs : RunsOne view limit old mid result) (gone : HasLeft first mid.pass new mid.reader)
     where
       later : IsPrefix mid.pass.seen new.seen
       later = gone.waited.goes.later
@@ -107,12 +86,11 @@ module _ {S K C D : Type 0} (left : S → Option (List ℕ)) (source_faults : S 
           ∙ subst (λ c. entries_by caller_in c new.seen ≡ new.own) (gone.waited.goes.caller ∙ runs.goes.caller) gone.waited.goes.own
           ∙ gone.waited.same_own)
 
-      has_run : RunsOver left held sink_faults coming limit old mid result
-          → HasRun left held sink_faults coming limit first old.pass new result
+      has_run : RunsOver view limit old mid result
+          → HasRun view limit first old.pass new result
       has_run ran =
-          let known = IsSession-known never_fall first new.seen gone.within.list gone.within.tells limit result.how
-          (left result.old.source) (left result.new.source) old mid (end_view coming held sink_faults result.old [])
-          (end_view coming held sink_faults result.new result.turns) fixed (WentOn-same old.pass own) starts gone.within.within ran in
+          let known = IsSession-known never_fall first new.seen gone.within.list gone.within.tells limit result.how result.turns
+          (view result.old) (view result.new) old mid fixed (WentOn-same old.pass own) starts gone.within.within ran in
           record {
             after = record { events = mid.pass.seen; front = known.0 };
             later = later.0;
@@ -121,8 +99,8 @@ module _ {S K C D : Type 0} (left : S → Option (List ℕ)) (source_faults : S 
             session = known.1;
           }
 
-      session_left : RunsOver left held sink_faults coming limit old mid result ⊎ StaysOut old.pass mid.pass result
-          → HasRun left held sink_faults coming limit first old.pass new result ⊎ StaysOut old.pass new result
+      session_left : RunsOver view limit old mid result ⊎ StaysOut old.pass mid.pass result
+          → HasRun view limit first old.pass new result ⊎ StaysOut old.pass new result
       session_left (inl ran) = inl (has_run ran)
       session_left (inr out) = inr (record {
         how = out.how;
@@ -132,11 +110,8 @@ module _ {S K C D : Type 0} (left : S → Option (List ℕ)) (source_faults : S 
       })
 
       -- a session was run, and then its caller took turns that made nothing, until all that its reader has was kept
-      pub ServesOne-left : ServesOne left source_faults held sink_faults coming limit first old.pass new result
+      pub ServesOne-left : ServesOne view limit first old.pass new result
       ServesOne-left = record {
         goes = WentOn-then old.pass mid.pass new runs.goes gone.waited.goes;
         session = session_left runs.session;
-        user = runs.user;
-        source_cause = runs.source_cause;
-        sink_cause = runs.sink_cause;
       }

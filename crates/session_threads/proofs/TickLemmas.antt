@@ -8,8 +8,7 @@ use Rattle.config_db.specs.View.{DatabaseView, opened}
 use Rattle.io_edge.specs.Ends.{TakesAnswer}
 use Rattle.session_history.specs.declared.history.Happened.{Happened}
 use Rattle.turn_lock.specs.Passes.{TookTurn}
-use Rattle.session_threads.specs.declared.ticking.Ticker.{Ticker}
-use Rattle.session_threads.specs.Looks.{AreLooks, Looks, LooksAlone, LooksOnce, Takes}
+use Rattle.session_threads.specs.Looks.{AreLooks, Looks, LooksAlone, LooksOnce, Takes, TickerView}
 use Rattle.session_threads.specs.Passes.{CallerPass, KnowsOwn, WentOn, caller_in}
 use Rattle.session_threads.specs.Ticks.{IsFirst, IsLook, IsRound, Ticks, TicksOn}
 use Rattle.session_threads.proofs.ListLemmas.{some_is}
@@ -36,123 +35,121 @@ replicate-then : (answers : List ℕ) (answer : ℕ) (x : Bool)
 replicate-then [] answer x = refl
 replicate-then (one ∷ answers) answer x = ap (λ l. x ∷ l) (replicate-then answers answer x)
 
-module _ {B C : Type 0} (due : B → Option (ℕ → Bool)) (coming : C → Option (ℕ → ℕ)) where
-  -- a round that looked, whether or not it is the last one
-  round_of : (goes_on : Bool) (opening : State) (old new : Ticker B C) (events events' : List Happened)
-      → IsLook due coming opening old new events events' → IsRound due coming opening goes_on old new events events'
-  round_of true opening old new events events' look = look
-  round_of false opening old new events events' look = inl look
+-- a round that looked, whether or not it is the last one
+round_of : (goes_on : Bool) (opening : State) (old new : TickerView) (events events' : List Happened)
+    → IsLook opening old new events events' → IsRound opening goes_on old new events events'
+round_of true opening old new events events' look = look
+round_of false opening old new events events' look = inl look
 
-module _ {B C D : Type 0} (due : B → Option (ℕ → Bool)) (coming : C → Option (ℕ → ℕ)) where
-  -- the beat said that no look is due
-  pub Ticks-none : (first : DatabaseView D) (pass : CallerPass D) (ticker ticker' : Ticker B C) → KnowsOwn pass
-      → TakesAnswer (due ticker.beat) (due ticker'.beat) false → ticker'.clock ≡ ticker.clock
-      → Ticks due coming false first pass pass ticker ticker'
-  Ticks-none first pass ticker ticker' own beat clock = record {
-    goes = WentOn-same pass own;
-    round = inr (record { beat_told = (due ticker'.beat, beat, refl); clock_told = ap coming clock; looks = refl });
+-- the beat said that no look is due
+pub Ticks-none : (first : DatabaseView) (pass : CallerPass) (ticker ticker' : TickerView) → KnowsOwn pass
+    → TakesAnswer ticker.due ticker'.due false → ticker'.coming ≡ ticker.coming
+    → Ticks false first pass pass ticker ticker'
+Ticks-none first pass ticker ticker' own beat clock = record {
+  goes = WentOn-same pass own;
+  round = inr (record { beat_told = (ticker'.due, beat, refl); clock_told = clock; looks = refl });
+}
+
+-- the beat called for a look
+pub Ticks-look : (lock : TableId) (first : DatabaseView) (old new : CallerPass) (ticker ticker' : TickerView) (answer : ℕ)
+    (goes_on : Bool) → IsFirst lock first old → TakesAnswer ticker.due ticker'.due true
+    → TakesAnswer ticker.coming ticker'.coming answer
+    → TookTurn caller_in (λ fixed before after. LooksAlone (opened fixed) answer before after) old new
+    → Ticks goes_on first old new ticker ticker'
+Ticks-look lock first old new ticker ticker' answer goes_on is beat clock took =
+    let says : DatabaseView → List Happened → List Happened → Type 0 =
+    λ fixed before after. LooksAlone (opened fixed) answer before after in
+    let others : AllByRecursion (λ event. event.caller ≢ 0) took.begins.0 =
+    subst (λ c. AllByRecursion (λ event. event.caller ≢ c) took.begins.0) is.nobodys (not_own-took says old new took is.own) in
+    let looked : LooksAlone (opened first) answer took.before (took.before ++ took.added) =
+    subst (λ f. LooksAlone (opened f) answer took.before (took.before ++ took.added))
+    (some_is (sym took.is_fixed ∙ is.fixed)) took.said in
+    let once : LooksOnce (opened first) answer old.seen new.seen =
+    subst (λ l. LooksOnce (opened first) answer old.seen l) (sym (seen-took says old new took))
+    (LooksOnce-behind (opened first) answer old.seen took.begins.0 took.before (took.before ++ took.added)
+    (sym took.begins.1) others looked) in
+    record {
+      goes = WentOn-took says old new took;
+      round = round_of goes_on (opened first) ticker ticker' old.seen new.seen (
+        answer,
+        record {
+          beat_told = (ticker'.due, beat, refl);
+          clock_told = (ticker'.coming, clock, refl);
+          looks = (new.seen, once, refl);
+        },
+      );
+    }
+
+-- the ticker looked so far, each time that its beat called for it
+pub record TicksSoFar (first : DatabaseView) (old new : CallerPass) (ticker ticker' : TickerView) : Type 0 where
+  pub goes : WentOn old new
+  pub answers : List ℕ
+  pub looked : AreLooks (opened first) (replicate (length answers) true) answers ticker ticker' old.seen new.seen
+
+pub TicksSoFar-none : (first : DatabaseView) (pass : CallerPass) (ticker : TickerView) → KnowsOwn pass
+    → TicksSoFar first pass pass ticker ticker
+TicksSoFar-none first pass ticker own = record {
+  goes = WentOn-same pass own;
+  answers = [];
+  looked = record { beat_told = refl; clock_told = refl; looks = refl };
+}
+
+module _ (first : DatabaseView) (old mid new : CallerPass) (ticker between ticker' : TickerView)
+    (far : TicksSoFar first old mid ticker between) where
+  -- the looks so far, and one more
+  more_looks : (look : IsLook (opened first) between ticker' mid.seen new.seen)
+      → AreLooks (opened first) (replicate (length (far.answers ++ look.0 ∷ [])) true) (far.answers ++ look.0 ∷ [])
+      ticker ticker' old.seen new.seen
+  more_looks look = record {
+    beat_told = subst (λ l. Takes ticker.due l ticker'.due) (sym (replicate-then far.answers look.0 true))
+        (Takes-then ticker.due between.due ticker'.due (replicate (length far.answers) true) true
+        far.looked.beat_told (subst (λ o. TakesAnswer between.due o true) (sym look.1.beat_told.2) look.1.beat_told.1));
+    clock_told = Takes-then ticker.coming between.coming ticker'.coming far.answers look.0
+        far.looked.clock_told
+        (subst (λ o. TakesAnswer between.coming o look.0) (sym look.1.clock_told.2) look.1.clock_told.1);
+    looks = Looks-then (opened first) far.answers look.0 old.seen mid.seen new.seen far.looked.looks
+        (subst (λ l. LooksOnce (opened first) look.0 mid.seen l) (sym look.1.looks.2) look.1.looks.1);
   }
 
-  -- the beat called for a look
-  pub Ticks-look : (lock : TableId) (first : DatabaseView D) (old new : CallerPass D) (ticker ticker' : Ticker B C) (answer : ℕ)
-      (goes_on : Bool) → IsFirst lock first old → TakesAnswer (due ticker.beat) (due ticker'.beat) true
-      → TakesAnswer (coming ticker.clock) (coming ticker'.clock) answer
-      → TookTurn caller_in (λ fixed before after. LooksAlone (opened fixed) answer before after) old new
-      → Ticks due coming goes_on first old new ticker ticker'
-  Ticks-look lock first old new ticker ticker' answer goes_on is beat clock took =
-      let says : DatabaseView D → List Happened → List Happened → Type 0 =
-      λ fixed before after. LooksAlone (opened fixed) answer before after in
-      let others : AllByRecursion (λ event. event.caller ≢ 0) took.begins.0 =
-      subst (λ c. AllByRecursion (λ event. event.caller ≢ c) took.begins.0) is.nobodys (not_own-took says old new took is.own) in
-      let looked : LooksAlone (opened first) answer took.before (took.before ++ took.added) =
-      subst (λ f. LooksAlone (opened f) answer took.before (took.before ++ took.added))
-      (some_is (sym took.is_fixed ∙ is.fixed)) took.said in
-      let once : LooksOnce (opened first) answer old.seen new.seen =
-      subst (λ l. LooksOnce (opened first) answer old.seen l) (sym (seen-took says old new took))
-      (LooksOnce-behind (opened first) answer old.seen took.begins.0 took.before (took.before ++ took.added)
-      (sym took.begins.1) others looked) in
-      record {
-        goes = WentOn-took says old new took;
-        round = round_of due coming goes_on (opened first) ticker ticker' old.seen new.seen (
-          answer,
-          record {
-            beat_told = (due ticker'.beat, beat, refl);
-            clock_told = (coming ticker'.clock, clock, refl);
-            looks = (new.seen, once, refl);
-          },
-        );
-      }
-
-  -- the ticker looked so far, each time that its beat called for it
-  pub record TicksSoFar (first : DatabaseView D) (old new : CallerPass D) (ticker ticker' : Ticker B C) : Type 0 where
-    pub goes : WentOn old new
-    pub answers : List ℕ
-    pub looked : AreLooks due coming (opened first) (replicate (length answers) true) answers ticker ticker' old.seen new.seen
-
-  pub TicksSoFar-none : (first : DatabaseView D) (pass : CallerPass D) (ticker : Ticker B C) → KnowsOwn pass
-      → TicksSoFar first pass pass ticker ticker
-  TicksSoFar-none first pass ticker own = record {
-    goes = WentOn-same pass own;
-    answers = [];
-    looked = record { beat_told = refl; clock_told = refl; looks = refl };
+  pub TicksSoFar-then : Ticks true first mid new between ticker' → TicksSoFar first old new ticker ticker'
+  TicksSoFar-then ticks = record {
+    goes = WentOn-then old mid new far.goes ticks.goes;
+    answers = far.answers ++ ticks.round.0 ∷ [];
+    looked = more_looks ticks.round;
   }
 
-  module _ (first : DatabaseView D) (old mid new : CallerPass D) (ticker between ticker' : Ticker B C)
-      (far : TicksSoFar first old mid ticker between) where
-    -- the looks so far, and one more
-    more_looks : (look : IsLook due coming (opened first) between ticker' mid.seen new.seen)
-        → AreLooks due coming (opened first) (replicate (length (far.answers ++ look.0 ∷ [])) true) (far.answers ++ look.0 ∷ [])
-        ticker ticker' old.seen new.seen
-    more_looks look = record {
-      beat_told = subst (λ l. Takes (due ticker.beat) l (due ticker'.beat)) (sym (replicate-then far.answers look.0 true))
-          (Takes-then (due ticker.beat) (due between.beat) (due ticker'.beat) (replicate (length far.answers) true) true
-          far.looked.beat_told (subst (λ o. TakesAnswer (due between.beat) o true) (sym look.1.beat_told.2) look.1.beat_told.1));
-      clock_told = Takes-then (coming ticker.clock) (coming between.clock) (coming ticker'.clock) far.answers look.0
-          far.looked.clock_told
-          (subst (λ o. TakesAnswer (coming between.clock) o look.0) (sym look.1.clock_told.2) look.1.clock_told.1);
-      looks = Looks-then (opened first) far.answers look.0 old.seen mid.seen new.seen far.looked.looks
-          (subst (λ l. LooksOnce (opened first) look.0 mid.seen l) (sym look.1.looks.2) look.1.looks.1);
-    }
-
-    pub TicksSoFar-then : Ticks due coming true first mid new between ticker' → TicksSoFar first old new ticker ticker'
-    TicksSoFar-then ticks = record {
-      goes = WentOn-then old mid new far.goes ticks.goes;
-      answers = far.answers ++ ticks.round.0 ∷ [];
-      looked = more_looks ticks.round;
-    }
-
-    -- the last round
-    TicksOn-by : WentOn old new → IsRound due coming (opened first) false between ticker' mid.seen new.seen
-        → TicksOn due coming first old new ticker ticker'
-    TicksOn-by goes (inl look) = record {
-      goes = goes;
-      looked = record {
-        beats = replicate (length (far.answers ++ look.0 ∷ [])) true;
-        answers = far.answers ++ look.0 ∷ [];
-        called = inl refl;
-        are_looks = more_looks look;
+  -- the last round
+  TicksOn-by : WentOn old new → IsRound (opened first) false between ticker' mid.seen new.seen
+      → TicksOn first old new ticker ticker'
+  TicksOn-by goes (inl look) = record {
+    goes = goes;
+    looked = record {
+      beats = replicate (length (far.answers ++ look.0 ∷ [])) true;
+      answers = far.answers ++ look.0 ∷ [];
+      called = inl refl;
+      are_looks = more_looks look;
+    };
+  }
+  TicksOn-by goes (inr none) = record {
+    goes = goes;
+    looked = record {
+      beats = replicate (length far.answers) true ++ false ∷ [];
+      answers = far.answers;
+      called = inr refl;
+      are_looks = record {
+        beat_told = Takes-then ticker.due between.due ticker'.due (replicate (length far.answers) true) false
+            far.looked.beat_told
+            (subst (λ o. TakesAnswer between.due o false) (sym none.beat_told.2) none.beat_told.1);
+        clock_told = subst (λ o. Takes ticker.coming far.answers o) (sym none.clock_told) far.looked.clock_told;
+        looks = subst (λ l. Looks (opened first) far.answers old.seen l) (sym none.looks) far.looked.looks;
       };
-    }
-    TicksOn-by goes (inr none) = record {
-      goes = goes;
-      looked = record {
-        beats = replicate (length far.answers) true ++ false ∷ [];
-        answers = far.answers;
-        called = inr refl;
-        are_looks = record {
-          beat_told = Takes-then (due ticker.beat) (due between.beat) (due ticker'.beat) (replicate (length far.answers) true) false
-              far.looked.beat_told
-              (subst (λ o. TakesAnswer (due between.beat) o false) (sym none.beat_told.2) none.beat_told.1);
-          clock_told = subst (λ o. Takes (coming ticker.clock) far.answers o) (sym none.clock_told) far.looked.clock_told;
-          looks = subst (λ l. Looks (opened first) far.answers old.seen l) (sym none.looks) far.looked.looks;
-        };
-      };
-    }
+    };
+  }
 
-    pub TicksOn-then : Ticks due coming false first mid new between ticker' → TicksOn due coming first old new ticker ticker'
-    TicksOn-then ticks = TicksOn-by (WentOn-then old mid new far.goes ticks.goes) ticks.round
+  pub TicksOn-then : Ticks false first mid new between ticker' → TicksOn first old new ticker ticker'
+  TicksOn-then ticks = TicksOn-by (WentOn-then old mid new far.goes ticks.goes) ticks.round
 
-pub IsFirst-then : {D : Type 0} (lock : TableId) (first : DatabaseView D) (old new : CallerPass D) → IsFirst lock first old
+pub IsFirst-then : (lock : TableId) (first : DatabaseView) (old new : CallerPass) → IsFirst lock first old
     → WentOn old new → IsFirst lock first new
 IsFirst-then lock first old new is goes = record {
   here = goes.lock ∙ is.here;

@@ -14,8 +14,9 @@ use Rattle.session_history.specs.Kept.{WasKept}
 use Rattle.session_shell.specs.declared.door.Given0.{Given0}
 use Rattle.session_shell.specs.declared.door.Given0.TheVariants.{Kept as KeptAt, Seen, NoMemory}
 use Rattle.session_shell.specs.declared.turn.How.{How}
+use Rattle.session_shell.specs.declared.turn.Turn.{Turn}
 use Rattle.session_shell.specs.Exchange.{Exchange, Asked as AskedOf, Refused}
-use Rattle.session_shell.specs.Transcript.{GoesBy, IsSession, SessionView}
+use Rattle.session_shell.specs.Transcript.{EndView, GoesBy, IsSession}
 use Rattle.session_threads.specs.Gates.{FollowsIn, GateView, MissedIn, ReadsLast, ReadsOn, StartsReading, TellsKept}
 use Rattle.session_threads.specs.History.{Follows, FollowsTurn, HasMissed, Known, known_first}
 use Rattle.session_threads.specs.Passes.{CallerPass, WentOn}
@@ -62,7 +63,7 @@ reaches_on front old new on reaches = record {
       (λ told. inr (IsPrefix-then reaches.list old.told new.told told on.told)) reaches.known;
 }
 
-reaches_start : {D : Type 0} (first : DatabaseView D) (reader : ReaderState) → StartsReading first reader
+reaches_start : (first : DatabaseView) (reader : ReaderState) → StartsReading first reader
     → Reaches first.opening.count reader
 reaches_start first reader starts = record {
   list = first.opening ∷ [];
@@ -72,23 +73,22 @@ reaches_start first reader starts = record {
   known = inl (subst (λ (r : ReaderState). IsPrefix (first.opening ∷ []) r.list) (sym starts) (IsPrefix-same (first.opening ∷ [])));
 }
 
-module _ {D : Type 0} where
-  goes_on : (exchanges : List Exchange) (d e : GateView D) → GoesBy FollowsIn exchanges d e → ReadsOn d.reader e.reader
-  goes_on [] d e goes = subst (λ (g : GateView D). ReadsOn d.reader g.reader) (sym goes) (ReadsOn-same d.reader)
-  goes_on (AskedOf moment command given ∷ exchanges) d e goes =
-      ReadsOn-then d.reader goes.0.reader e.reader goes.1.reads (goes_on exchanges goes.0 e goes.2)
-  goes_on (Refused moment fault ∷ exchanges) d e goes = goes_on exchanges d e goes
+goes_on : (exchanges : List Exchange) (d e : GateView) → GoesBy FollowsIn exchanges d e → ReadsOn d.reader e.reader
+goes_on [] d e goes = subst (λ (g : GateView). ReadsOn d.reader g.reader) (sym goes) (ReadsOn-same d.reader)
+goes_on (AskedOf moment command given ∷ exchanges) d e goes =
+    ReadsOn-then d.reader goes.0.reader e.reader goes.1.reads (goes_on exchanges goes.0 e goes.2)
+goes_on (Refused moment fault ∷ exchanges) d e goes = goes_on exchanges d e goes
 
-  -- a door's pass is the same one, and has seen more
-  pub WentOn-asked : (exchanges : List Exchange) (start : CallerPass D) (d e : GateView D) → WentOn start d.pass
-      → GoesBy FollowsIn exchanges d e → WentOn start e.pass
-  WentOn-asked [] start d e went goes = subst (λ (g : GateView D). WentOn start g.pass) (sym goes) went
-  WentOn-asked (AskedOf moment command given ∷ exchanges) start d e went goes =
-      WentOn-asked exchanges start goes.0 e (WentOn-then start d.pass goes.0.pass went goes.1.goes) goes.2
-  WentOn-asked (Refused moment fault ∷ exchanges) start d e went goes = WentOn-asked exchanges start d e went goes
+-- a door's pass is the same one, and has seen more
+pub WentOn-asked : (exchanges : List Exchange) (start : CallerPass) (d e : GateView) → WentOn start d.pass
+    → GoesBy FollowsIn exchanges d e → WentOn start e.pass
+WentOn-asked [] start d e went goes = subst (λ (g : GateView). WentOn start g.pass) (sym goes) went
+WentOn-asked (AskedOf moment command given ∷ exchanges) start d e went goes =
+    WentOn-asked exchanges start goes.0 e (WentOn-then start d.pass goes.0.pass went goes.1.goes) goes.2
+WentOn-asked (Refused moment fault ∷ exchanges) start d e went goes = WentOn-asked exchanges start d e went goes
 
-module _ {D : Type 0} (never_fall : (one two : List Kept) (view later : Kept) → AreViews two → IsPrefix one two → IsLast one view
-    → IsLast two later → view.count ≤ later.count) (first : DatabaseView D) (final : List Happened) (list : List Kept)
+module _ (never_fall : (one two : List Kept) (view later : Kept) → AreViews two → IsPrefix one two → IsLast one view
+    → IsLast two later → view.count ≤ later.count) (first : DatabaseView) (final : List Happened) (list : List Kept)
     (tells : TellsKept (opened first) final list) where
   was_kept : (front : List Kept) (view : Kept) → IsPrefix front list → IsLast front view → WasKept (opened first) final view
   was_kept front view begins is = All-last (WasKept (opened first) final) front list view begins is tells.each
@@ -141,11 +141,11 @@ module _ {D : Type 0} (never_fall : (one two : List Kept) (view later : Kept) �
     abbrev Knows : Known → Command → ℕ → Given0 → Known → Type 0
     Knows = Follows (opened first) caller final
 
-    abbrev known : GateView D → ℕ → Known
+    abbrev known : GateView → ℕ → Known
     known d front = record { events = d.pass.seen; front = front }
 
     -- one ask
-    one_known : (d e : GateView D) (command : Command) (answer : ℕ) (given : Given0) (front : ℕ) → d.pass.fixed ≡ Some first
+    one_known : (d e : GateView) (command : Command) (answer : ℕ) (given : Given0) (front : ℕ) → d.pass.fixed ≡ Some first
         → d.pass.caller ≡ caller → IsPrefix e.reader.list list → Reaches front d.reader → FollowsIn d command answer given e
         → (front' : ℕ) × Knows (known d front) command answer given (known e front') × Reaches front' e.reader
     one_known d e command answer (KeptAt place reply) front fixed is_caller within reaches goes =
@@ -166,7 +166,7 @@ module _ {D : Type 0} (never_fall : (one two : List Kept) (view later : Kept) �
         let read = goes.comes.answers.read in (
           shown,
           record {
-            same = ap (λ (p : CallerPass D). p.seen) goes.comes.same;
+            same = ap (λ (p : CallerPass). p.seen) goes.comes.same;
             reached = omega (
               arith,
               read_reaches front answer false d.reader e.reader goes.reads within read reaches,
@@ -197,13 +197,13 @@ module _ {D : Type 0} (never_fall : (one two : List Kept) (view later : Kept) �
     )
 
     -- all asks
-    goes_known : (start : CallerPass D) → start.fixed ≡ Some first → start.caller ≡ caller → (exchanges : List Exchange)
-        (d e : GateView D) (front : ℕ) → WentOn start d.pass → IsPrefix e.reader.list list → Reaches front d.reader
+    goes_known : (start : CallerPass) → start.fixed ≡ Some first → start.caller ≡ caller → (exchanges : List Exchange)
+        (d e : GateView) (front : ℕ) → WentOn start d.pass → IsPrefix e.reader.list list → Reaches front d.reader
         → GoesBy FollowsIn exchanges d e → (front' : ℕ) × GoesBy Knows exchanges (known d front) (known e front')
     goes_known start fixed is_caller [] d e front went within reaches goes =
-        (front, ap (λ (g : GateView D). known g front) goes)
+        (front, ap (λ (g : GateView). known g front) goes)
     goes_known start fixed is_caller (AskedOf moment command given ∷ exchanges) d e front went within reaches goes =
-        let next : GateView D = goes.0 in
+        let next : GateView = goes.0 in
         let on : ReadsOn next.reader e.reader = goes_on exchanges next e goes.2 in
         let one = one_known d next command moment given front (went.fixed ∙ fixed) (went.caller ∙ is_caller)
         (IsPrefix-then next.reader.list e.reader.list list on.later within) reaches goes.1 in
@@ -214,24 +214,30 @@ module _ {D : Type 0} (never_fall : (one two : List Kept) (view later : Kept) �
         goes_known start fixed is_caller exchanges d e front went within reaches goes
 
   -- a session over a pass and its reader is one over what its caller knows
-  pub IsSession-known : (limit : ℕ) (how : How) (source source' : Option (List ℕ)) (d e : GateView D) (old new : SessionView)
+  pub IsSession-known : (limit : ℕ) (how : How) (turns : List Turn) (old new : EndView) (d e : GateView)
       → d.pass.fixed ≡ Some first → WentOn d.pass d.pass → StartsReading first d.reader → IsPrefix e.reader.list list
-      → IsSession FollowsIn limit how source source' d e old new
-      → (front : ℕ) × IsSession (Follows (opened first) d.pass.caller final) limit how source source'
-      (known_first (opened first) d.pass.seen) (record { events = e.pass.seen; front = front }) old new
-  IsSession-known limit how source source' d e old new fixed same starts within s =
-      let went = goes_known d.pass.caller d.pass fixed refl (s.asked ++ s.final) d e first.opening.count same within
-      (reaches_start first d.reader starts) s.turns.asked in (
+      → IsSession FollowsIn limit how turns old new d e
+      → (front : ℕ) × IsSession (Follows (opened first) d.pass.caller final) limit how turns old new
+      (known_first (opened first) d.pass.seen) (record { events = e.pass.seen; front = front })
+  IsSession-known limit how turns old new d e fixed same starts within s =
+      let t = s.transcript in
+      let went = goes_known d.pass.caller d.pass fixed refl (t.asked ++ t.final) d e first.opening.count same within
+      (reaches_start first d.reader starts) t.turns.asked in (
         went.0,
         record {
-          lines = s.lines;
-          asked = s.asked;
-          final = s.final;
-          reading = s.reading;
-          reads = s.reads;
-          input = s.input;
-          logs_out = s.logs_out;
-          turns = record { moments = s.turns.moments; turned = s.turns.turned; asked = went.1 };
-          texts = s.texts;
+          transcript = record {
+            lines = t.lines;
+            asked = t.asked;
+            final = t.final;
+            reading = t.reading;
+            reads = t.reads;
+            input = t.input;
+            logs_out = t.logs_out;
+            turns = record { moments = t.turns.moments; turned = t.turns.turned; asked = went.1 };
+            texts = t.texts;
+          };
+          user = s.user;
+          source_cause = s.source_cause;
+          sink_cause = s.sink_cause;
         },
       )

@@ -13,19 +13,17 @@ use Rattle.config_db.specs.View.{DatabaseView, opened}
 use Rattle.session_history.specs.declared.history.Happened.{Happened}
 use Rattle.session_history.specs.Events.{IsLegal, Leads}
 use Rattle.session_shell.specs.declared.end.End.{End}
-use Rattle.session_shell.specs.declared.turn.How.TheVariants.{SourceFault, SinkFault, NoMemory}
+use Rattle.session_shell.specs.declared.turn.How.TheVariants.{NoMemory}
 use Rattle.session_shell.specs.declared.turn.Turn.{Turn}
-use Rattle.session_shell.specs.Opened.{end_view}
-use Rattle.session_shell.specs.Transcript.{IsSession}
+use Rattle.session_shell.specs.Transcript.{EndView, IsSession}
 use Rattle.turn_lock.specs.declared.view.Ended.{Ended}
 use Rattle.turn_lock.specs.Histories.{entries_by}
 use Rattle.turn_lock.specs.Passes.{IsClosed, ended_of, first_pass}
 use Rattle.session_threads.specs.declared.seat.Seat.{Seat}
-use Rattle.session_threads.specs.declared.ticking.Ticker.{Ticker}
 use Rattle.session_threads.specs.Adding.{AddsUp}
 use Rattle.session_threads.specs.Begun.{start_of}
 use Rattle.session_threads.specs.History.{Follows, HasSession, known_first}
-use Rattle.session_threads.specs.Looks.{HasLooked, HasTicked}
+use Rattle.session_threads.specs.Looks.{HasLooked, HasTicked, TickerView}
 use Rattle.session_threads.specs.Results.{IsResult, IsUnbegun, SessionResult, status_of_all, users_of}
 use Rattle.session_threads.specs.Rows.{AreLeft, IsSeatOf, NoneServed, Pairs, PairsFrom, SitsIn, pass_for, taken, with_all_ended}
 use Rattle.session_threads.specs.Served.{AreServed, EachFrom, HasReaders, IsUnderway, ServedView}
@@ -69,7 +67,7 @@ few_callers most (event ∷ events) none = (
 )
 
 -- what a longer history has more than a pass has seen is others', where the pass has all its caller's events
-others_after : {D : Type 0} (pass : CallerPass D) (caller : ℕ) (history : List Happened) (begins : IsPrefix pass.seen history)
+others_after : (pass : CallerPass) (caller : ℕ) (history : List Happened) (begins : IsPrefix pass.seen history)
     → pass.caller ≡ caller → KnowsOwn pass → entries_by caller_in caller history ≡ pass.own
     → AllByRecursion (λ event. event.caller ≢ caller) begins.0
 others_after pass caller history begins is own all = others_behind caller pass.seen begins.0 pass.own
@@ -77,7 +75,7 @@ others_after pass caller history begins is own all = others_behind caller pass.s
     (ap (entries_by caller_in caller) begins.1 ∙ all)
 
 -- what holds of all that is kept of ended passes
-each_ended : {S K C D J : Type 0} (Is : Ended Happened → Type 0) (seats : List (Seat S K C (DatabaseView D) J))
+each_ended : {S K C J : Type 0} (Is : Ended Happened → Type 0) (seats : List (Seat S K C DatabaseView J))
     → ((pass : Ended Happened) → Contains (map (λ seat. ended_of seat.pass) seats) pass → Is pass)
     → AllByRecursion (λ seat. Is (ended_of seat.pass)) seats
 each_ended Is [] all = tt
@@ -87,23 +85,22 @@ each_ended Is (seat ∷ seats) all = (
 )
 
 -- the first pass, before the ticker's turns
-pub IsFirst-begun : {D : Type 0} (lock : TableId) (first : DatabaseView D) (callers count : ℕ) (start pass : CallerPass D)
+pub IsFirst-begun : (lock : TableId) (first : DatabaseView) (callers count : ℕ) (start pass : CallerPass)
     → start ≡ first_pass lock first callers → pass ≡ record start { splits = count } → IsFirst lock first pass
-IsFirst-begun {D} lock first callers count start pass begun split = subst (IsFirst lock first)
-    (sym (split ∙ ap (λ (p : CallerPass D). record p { splits = count }) begun))
+IsFirst-begun lock first callers count start pass begun split = subst (IsFirst lock first)
+    (sym (split ∙ ap (λ (p : CallerPass). record p { splits = count }) begun))
     (record { here = refl; fixed = refl; nobodys = refl; own = refl })
 
-module _ (J : Type 0) {S K C D : Type 0} (left : S → Option (List ℕ)) (source_faults : S → ℕ) (held : K → Option (List ℕ))
-    (sink_faults : K → ℕ) (coming : C → Option (ℕ → ℕ)) (limit : ℕ) (first : DatabaseView D) (lock : TableId)
-    (start : CallerPass D) (here : start.lock ≡ lock) (fixed : start.fixed ≡ Some first) (fresh : start.seen ≡ []) where
+module _ (J : Type 0) {S K C : Type 0} (view : End S K C → EndView) (limit : ℕ) (first : DatabaseView) (lock : TableId)
+    (start : CallerPass) (here : start.lock ≡ lock) (fixed : start.fixed ≡ Some first) (fresh : start.seen ≡ []) where
   abbrev Taken : Type 0
-  Taken = Seat S K C (DatabaseView D) J
+  Taken = Seat S K C DatabaseView J
 
-  abbrev result_for : End S K C → Taken → SessionResult S K C
+  abbrev result_for : End S K C → Taken → SessionResult (End S K C)
   result_for end seat = record { how = seat.how; old = end; new = seat.end; turns = seat.turns }
 
-  abbrev Serves : CallerPass D → CallerPass D → SessionResult S K C → Type 0
-  Serves old new result = ServesOne left source_faults held sink_faults coming limit first old new result
+  abbrev Serves : CallerPass → CallerPass → SessionResult (End S K C) → Type 0
+  Serves old new result = ServesOne view limit first old new result
 
   -- the session of an end was served, from the pass on that was split off for its caller
   abbrev IsServed : ℕ → End S K C → Taken → Type 0
@@ -134,7 +131,7 @@ module _ (J : Type 0) {S K C D : Type 0} (left : S → Option (List ℕ)) (sourc
 
   -- each end's session was served, and its seat is of the lock
   served_from : (number : ℕ) (ends : List (End S K C)) (seats seats' : List (Option Taken)) → PairsFrom (SitsIn first.opening start) number ends seats
-      → Pairs (ServesSeat left source_faults held sink_faults coming limit first) seats seats'
+      → Pairs (ServesSeat view limit first) seats seats'
       → PairsFrom IsServed number ends (taken seats') × All (IsSeatOf lock) seats'
   served_from number [] [] [] sits pairs = (tt, All-nil (IsSeatOf lock))
   served_from number [] [] (seat' ∷ seats') sits pairs = absurd pairs
@@ -148,10 +145,10 @@ module _ (J : Type 0) {S K C D : Type 0} (left : S → Option (List ℕ)) (sourc
       let of_end : Serves seat.pass seat'.pass (result_for end seat') =
       subst (λ e. Serves seat.pass seat'.pass (result_for e seat')) sits.0.1 pairs.0 in (
         (subst (λ pass. Serves pass seat'.pass (result_for end seat')) sits.0.0 of_end, more.0),
-        All-cons (IsSeatOf lock) (Some seat') seats' (pairs.0.goes.lock ∙ ap (λ (p : CallerPass D). p.lock) sits.0.0 ∙ here) more.1,
+        All-cons (IsSeatOf lock) (Some seat') seats' (pairs.0.goes.lock ∙ ap (λ (p : CallerPass). p.lock) sits.0.0 ∙ here) more.1,
       )
 
-  abbrev results_of : List (End S K C) → List Taken → List (SessionResult S K C)
+  abbrev results_of : List (End S K C) → List Taken → List (SessionResult (End S K C))
   results_of [] seats = []
   results_of (end ∷ ends) [] = []
   results_of (end ∷ ends) (seat ∷ seats) = result_for end seat ∷ results_of ends seats
@@ -162,7 +159,7 @@ module _ (J : Type 0) {S K C D : Type 0} (left : S → Option (List ℕ)) (sourc
   ends_of_results number (end ∷ ends) [] pairs = absurd pairs
   ends_of_results number (end ∷ ends) (seat ∷ seats) pairs = ap (λ l. end ∷ l) (ends_of_results (number + 1) ends seats pairs.1)
 
-  seats_of_results : {A : Type 0} (of_result : SessionResult S K C → A) (of_seat : Taken → A)
+  seats_of_results : {A : Type 0} (of_result : SessionResult (End S K C) → A) (of_seat : Taken → A)
       → ((end : End S K C) (seat : Taken) → of_result (result_for end seat) ≡ of_seat seat)
       → (number : ℕ) (ends : List (End S K C)) (seats : List Taken) → PairsFrom IsServed number ends seats
       → map of_result (results_of ends seats) ≡ map of_seat seats
@@ -180,9 +177,9 @@ module _ (J : Type 0) {S K C D : Type 0} (left : S → Option (List ℕ)) (sourc
 
     session_in : (caller : ℕ) (end : End S K C) (seat : Taken) → WentOn (pass_for start caller) seat.pass
         → IsKnown (ended_of seat.pass)
-        → HasRun left held sink_faults coming limit first (pass_for start caller) seat.pass (result_for end seat)
+        → HasRun view limit first (pass_for start caller) seat.pass (result_for end seat)
         ⊎ StaysOut (pass_for start caller) seat.pass (result_for end seat)
-        → HasSession left held sink_faults coming (opened first) caller limit history seat.how seat.turns end seat.end
+        → HasSession (opened first) caller limit history seat.how seat.turns (view end) (view seat.end)
         ⊎ IsUnbegun history caller (result_for end seat)
     session_in caller end seat goes known (inl run) = inl (record {
       before = [];
@@ -193,15 +190,12 @@ module _ (J : Type 0) {S K C D : Type 0} (left : S → Option (List ℕ)) (sourc
       none_later = All-append (λ (event : Happened). event.caller ≢ caller) run.later known.1.0 run.none_later
           (others_after seat.pass caller history known.1 goes.caller goes.own
           (subst (λ k. entries_by caller_in k history ≡ seat.pass.own) goes.caller known.0));
-      session = subst (λ l. IsSession (Follows (opened first) caller history) limit seat.how (left end.source) (left seat.end.source)
-          (known_first (opened first) l) run.after (end_view coming held sink_faults end [])
-          (end_view coming held sink_faults seat.end seat.turns)) fresh
-          (subst (λ l. IsSession (Follows (opened first) caller l) limit seat.how (left end.source) (left seat.end.source)
-          (known_first (opened first) start.seen) run.after (end_view coming held sink_faults end [])
-          (end_view coming held sink_faults seat.end seat.turns)) known.1.1
-          (IsSession-later (opened first) caller seat.pass.seen known.1.0 limit seat.how (left end.source) (left seat.end.source)
-          (known_first (opened first) start.seen) run.after (end_view coming held sink_faults end [])
-          (end_view coming held sink_faults seat.end seat.turns) run.session));
+      session = subst (λ l. IsSession (Follows (opened first) caller history) limit seat.how seat.turns (view end) (view seat.end)
+          (known_first (opened first) l) run.after) fresh
+          (subst (λ l. IsSession (Follows (opened first) caller l) limit seat.how seat.turns (view end) (view seat.end)
+          (known_first (opened first) start.seen) run.after) known.1.1
+          (IsSession-later (opened first) caller seat.pass.seen known.1.0 limit seat.how seat.turns (view end) (view seat.end)
+          (known_first (opened first) start.seen) run.after run.session));
     })
     session_in caller end seat goes known (inr out) = inr (record {
       how = out.how;
@@ -213,55 +207,42 @@ module _ (J : Type 0) {S K C D : Type 0} (left : S → Option (List ℕ)) (sourc
 
     results_from : (number : ℕ) (ends : List (End S K C)) (seats : List Taken) → PairsFrom IsServed number ends seats
         → AllByRecursion (λ seat. IsKnown (ended_of seat.pass)) seats
-        → EachFrom (IsResult left source_faults held sink_faults coming (opened first) limit history) number (results_of ends seats)
+        → EachFrom (IsResult view (opened first) limit history) number (results_of ends seats)
     results_from number [] seats pairs known = tt
     results_from number (end ∷ ends) [] pairs known = tt
     results_from number (end ∷ ends) (seat ∷ seats) pairs known = (
-      record {
-        session = session_in number end seat pairs.0.goes known.0 pairs.0.session;
-        user = pairs.0.user;
-        source_cause = pairs.0.source_cause;
-        sink_cause = pairs.0.sink_cause;
-      },
+      session_in number end seat pairs.0.goes known.0 pairs.0.session,
       results_from (number + 1) ends seats pairs.1 known.1,
     )
 
 -- a database whose readers were handed out began as it did
-pub made_of : {D : Type 0} (first given : DatabaseView D) (made : ServedView D) → given ≡ record first { readers = [] }
+pub made_of : (first given : DatabaseView) (made : ServedView) → given ≡ record first { readers = [] }
     → made ≡ record { first = start_of given; database = given } → made ≡ record { first = start_of first; database = given }
-made_of {D} first given made is is_made =
-    subst (λ (f : DatabaseView D). made ≡ record { first = f; database = given }) (ap start_of is) is_made
+made_of first given made is is_made =
+    subst (λ (f : DatabaseView). made ≡ record { first = f; database = given }) (ap start_of is) is_made
 
 -- the readers that were handed out
-pub handed : {D : Type 0} (first : DatabaseView D) (readers : List ReaderState) (count : ℕ)
+pub handed : (first : DatabaseView) (readers : List ReaderState) (count : ℕ)
     → HasReaders first.opening count first.readers → readers ≡ first.readers → HasReaders first.opening count readers
 handed first readers count has is = subst (HasReaders first.opening count) (sym is) has
 
-not_source : NoMemory ≡ SourceFault → ⊥
-not_source is = cc
-
-not_sink : NoMemory ≡ SinkFault → ⊥
-not_sink is = cc
-
-module _ (J : Type 0) {S K C B D : Type 0} (left : S → Option (List ℕ)) (source_faults : S → ℕ) (held : K → Option (List ℕ))
-    (sink_faults : K → ℕ) (coming : C → Option (ℕ → ℕ)) (due : B → Option (ℕ → Bool)) (tells : D → Bool) (faults : D → ℕ)
-    (limit : ℕ) (first : DatabaseView D) where
-  module _ (lock : TableId) (callers : ℕ) (start split : CallerPass D) (database : DatabaseView D) (made : ServedView D)
+module _ (J : Type 0) {S K C : Type 0} (view : End S K C → EndView) (limit : ℕ) (first : DatabaseView) where
+  module _ (lock : TableId) (callers : ℕ) (start split : CallerPass) (database : DatabaseView) (made : ServedView)
       (is_made : made ≡ record { first = first; database = database }) (begins_so : start ≡ first_pass lock made.first callers)
       (ends : List (End S K C)) (is_split : split ≡ record start { splits = length ends })
-      (row seats : List (Option (Seat S K C (DatabaseView D) J))) (sits : PairsFrom (SitsIn first.opening start) 1 ends row) (lent : seats ≡ row)
+      (row seats : List (Option (Seat S K C DatabaseView J))) (sits : PairsFrom (SitsIn first.opening start) 1 ends row) (lent : seats ≡ row)
       (users : first.users ≡ users_of ends) where
     begun : start ≡ first_pass lock first callers
-    begun = begins_so ∙ ap (λ (v : ServedView D). first_pass lock v.first callers) is_made
+    begun = begins_so ∙ ap (λ (v : ServedView). first_pass lock v.first callers) is_made
 
     here : start.lock ≡ lock
-    here = ap (λ (p : CallerPass D). p.lock) begun
+    here = ap (λ (p : CallerPass). p.lock) begun
 
     fixed : start.fixed ≡ Some first
-    fixed = ap (λ (p : CallerPass D). p.fixed) begun
+    fixed = ap (λ (p : CallerPass). p.fixed) begun
 
     fresh : start.seen ≡ []
-    fresh = ap (λ (p : CallerPass D). p.seen) begun
+    fresh = ap (λ (p : CallerPass). p.seen) begun
 
     sit : PairsFrom (SitsIn first.opening start) 1 ends seats
     sit = subst (λ l. PairsFrom (SitsIn first.opening start) 1 ends l) (sym lent) sits
@@ -271,52 +252,52 @@ module _ (J : Type 0) {S K C B D : Type 0} (left : S → Option (List ℕ)) (sou
 
     all_seated : All (IsSeated lock first) seats
     all_seated = let count : length first.users ≡ length ends = ap length users ∙ length-map ends (λ end. end.user) in
-        seated_from J left source_faults held sink_faults coming limit first lock start here fixed fresh 1 ends seats
+        seated_from J view limit first lock start here fixed fresh 1 ends seats
         (omega arith) (omega (arith, count)) sit
 
     -- the sessions can be served, and the ticker can run
-    pub can_serve : (x : DatabaseView D) × IsFirst lock x split × All (IsSeated lock x) seats
+    pub can_serve : (x : DatabaseView) × IsFirst lock x split × All (IsSeated lock x) seats
     can_serve = (first, is_first, all_seated)
 
-    module _ (gone : CallerPass D) (seats' : List (Option (Seat S K C (DatabaseView D) J))) (size : ℕ) (sized : length seats ≡ size)
-        (serves : (x : DatabaseView D) → IsFirst lock x split → All (IsSeated lock x) seats
-        → Pairs (ServesSeat left source_faults held sink_faults coming limit x) seats seats')
-        (ticker ticker' : Ticker B C)
-        (ticking : (x : DatabaseView D) → IsFirst lock x split → TicksOn due coming x split gone ticker ticker') where
-      pairs : Pairs (ServesSeat left source_faults held sink_faults coming limit first) seats seats'
+    module _ (gone : CallerPass) (seats' : List (Option (Seat S K C DatabaseView J))) (size : ℕ) (sized : length seats ≡ size)
+        (serves : (x : DatabaseView) → IsFirst lock x split → All (IsSeated lock x) seats
+        → Pairs (ServesSeat view limit x) seats seats')
+        (ticker ticker' : TickerView)
+        (ticking : (x : DatabaseView) → IsFirst lock x split → TicksOn x split gone ticker ticker') where
+      pairs : Pairs (ServesSeat view limit first) seats seats'
       pairs = serves first is_first all_seated
 
-      ticks : TicksOn due coming first split gone ticker ticker'
+      ticks : TicksOn first split gone ticker ticker'
       ticks = ticking first is_first
 
       -- the row, once its seats are given back
-      abbrev back : List (Option (Seat S K C (DatabaseView D) J))
+      abbrev back : List (Option (Seat S K C DatabaseView J))
       back = take size (seats' ++ drop (length seats') row)
 
       are_back : back ≡ seats'
       are_back = let whole : size ≡ length seats' =
-          sym (Pairs-length (ServesSeat left source_faults held sink_faults coming limit first) seats seats' pairs ∙ sized) in
+          sym (Pairs-length (ServesSeat view limit first) seats seats' pairs ∙ sized) in
           ap (λ n. take n (seats' ++ drop (length seats') row)) whole ∙ take-append_seam seats' (drop (length seats') row)
 
-      served : PairsFrom (IsServed J left source_faults held sink_faults coming limit first lock start here fixed fresh) 1 ends (taken seats')
-      served = (served_from J left source_faults held sink_faults coming limit first lock start here fixed fresh 1 ends seats seats' sit
+      served : PairsFrom (IsServed J view limit first lock start here fixed fresh) 1 ends (taken seats')
+      served = (served_from J view limit first lock start here fixed fresh 1 ends seats seats' sit
           pairs).0
 
       pub all_here : All (IsSeatOf lock) back
       all_here = All-same (IsSeatOf lock) back seats' are_back
-          (served_from J left source_faults held sink_faults coming limit first lock start here fixed fresh 1 ends seats seats' sit pairs).1
+          (served_from J view limit first lock start here fixed fresh 1 ends seats seats' sit pairs).1
 
       pub as_many : length back ≡ length ends
-      as_many = ap length are_back ∙ Pairs-length (ServesSeat left source_faults held sink_faults coming limit first) seats seats' pairs
+      as_many = ap length are_back ∙ Pairs-length (ServesSeat view limit first) seats seats' pairs
           ∙ PairsFrom-length (SitsIn first.opening start) 1 ends seats sit
 
       pub gone_here : (gone.lock ≡ lock) × (gone.caller ≡ 0)
       gone_here = (
-        ticks.goes.lock ∙ ap (λ (p : CallerPass D). p.lock) is_split ∙ here,
-        ticks.goes.caller ∙ ap (λ (p : CallerPass D). p.caller) is_split ∙ ap (λ (p : CallerPass D). p.caller) begun,
+        ticks.goes.lock ∙ ap (λ (p : CallerPass). p.lock) is_split ∙ here,
+        ticks.goes.caller ∙ ap (λ (p : CallerPass). p.caller) is_split ∙ ap (λ (p : CallerPass). p.caller) begun,
       )
 
-      module _ (last : CallerPass D) (ends' : List (End S K C)) (turns : List (List Turn)) (status : ℕ)
+      module _ (last : CallerPass) (ends' : List (End S K C)) (turns : List (List Turn)) (status : ℕ)
           (left_all : AreLeft back gone last ends' turns status) where
         are_left : AreLeft seats' gone last ends' turns status
         are_left = subst (λ l. AreLeft l gone last ends' turns status) are_back left_all
@@ -325,81 +306,81 @@ module _ (J : Type 0) {S K C B D : Type 0} (left : S → Option (List ℕ)) (sou
         passes = are_left.passes
 
         splits : last.splits ≡ length ends
-        splits = ap (λ (p : CallerPass D). p.splits) passes ∙ splits-with_all_ended gone (taken seats') ∙ ticks.goes.splits
-            ∙ ap (λ (p : CallerPass D). p.splits) is_split
+        splits = ap (λ (p : CallerPass). p.splits) passes ∙ splits-with_all_ended gone (taken seats') ∙ ticks.goes.splits
+            ∙ ap (λ (p : CallerPass). p.splits) is_split
 
         ended : last.ended ≡ map (λ seat. ended_of seat.pass) (taken seats')
-        ended = ap (λ (p : CallerPass D). p.ended) passes ∙ ended-with_all_ended gone (taken seats')
+        ended = ap (λ (p : CallerPass). p.ended) passes ∙ ended-with_all_ended gone (taken seats')
             ∙ ap (λ l. l ++ map (λ seat. ended_of seat.pass) (taken seats'))
-            (ticks.goes.ended ∙ ap (λ (p : CallerPass D). p.ended) is_split ∙ ap (λ (p : CallerPass D). p.ended) begun)
+            (ticks.goes.ended ∙ ap (λ (p : CallerPass). p.ended) is_split ∙ ap (λ (p : CallerPass). p.ended) begun)
 
         seen : last.seen ≡ gone.seen
-        seen = ap (λ (p : CallerPass D). p.seen) passes ∙ seen-with_all_ended gone (taken seats')
+        seen = ap (λ (p : CallerPass). p.seen) passes ∙ seen-with_all_ended gone (taken seats')
 
         own : last.own ≡ gone.own
-        own = ap (λ (p : CallerPass D). p.own) passes ∙ own-with_all_ended gone (taken seats')
+        own = ap (λ (p : CallerPass). p.own) passes ∙ own-with_all_ended gone (taken seats')
 
         -- the first pass may close the lock
         pub closes : (last.lock ≡ lock) × (last.caller ≡ 0) × (length last.ended ≡ last.splits)
         closes = (
-          ap (λ (p : CallerPass D). p.lock) passes ∙ lock-with_all_ended gone (taken seats') ∙ gone_here.0,
-          ap (λ (p : CallerPass D). p.caller) passes ∙ caller-with_all_ended gone (taken seats') ∙ gone_here.1,
+          ap (λ (p : CallerPass). p.lock) passes ∙ lock-with_all_ended gone (taken seats') ∙ gone_here.0,
+          ap (λ (p : CallerPass). p.caller) passes ∙ caller-with_all_ended gone (taken seats') ∙ gone_here.1,
           ap length ended ∙ length-map (taken seats') (λ seat. ended_of seat.pass)
-              ∙ PairsFrom-length (IsServed J left source_faults held sink_faults coming limit first lock start here fixed fresh) 1 ends
+              ∙ PairsFrom-length (IsServed J view limit first lock start here fixed fresh) 1 ends
               (taken seats') served ∙ sym splits,
         )
 
-        module _ (value : ServedView D)
-            (closed : IsClosed (λ (v : ServedView D). v.database.events) caller_in (λ (v : ServedView D). v.first) last value)
-            (underway : IsUnderway tells faults value) (v : DatabaseView D) (is : v ≡ value.database) where
+        module _ (value : ServedView)
+            (closed : IsClosed (λ (v : ServedView). v.database.events) caller_in (λ (v : ServedView). v.first) last value)
+            (underway : IsUnderway value) (v : DatabaseView) (is : v ≡ value.database) where
           abbrev history : List Happened
           history = value.database.events
 
           same_first : value.first ≡ first
-          same_first = some_is (sym closed.is_fixed ∙ ap (λ (p : CallerPass D). p.fixed) passes
-              ∙ fixed-with_all_ended gone (taken seats') ∙ ticks.goes.fixed ∙ ap (λ (p : CallerPass D). p.fixed) is_split ∙ fixed)
+          same_first = some_is (sym closed.is_fixed ∙ ap (λ (p : CallerPass). p.fixed) passes
+              ∙ fixed-with_all_ended gone (taken seats') ∙ ticks.goes.fixed ∙ ap (λ (p : CallerPass). p.fixed) is_split ∙ fixed)
 
           begins : IsPrefix gone.seen history
           begins = subst (λ l. IsPrefix l history) seen closed.begins
 
-          looked : HasTicked due coming (opened first) ticker ticker' history
+          looked : HasTicked (opened first) ticker ticker' history
           looked = record {
             seen = gone.seen;
             later = begins.0;
             begins = sym begins.1;
             none_later = others_after gone 0 history begins gone_here.1 ticks.goes.own (closed.first_own ∙ own);
-            looked = subst (λ l. HasLooked due coming (opened first) ticker ticker' l gone.seen)
-                (ap (λ (p : CallerPass D). p.seen) is_split ∙ fresh) ticks.looked;
+            looked = subst (λ l. HasLooked (opened first) ticker ticker' l gone.seen)
+                (ap (λ (p : CallerPass). p.seen) is_split ∙ fresh) ticks.looked;
           }
 
-          known : AllByRecursion (λ seat. IsKnown J left source_faults held sink_faults coming limit first lock start here fixed fresh
+          known : AllByRecursion (λ seat. IsKnown J view limit first lock start here fixed fresh
               history (ended_of seat.pass)) (taken seats')
-          known = each_ended (IsKnown J left source_faults held sink_faults coming limit first lock start here fixed fresh history)
+          known = each_ended (IsKnown J view limit first lock start here fixed fresh history)
               (taken seats') (λ pass inside.
               let among = subst (λ l. Contains l pass) (sym ended) inside in (closed.own pass among, closed.seen pass among))
 
-          abbrev results : List (SessionResult S K C)
-          results = results_of J left source_faults held sink_faults coming limit first lock start here fixed fresh ends (taken seats')
+          abbrev results : List (SessionResult (End S K C))
+          results = results_of J view limit first lock start here fixed fresh ends (taken seats')
 
-          told : {A : Type 0} (of_result : SessionResult S K C → A) (of_seat : Seat S K C (DatabaseView D) J → A)
-              → ((end : End S K C) (seat : Seat S K C (DatabaseView D) J)
-              → of_result (result_for J left source_faults held sink_faults coming limit first lock start here fixed fresh end seat)
+          told : {A : Type 0} (of_result : SessionResult (End S K C) → A) (of_seat : Seat S K C DatabaseView J → A)
+              → ((end : End S K C) (seat : Seat S K C DatabaseView J)
+              → of_result (result_for J view limit first lock start here fixed fresh end seat)
               ≡ of_seat seat) → map of_result results ≡ map of_seat (taken seats')
-          told of_result of_seat same = seats_of_results J left source_faults held sink_faults coming limit first lock start here fixed
+          told of_result of_seat same = seats_of_results J view limit first lock start here fixed
               fresh of_result of_seat same 1 ends (taken seats') served
 
-          pub AreServed-of : AreServed left source_faults held sink_faults coming due tells faults limit first ends ends' ticker ticker'
+          pub AreServed-of : AreServed view limit first ends ends' ticker ticker'
               turns v status
-          AreServed-of = subst (λ w. AreServed left source_faults held sink_faults coming due tells faults limit first ends ends' ticker
+          AreServed-of = subst (λ w. AreServed view limit first ends ends' ticker
               ticker' turns w status) (sym is) (record {
                 leads = subst (λ v. Leads (opened v) history value.database.state) same_first underway.leads;
-                adds = subst (λ v. AddsUp tells faults history v value.database) same_first underway.adds;
+                adds = subst (λ v. AddsUp history v value.database) same_first underway.adds;
                 results = results;
-                old = ends_of_results J left source_faults held sink_faults coming limit first lock start here fixed fresh 1 ends
+                old = ends_of_results J view limit first lock start here fixed fresh 1 ends
                     (taken seats') served;
                 new = told (λ result. result.new) (λ seat. seat.end) (λ end seat. refl) ∙ sym are_left.ends_are;
                 turned = told (λ result. result.turns) (λ seat. seat.turns) (λ end seat. refl) ∙ sym are_left.turns_are;
-                each = results_from J left source_faults held sink_faults coming limit first lock start here fixed fresh history 1 ends
+                each = results_from J view limit first lock start here fixed fresh history 1 ends
                     (taken seats') served known;
                 ticked = looked;
                 callers = subst (λ n. AllByRecursion (λ event. event.caller ≤ n) history) splits
@@ -409,14 +390,14 @@ module _ (J : Type 0) {S K C B D : Type 0} (left : S → Option (List ℕ)) (sou
               })
 
   -- what came of all sessions over how a database began came of them over the database
-  pub AreServed-begun : (ends ends' : List (End S K C)) (ticker ticker' : Ticker B C) (turns : List (List Turn)) (v : DatabaseView D)
+  pub AreServed-begun : (ends ends' : List (End S K C)) (ticker ticker' : TickerView) (turns : List (List Turn)) (v : DatabaseView)
       (status : ℕ)
-      → AreServed left source_faults held sink_faults coming due tells faults limit (start_of first) ends ends' ticker ticker' turns v
+      → AreServed view limit (start_of first) ends ends' ticker ticker' turns v
       status
-      → AreServed left source_faults held sink_faults coming due tells faults limit first ends ends' ticker ticker' turns v status
+      → AreServed view limit first ends ends' ticker ticker' turns v status
   AreServed-begun ends ends' ticker ticker' turns v status served = record {
     leads = served.leads;
-    adds = AddsUp-begun tells faults v.events first v served.adds;
+    adds = AddsUp-begun v.events first v served.adds;
     results = served.results;
     old = served.old;
     new = served.new;
@@ -428,20 +409,21 @@ module _ (J : Type 0) {S K C B D : Type 0} (left : S → Option (List ℕ)) (sou
   }
 
   -- what came of all sessions over a database whose readers were handed out came of them over the database
-  pub AreServed-handed : (given : DatabaseView D) → given ≡ record first { readers = [] } → (ends ends' : List (End S K C))
-      (ticker ticker' : Ticker B C) (turns : List (List Turn)) (v : DatabaseView D) (status : ℕ)
-      → AreServed left source_faults held sink_faults coming due tells faults limit given ends ends' ticker ticker' turns v status
-      → AreServed left source_faults held sink_faults coming due tells faults limit first ends ends' ticker ticker' turns v status
+  pub AreServed-handed : (given : DatabaseView) → given ≡ record first { readers = [] } → (ends ends' : List (End S K C))
+      (ticker ticker' : TickerView) (turns : List (List Turn)) (v : DatabaseView) (status : ℕ)
+      → AreServed view limit given ends ends' ticker ticker' turns v status
+      → AreServed view limit first ends ends' ticker ticker' turns v status
   AreServed-handed given is ends ends' ticker ticker' turns v status all =
-      let served : AreServed left source_faults held sink_faults coming due tells faults limit (record first { readers = [] }) ends ends'
+      let served : AreServed view limit (record first { readers = [] }) ends ends'
       ticker ticker' turns v status =
-      subst (λ f. AreServed left source_faults held sink_faults coming due tells faults limit f ends ends' ticker ticker' turns v status) is
+      subst (λ f. AreServed view limit f ends ends' ticker ticker' turns v status) is
       all in
       record {
         leads = served.leads;
         adds = record {
           same = record { opening = served.adds.same.opening; users = served.adds.same.users };
           goes = served.adds.goes;
+          called = served.adds.called;
           causes = served.adds.causes;
           counted = served.adds.counted;
         };
@@ -456,7 +438,7 @@ module _ (J : Type 0) {S K C B D : Type 0} (left : S → Option (List ℕ)) (sou
       }
 
   -- no session began
-  abbrev none_for : End S K C → SessionResult S K C
+  abbrev none_for : End S K C → SessionResult (End S K C)
   none_for end = record { how = NoMemory; old = end; new = end; turns = [] }
 
   ends_of_none : (ends : List (End S K C)) → map (λ result. result.old) (map none_for ends) ≡ ends
@@ -476,34 +458,29 @@ module _ (J : Type 0) {S K C B D : Type 0} (left : S → Option (List ℕ)) (sou
   hows_of_none (end ∷ ends) = ap (λ l. NoMemory ∷ l) (hows_of_none ends)
 
   none_from : (events : List Happened) → events ≡ [] → (number : ℕ) (ends : List (End S K C))
-      → EachFrom (IsResult left source_faults held sink_faults coming (opened first) limit events) number (map none_for ends)
+      → EachFrom (IsResult view (opened first) limit events) number (map none_for ends)
   none_from events none number [] = tt
   none_from events none number (end ∷ ends) = (
-    record {
-      session = inr (record {
-        how = refl;
-        same = refl;
-        no_turns = refl;
-        no_events = subst (λ l. AllByRecursion (λ event. event.caller ≢ number) l) (sym none) tt;
-      });
-      user = refl;
-      source_cause = λ is. absurd (not_source is);
-      sink_cause = λ is. absurd (not_sink is);
-    },
+    inr (record {
+      how = refl;
+      same = refl;
+      no_turns = refl;
+      no_events = subst (λ l. AllByRecursion (λ event. event.caller ≢ number) l) (sym none) tt;
+    }),
     none_from events none (number + 1) ends,
   )
 
-  pub AreServed-none : (ends ends' : List (End S K C)) (ticker ticker' : Ticker B C) (turns : List (List Turn)) (v : DatabaseView D)
+  pub AreServed-none : (ends ends' : List (End S K C)) (ticker ticker' : TickerView) (turns : List (List Turn)) (v : DatabaseView)
       (status : ℕ) → first.events ≡ [] → first.state ≡ opened first → NoneServed ends turns status → ends' ≡ ends → ticker' ≡ ticker
       → v ≡ first
-      → AreServed left source_faults held sink_faults coming due tells faults limit first ends ends' ticker ticker' turns v status
+      → AreServed view limit first ends ends' ticker ticker' turns v status
   AreServed-none ends ends' ticker ticker' turns v status none starts unserved same_ends same_ticker same =
-      let adds : AddsUp tells faults v.events first v =
-      subst (λ (w : DatabaseView D). AddsUp tells faults w.events first w) (sym same)
-      (subst (λ l. AddsUp tells faults l first first) (sym none) (AddsUp-none tells faults first)) in
-      let empty : v.events ≡ [] = ap (λ (w : DatabaseView D). w.events) same ∙ none in
+      let adds : AddsUp v.events first v =
+      subst (λ (w : DatabaseView). AddsUp w.events first w) (sym same)
+      (subst (λ l. AddsUp l first first) (sym none) (AddsUp-none first)) in
+      let empty : v.events ≡ [] = ap (λ (w : DatabaseView). w.events) same ∙ none in
       record {
-        leads = subst (λ (w : DatabaseView D). Leads (opened first) w.events w.state) (sym same)
+        leads = subst (λ (w : DatabaseView). Leads (opened first) w.events w.state) (sym same)
             (subst (λ l. Leads (opened first) l first.state) (sym none) starts);
         adds = adds;
         results = map none_for ends;
@@ -521,8 +498,8 @@ module _ (J : Type 0) {S K C B D : Type 0} (left : S → Option (List ℕ)) (sou
             answers = [];
             called = inl refl;
             are_looks = record {
-              beat_told = ap (λ (t : Ticker B C). due t.beat) same_ticker;
-              clock_told = ap (λ (t : Ticker B C). coming t.clock) same_ticker;
+              beat_told = ap (λ (t : TickerView). t.due) same_ticker;
+              clock_told = ap (λ (t : TickerView). t.coming) same_ticker;
               looks = refl;
             };
           };

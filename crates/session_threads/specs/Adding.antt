@@ -1,9 +1,10 @@
 -- What adds up over the events of a run. This project's own.
-use Rattle.std.specs.Prelude.{ℕ, Bool, List}
+use Rattle.std.specs.Prelude.{List}
 use Rattle.std.specs.List.{AllByRecursion}
-use Rattle.commit_journal.specs.Journal.{disk_a, disk_b}
+use Rattle.commit_journal.specs.Journal.{Tell, disks_of}
 use Rattle.config_db.specs.declared.answer.Answered.{Answered}
 use Rattle.config_db.specs.declared.answer.Answered.TheVariants.{Kept, NoMemory}
+use Rattle.config_db.specs.Crash.{BothCalled}
 use Rattle.config_db.specs.Disks.{GoesOn}
 use Rattle.config_db.specs.Faults.{AreCounted}
 use Rattle.config_db.specs.Moves.{HasCause}
@@ -14,11 +15,12 @@ use Rattle.session_shell.specs.declared.door.Given0.TheVariants.{Kept as KeptAt,
 
 -- what adds up over the events of a run: it began over the same list for the same users, its disks went on, and an event has the
 -- outcome of a fault only where a disk's count of faults rose, no more of them than it rose by
-pub record AddsUp {D : Type 0} (tells : D → Bool) (faults : D → ℕ) (own : List Happened) (v v' : DatabaseView D) : Type 0 where
+pub record AddsUp (own : List Happened) (v v' : DatabaseView) : Type 0 where
   pub same : IsSameRun v v'
-  pub goes : GoesOn tells faults v.journal v'.journal
-  pub causes : AllByRecursion (HasCause faults v.journal v'.journal) own
-  pub counted : AreCounted faults own (disk_a v.journal) (disk_b v.journal) (disk_a v'.journal) (disk_b v'.journal)
+  pub goes : GoesOn v.journal v'.journal
+  pub called : Tell v.journal → BothCalled v.journal v'.journal
+  pub causes : AllByRecursion (HasCause v.journal v'.journal) own
+  pub counted : AreCounted own (disks_of v.journal) (disks_of v'.journal)
 
 -- what was given, as the database answered
 abbrev pub given_of : Answered → Given0

@@ -7,7 +7,7 @@ use Rattle.config_core.specs.State.{opening_of}
 use Rattle.config_db.specs.View.{DatabaseView}
 
 -- a database with that journal, over that list and for those users, in which nothing happened yet; its readers are handed out
-abbrev pub start_with : {D : Type 0} → JournalView D → Kept → List (List ℕ) → DatabaseView D
+abbrev pub start_with : JournalView → Kept → List (List ℕ) → DatabaseView
 start_with journal opening users = record {
   journal = journal;
   opening = opening;
@@ -19,5 +19,5 @@ start_with journal opening users = record {
 }
 
 -- how a database began, of one in which nothing happened yet
-abbrev pub start_of : {D : Type 0} → DatabaseView D → DatabaseView D
+abbrev pub start_of : DatabaseView → DatabaseView
 start_of v = start_with v.journal v.opening v.users

@@ -21,12 +21,12 @@ use Rattle.session_threads.specs.History.{FollowsTurn, HasEvent, ShowsKept}
 use Rattle.session_threads.specs.Passes.{CallerPass, KnowsOwn, WentOn}
 
 -- a caller's pass, and what its reader knows
-pub record GateView (D : Type 0) : Type 0 where
-  pub pass : CallerPass D
+pub record GateView : Type 0 where
+  pub pass : CallerPass
   pub reader : ReaderState
 
 -- a reader that was told of the opening's list alone
-abbrev pub StartsReading : {D : Type 0} → DatabaseView D → ReaderState → Type 0
+abbrev pub StartsReading : DatabaseView → ReaderState → Type 0
 StartsReading first reader = reader ≡ first_read first.opening
 
 -- behind these events the lists of commits that were kept are those, and the last of them is what is kept now
@@ -88,38 +88,38 @@ abbrev pub NeedsTurn : Command → ℕ → ReaderState → Type 0
 NeedsTurn command answer reader = IsActiveShow command → ReadsLast answer true reader
 
 -- a show was answered without a turn; what the pass has seen is a legal history, and has its caller's events
-pub record SeesAt {D : Type 0} (d : GateView D) (command : Command) (answer : ℕ) (given : Given0) (reader : ReaderState) : Type 0 where
+pub record SeesAt (d : GateView) (command : Command) (answer : ℕ) (given : Given0) (reader : ReaderState) : Type 0 where
   pub is_show : IsActiveShow command
   pub gives : GivesShow command answer (Some given) reader
   pub own : KnowsOwn d.pass
-  pub legal : (first : DatabaseView D) → d.pass.fixed ≡ Some first → IsLegal (opened first) d.pass.seen
+  pub legal : (first : DatabaseView) → d.pass.fixed ≡ Some first → IsLegal (opened first) d.pass.seen
 
 -- what was answered without a turn
-abbrev pub LooksAt : {D : Type 0} → GateView D → Command → ℕ → Option Given0 → ReaderState → Type 0
+abbrev pub LooksAt : GateView → Command → ℕ → Option Given0 → ReaderState → Type 0
 LooksAt d command answer None reader = NeedsTurn command answer reader
 LooksAt d command answer (Some given) reader = SeesAt d command answer given reader
 
 -- a command was looked at before its turn: a show may be answered without one
-pub record LooksIn {D : Type 0} (d : GateView D) (command : Command) (answer : ℕ) (given : Option Given0) (e : GateView D)
+pub record LooksIn (d : GateView) (command : Command) (answer : ℕ) (given : Option Given0) (e : GateView)
     : Type 0 where
   pub same : e.pass ≡ d.pass
   pub reads : ReadsOn d.reader e.reader
   pub looks : LooksAt d command answer given e.reader
 
 -- the turn of a caller's command over a database that began so, and what was told behind it
-pub record TurnsIn {D : Type 0} (first : DatabaseView D) (d : GateView D) (command : Command) (answer : ℕ) (answered : Answered)
-    (e : GateView D) : Type 0 where
+pub record TurnsIn (first : DatabaseView) (d : GateView) (command : Command) (answer : ℕ) (answered : Answered)
+    (e : GateView) : Type 0 where
   pub turn : FollowsTurn (opened first) d.pass.caller d.pass.seen command answer answered e.pass.seen
   pub list : List Kept
   pub tells : TellsKept (opened first) e.pass.seen list
   pub told : IsToldOf answered list e.reader
 
 -- a command took its turn
-pub record TookIn {D : Type 0} (d : GateView D) (command : Command) (answer : ℕ) (answered : Answered) (e : GateView D)
+pub record TookIn (d : GateView) (command : Command) (answer : ℕ) (answered : Answered) (e : GateView)
     : Type 0 where
   pub goes : WentOn d.pass e.pass
   pub reads : ReadsOn d.reader e.reader
-  pub turns : (first : DatabaseView D) → d.pass.fixed ≡ Some first → TurnsIn first d command answer answered e
+  pub turns : (first : DatabaseView) → d.pass.fixed ≡ Some first → TurnsIn first d command answer answered e
 
 -- a reader found a deadline that has come, on the way from what it knew to what it knows
 pub record MissedIn (answer : ℕ) (old new : ReaderState) : Type 0 where
@@ -129,32 +129,32 @@ pub record MissedIn (answer : ℕ) (old new : ReaderState) : Type 0 where
   pub behind : ReadsOn mid new
 
 -- a command was answered by an event; a show takes a turn only where a deadline has come
-pub record KeptIn {D : Type 0} (d : GateView D) (command : Command) (answer place : ℕ) (reply : Reply) (e : GateView D)
+pub record KeptIn (d : GateView) (command : Command) (answer place : ℕ) (reply : Reply) (e : GateView)
     : Type 0 where
-  pub turns : (first : DatabaseView D) → d.pass.fixed ≡ Some first → TurnsIn first d command answer (Done place reply) e
+  pub turns : (first : DatabaseView) → d.pass.fixed ≡ Some first → TurnsIn first d command answer (Done place reply) e
   pub missed : IsActiveShow command → MissedIn answer d.reader e.reader
 
 -- a show was answered without a turn
-pub record SeenIn {D : Type 0} (d : GateView D) (command : Command) (answer front : ℕ) (reply : Reply) (e : GateView D)
+pub record SeenIn (d : GateView) (command : Command) (answer front : ℕ) (reply : Reply) (e : GateView)
     : Type 0 where
   pub same : e.pass ≡ d.pass
   pub is_show : IsActiveShow command
   pub answers : AnswersShow command answer front reply e.reader
 
 -- memory was wanting for an answer
-abbrev pub WantingIn : {D : Type 0} → GateView D → Command → ℕ → GateView D → Type 0
-WantingIn {D} d command answer e =
-    (first : DatabaseView D) → d.pass.fixed ≡ Some first
+abbrev pub WantingIn : GateView → Command → ℕ → GateView → Type 0
+WantingIn d command answer e =
+    (first : DatabaseView) → d.pass.fixed ≡ Some first
     → FollowsTurn (opened first) d.pass.caller d.pass.seen command answer Wanting e.pass.seen
 
 -- by what was given
-abbrev pub ComesIn : {D : Type 0} → GateView D → Command → ℕ → Given0 → GateView D → Type 0
+abbrev pub ComesIn : GateView → Command → ℕ → Given0 → GateView → Type 0
 ComesIn d command answer (KeptAt place reply) e = KeptIn d command answer place reply e
 ComesIn d command answer (Seen front reply) e = SeenIn d command answer front reply e
 ComesIn d command answer NoMemory e = WantingIn d command answer e
 
 -- how a pass and its reader follow after one ask of their caller
-pub record FollowsIn {D : Type 0} (d : GateView D) (command : Command) (answer : ℕ) (given : Given0) (e : GateView D)
+pub record FollowsIn (d : GateView) (command : Command) (answer : ℕ) (given : Given0) (e : GateView)
     : Type 0 where
   pub goes : WentOn d.pass e.pass
   pub reads : ReadsOn d.reader e.reader
@@ -170,9 +170,9 @@ pub record HasShown (command : Command) (front : ℕ) (reply : Reply) (reader : 
   pub shows : ShowsKept view command reply
 
 -- what belongs to a command of the pass's caller
-abbrev pub NamesIn : {D : Type 0} → GateView D → Command → ℕ → Given0 → Type 0
-NamesIn {D} d command answer (KeptAt place reply) =
-    (first : DatabaseView D) → d.pass.fixed ≡ Some first
+abbrev pub NamesIn : GateView → Command → ℕ → Given0 → Type 0
+NamesIn d command answer (KeptAt place reply) =
+    (first : DatabaseView) → d.pass.fixed ≡ Some first
     → HasEvent (opened first) d.pass.caller d.pass.seen command answer (Done place reply)
 NamesIn d command answer (Seen front reply) = HasShown command front reply d.reader
 NamesIn d command answer NoMemory = Unit {0}

@@ -12,16 +12,14 @@ use Rattle.config_core.specs.State.{State}
 use Rattle.config_db.specs.declared.answer.Answered.{Answered}
 use Rattle.config_db.specs.declared.answer.Answered.TheVariants.{Kept as Done, NoMemory as Wanting}
 use Rattle.session_history.specs.declared.history.Happened.{Happened}
-use Rattle.session_history.specs.Events.{IsAsked, Leads, is_command, places_of}
+use Rattle.session_history.specs.Events.{IsAsked, Leads, is_command, places_of, IsEventOf, NoCommand}
 use Rattle.session_history.specs.Kept.{WasKept}
 use Rattle.session_shell.specs.declared.door.Given0.{Given0}
 use Rattle.session_shell.specs.declared.door.Given0.TheVariants.{Kept as KeptAt, Seen, NoMemory}
-use Rattle.session_shell.specs.declared.end.End.{End}
 use Rattle.session_shell.specs.declared.turn.How.{How}
 use Rattle.session_shell.specs.declared.turn.Turn.{Turn}
-use Rattle.session_shell.specs.Opened.{end_view}
 use Rattle.session_shell.specs.Shows.{IsActiveShow}
-use Rattle.session_shell.specs.Transcript.{IsSession}
+use Rattle.session_shell.specs.Transcript.{EndView, IsSession}
 
 -- what a caller knows of a run: the events up to its last turn, and how many entries the newest list of commits had that it was
 -- answered from
@@ -33,10 +31,6 @@ pub record Known : Type 0 where
 abbrev pub known_first : State → List Happened → Known
 known_first opening events = record { events = events; front = opening.kept.count }
 
--- an event is a caller's, at that moment
-abbrev pub IsMade : ℕ → ℕ → Happened → Type 0
-IsMade caller moment event = (event.caller ≡ caller) × (event.moment ≡ moment)
-
 -- others' events came, and then the caller's own, at the greater of the clock's answer and the greatest moment before them
 pub record Grows (opening : State) (caller answer : ℕ) (events events' : List Happened) : Type 0 where
   pub others : List Happened
@@ -45,16 +39,12 @@ pub record Grows (opening : State) (caller answer : ℕ) (events events' : List 
   pub not_own : AllByRecursion (λ event. event.caller ≢ caller) others
   pub before : State
   pub leads : Leads opening (events ++ others) before
-  pub made : AllByRecursion (IsMade caller (max answer before.greatest)) own
+  pub made : AllByRecursion (IsEventOf caller (max answer before.greatest)) own
 
 -- what belongs to a caller's command at a clock's answer: its event at a place of the history, with the machine's reply
 abbrev pub HasEvent : State → ℕ → List Happened → Command → ℕ → Answered → Type 0
 HasEvent opening caller events command answer (Done place reply) = IsAsked opening events place caller answer command reply
 HasEvent opening caller events command answer Wanting = Unit {0}
-
--- no event is a command
-abbrev pub NoCommand : List Happened → Type 0
-NoCommand events = AllByRecursion (λ event. is_command event.event ≡ false) events
 
 -- a turn's own events are a settling or a revert, and then, where it was answered, the command, which is the last event
 pub record EndsAt (place : ℕ) (own events : List Happened) : Type 0 where
@@ -145,14 +135,12 @@ Names opening caller final d command answer (Seen front reply) = HasView opening
 Names opening caller final d command answer NoMemory = Unit {0}
 
 -- a session of a caller over a part of the events of a run, which has all events of that caller: its ends and its turns
-pub record HasSession {S K C : Type 0} (left : S → Option (List ℕ)) (held : K → Option (List ℕ)) (faults : K → ℕ)
-    (coming : C → Option (ℕ → ℕ)) (opening : State) (caller limit : ℕ) (events : List Happened) (how : How)
-    (turns : List Turn) (old new : End S K C) : Type 0 where
+pub record HasSession (opening : State) (caller limit : ℕ) (events : List Happened) (how : How) (turns : List Turn)
+    (old new : EndView) : Type 0 where
   pub before : List Happened
   pub after : Known
   pub later : List Happened
   pub begins : events ≡ after.events ++ later
   pub others_first : AllByRecursion (λ event. event.caller ≢ caller) before
   pub none_later : AllByRecursion (λ event. event.caller ≢ caller) later
-  pub session : IsSession (Follows opening caller events) limit how (left old.source) (left new.source)
-      (known_first opening before) after (end_view coming held faults old []) (end_view coming held faults new turns)
+  pub session : IsSession (Follows opening caller events) limit how turns old new (known_first opening before) after

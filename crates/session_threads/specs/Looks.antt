@@ -1,12 +1,13 @@
 -- The ticker, which looks at the time at each beat. This project's own.
 use Rattle.std.specs.Prelude.{◌≡◌, ◌≢◌, ◌⊎◌, ℕ, Bool, true, false, Option}
+use Rattle.session_history.specs.Events.{NoCommand}
 use Rattle.std.specs.Prelude.{List, [], ◌∷◌, ◌++◌, length, replicate}
 use Rattle.std.specs.List.{AllByRecursion}
 use Rattle.config_core.specs.State.{State}
 use Rattle.io_edge.specs.Ends.{TakesAnswer}
 use Rattle.session_history.specs.declared.history.Happened.{Happened}
 use Rattle.session_threads.specs.declared.ticking.Ticker.{Ticker}
-use Rattle.session_threads.specs.History.{Grows, NoCommand}
+use Rattle.session_threads.specs.History.{Grows}
 
 -- these are the next answers of a beat or of a clock, in order
 abbrev pub Takes : {A : Type 0} → Option (ℕ → A) → List A → Option (ℕ → A) → Type 0
@@ -33,26 +34,32 @@ Looks opening (answer ∷ answers) events events' =
 abbrev pub CallFor : List Bool → ℕ → Type 0
 CallFor beats looks = (beats ≡ replicate looks true) ⊎ (beats ≡ replicate looks true ++ false ∷ [])
 
+-- what is told of a ticker: the answers to come of its beat and of its clock
+pub record TickerView : Type 0 where
+  pub due : Option (ℕ → Bool)
+  pub coming : Option (ℕ → ℕ)
+
+abbrev pub ticker_view : {B C : Type 0} → (B → Option (ℕ → Bool)) → (C → Option (ℕ → ℕ)) → Ticker B C → TickerView
+ticker_view due coming ticker = record { due = due ticker.beat; coming = coming ticker.clock }
+
 -- a ticker's beat and its clock gave these answers, and it looked at the time at those of the clock
-pub record AreLooks {B C : Type 0} (due : B → Option (ℕ → Bool)) (coming : C → Option (ℕ → ℕ)) (opening : State)
-    (beats : List Bool) (answers : List ℕ) (old new : Ticker B C) (events events' : List Happened) : Type 0 where
-  pub beat_told : Takes (due old.beat) beats (due new.beat)
-  pub clock_told : Takes (coming old.clock) answers (coming new.clock)
+pub record AreLooks (opening : State) (beats : List Bool) (answers : List ℕ) (old new : TickerView) (events events' : List Happened)
+    : Type 0 where
+  pub beat_told : Takes old.due beats new.due
+  pub clock_told : Takes old.coming answers new.coming
   pub looks : Looks opening answers events events'
 
 -- a ticker looked at the time, as often as its beat called for it
-pub record HasLooked {B C : Type 0} (due : B → Option (ℕ → Bool)) (coming : C → Option (ℕ → ℕ)) (opening : State)
-    (old new : Ticker B C) (events events' : List Happened) : Type 0 where
+pub record HasLooked (opening : State) (old new : TickerView) (events events' : List Happened) : Type 0 where
   pub beats : List Bool
   pub answers : List ℕ
   pub called : CallFor beats (length answers)
-  pub are_looks : AreLooks due coming opening beats answers old new events events'
+  pub are_looks : AreLooks opening beats answers old new events events'
 
 -- the ticker's looks, over a part of the events of a run, which has all events of caller 0
-pub record HasTicked {B C : Type 0} (due : B → Option (ℕ → Bool)) (coming : C → Option (ℕ → ℕ)) (opening : State)
-    (old new : Ticker B C) (events : List Happened) : Type 0 where
+pub record HasTicked (opening : State) (old new : TickerView) (events : List Happened) : Type 0 where
   pub seen : List Happened
   pub later : List Happened
   pub begins : events ≡ seen ++ later
   pub none_later : AllByRecursion (λ event. event.caller ≢ 0) later
-  pub looked : HasLooked due coming opening old new [] seen
+  pub looked : HasLooked opening old new [] seen

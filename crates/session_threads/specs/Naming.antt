@@ -24,42 +24,41 @@ IsPrefix-then xs ys zs front back = (
   sym (append_assoc xs front.0 back.0) ∙ ap (λ l. l ++ back.0) front.1 ∙ back.1,
 )
 
-module _ {D : Type 0} where
-  pub names_given : (d e : GateView D) (command : Command) (answer : ℕ) (given : Given0)
-      → FollowsIn d command answer given e → NamesIn e command answer given
-  names_given d e command answer (KeptAt place reply) goes = λ first fixed.
-      subst (λ c. HasEvent (opened first) c e.pass.seen command answer (Done place reply)) (sym goes.goes.caller)
-      (goes.comes.turns first (sym goes.goes.fixed ∙ fixed)).turn.named
-  names_given d e command answer (Seen front reply) goes = record {
-    list = e.reader.list;
-    view = goes.comes.answers.read.view;
-    begins = IsPrefix-same e.reader.list;
-    is_last = goes.comes.answers.read.is_last;
-    is_front = goes.comes.answers.is_front;
-    shows = goes.comes.answers.shows;
-  }
-  names_given d e command answer NoMemory goes = tt
+pub names_given : (d e : GateView) (command : Command) (answer : ℕ) (given : Given0)
+    → FollowsIn d command answer given e → NamesIn e command answer given
+names_given d e command answer (KeptAt place reply) goes = λ first fixed.
+    subst (λ c. HasEvent (opened first) c e.pass.seen command answer (Done place reply)) (sym goes.goes.caller)
+    (goes.comes.turns first (sym goes.goes.fixed ∙ fixed)).turn.named
+names_given d e command answer (Seen front reply) goes = record {
+  list = e.reader.list;
+  view = goes.comes.answers.read.view;
+  begins = IsPrefix-same e.reader.list;
+  is_last = goes.comes.answers.read.is_last;
+  is_front = goes.comes.answers.is_front;
+  shows = goes.comes.answers.shows;
+}
+names_given d e command answer NoMemory goes = tt
 
-  pub keeps_names : (d e : GateView D) (command : Command) (answer : ℕ) (given : Given0)
-      → FollowsIn d command answer given e → (asked : Command) (when : ℕ) (was : Given0)
-      → NamesIn d asked when was → NamesIn e asked when was
-  keeps_names d e command answer given goes asked when (KeptAt place reply) named = λ first fixed.
-      subst (λ c. HasEvent (opened first) c e.pass.seen asked when (Done place reply)) (sym goes.goes.caller)
-      (subst (λ events. HasEvent (opened first) d.pass.caller events asked when (Done place reply)) goes.goes.later.1
-      (IsAsked-append (opened first) d.pass.seen goes.goes.later.0 place d.pass.caller when asked reply
-      (named first (sym goes.goes.fixed ∙ fixed))))
-  keeps_names d e command answer given goes asked when (Seen front reply) named = record {
-    list = named.list;
-    view = named.view;
-    begins = IsPrefix-then named.list d.reader.list e.reader.list named.begins goes.reads.later;
-    is_last = named.is_last;
-    is_front = named.is_front;
-    shows = named.shows;
-  }
-  keeps_names d e command answer given goes asked when NoMemory named = tt
+pub keeps_names : (d e : GateView) (command : Command) (answer : ℕ) (given : Given0)
+    → FollowsIn d command answer given e → (asked : Command) (when : ℕ) (was : Given0)
+    → NamesIn d asked when was → NamesIn e asked when was
+keeps_names d e command answer given goes asked when (KeptAt place reply) named = λ first fixed.
+    subst (λ c. HasEvent (opened first) c e.pass.seen asked when (Done place reply)) (sym goes.goes.caller)
+    (subst (λ events. HasEvent (opened first) d.pass.caller events asked when (Done place reply)) goes.goes.later.1
+    (IsAsked-append (opened first) d.pass.seen goes.goes.later.0 place d.pass.caller when asked reply
+    (named first (sym goes.goes.fixed ∙ fixed))))
+keeps_names d e command answer given goes asked when (Seen front reply) named = record {
+  list = named.list;
+  view = named.view;
+  begins = IsPrefix-then named.list d.reader.list e.reader.list named.begins goes.reads.later;
+  is_last = named.is_last;
+  is_front = named.is_front;
+  shows = named.shows;
+}
+keeps_names d e command answer given goes asked when NoMemory named = tt
 
-  pub shows_given : (d e : GateView D) (command : Command) (answer : ℕ) (given : Given0)
-      → FollowsIn d command answer given e → SeesShow command given
-  shows_given d e command answer (KeptAt place reply) goes = tt
-  shows_given d e command answer (Seen front reply) goes = goes.comes.is_show
-  shows_given d e command answer NoMemory goes = tt
+pub shows_given : (d e : GateView) (command : Command) (answer : ℕ) (given : Given0)
+    → FollowsIn d command answer given e → SeesShow command given
+shows_given d e command answer (KeptAt place reply) goes = tt
+shows_given d e command answer (Seen front reply) goes = goes.comes.is_show
+shows_given d e command answer NoMemory goes = tt

@@ -12,19 +12,19 @@ use Rattle.turn_lock.specs.Passes.{PassView}
 use Rattle.session_threads.specs.History.{FollowsTurn}
 
 -- a pass of a lock over a database
-abbrev pub CallerPass : Type 0 → Type 0
-CallerPass D = PassView Happened (DatabaseView D)
+abbrev pub CallerPass : Type 0
+CallerPass = PassView Happened DatabaseView
 
 -- whose an event is
 abbrev pub caller_in : Happened → ℕ
 caller_in event = event.caller
 
 -- a pass has as its own the events of its caller among those that it has seen
-abbrev pub KnowsOwn : {D : Type 0} → CallerPass D → Type 0
+abbrev pub KnowsOwn : CallerPass → Type 0
 KnowsOwn pass = entries_by caller_in pass.caller pass.seen ≡ pass.own
 
 -- a pass of that lock, over a database that began so, for one of its users; what it has seen is a legal history
-pub record IsReady {D : Type 0} (lock : TableId) (first : DatabaseView D) (pass : CallerPass D) : Type 0 where
+pub record IsReady (lock : TableId) (first : DatabaseView) (pass : CallerPass) : Type 0 where
   pub here : pass.lock ≡ lock
   pub fixed : pass.fixed ≡ Some first
   pub within : (0 < pass.caller) × (pass.caller ≤ length first.users)
@@ -32,7 +32,7 @@ pub record IsReady {D : Type 0} (lock : TableId) (first : DatabaseView D) (pass 
   pub legal : IsLegal (opened first) pass.seen
 
 -- a pass took turns: it is the same pass, and has seen more
-pub record WentOn {D : Type 0} (old new : CallerPass D) : Type 0 where
+pub record WentOn (old new : CallerPass) : Type 0 where
   pub lock : new.lock ≡ old.lock
   pub caller : new.caller ≡ old.caller
   pub fixed : new.fixed ≡ old.fixed
@@ -43,12 +43,12 @@ pub record WentOn {D : Type 0} (old new : CallerPass D) : Type 0 where
   pub own : KnowsOwn new
 
 -- a history grew by what one turn of a caller made, and by nothing else
-pub record FollowsAlone {D : Type 0} (first : DatabaseView D) (caller : ℕ) (events : List Happened) (command : Command)
+pub record FollowsAlone (first : DatabaseView) (caller : ℕ) (events : List Happened) (command : Command)
     (answer : ℕ) (answered : Answered) (events' : List Happened) : Type 0 where
   pub follows : FollowsTurn (opened first) caller events command answer answered events'
   pub alone : follows.grows.others ≡ []
 
 -- a pass took turns in which its caller made nothing
-pub record Waited {D : Type 0} (start pass : CallerPass D) : Type 0 where
+pub record Waited (start pass : CallerPass) : Type 0 where
   pub goes : WentOn start pass
   pub same_own : pass.own ≡ start.own

@@ -1,13 +1,13 @@
 -- What comes of the sessions of a run, and its status. This project's own.
-use Rattle.std.specs.Prelude.{◌≡◌, ◌≢◌, ◌⊎◌, ℕ, List, [], ◌∷◌, map, Option}
+use Rattle.std.specs.Prelude.{◌≡◌, ◌≢◌, ◌⊎◌, ℕ, List, [], ◌∷◌, map}
 use Rattle.std.specs.List.{AllByRecursion}
-use Rattle.cfg_base.specs.Counts.{Rose}
 use Rattle.config_core.specs.State.{State}
 use Rattle.session_history.specs.declared.history.Happened.{Happened}
 use Rattle.session_shell.specs.declared.end.End.{End}
 use Rattle.session_shell.specs.declared.turn.How.{How}
 use Rattle.session_shell.specs.declared.turn.How.TheVariants.{Clean, SourceFault, SinkFault, InputFull, NoMemory}
 use Rattle.session_shell.specs.declared.turn.Turn.{Turn}
+use Rattle.session_shell.specs.Transcript.{EndView}
 use Rattle.session_threads.specs.History.{HasSession}
 
 -- the users of ends, in order
@@ -29,26 +29,21 @@ status_of_all (Clean ∷ hows) = status_of_all hows
 status_of_all (how ∷ hows) = status_of how
 
 -- what came of a session: how it ended, its ends before and after, and its turns
-pub record SessionResult (S K C : Type 0) : Type 0 where
+pub record SessionResult (E : Type 0) : Type 0 where
   pub how : How
-  pub old : End S K C
-  pub new : End S K C
+  pub old : E
+  pub new : E
   pub turns : List Turn
 
 -- memory was wanting before the session began: it has no turns and no events, and its ends are as they were given
-pub record IsUnbegun {S K C : Type 0} (events : List Happened) (caller : ℕ) (result : SessionResult S K C) : Type 0 where
+pub record IsUnbegun {E : Type 0} (events : List Happened) (caller : ℕ) (result : SessionResult E) : Type 0 where
   pub how : result.how ≡ NoMemory
   pub same : result.new ≡ result.old
   pub no_turns : result.turns ≡ []
   pub no_events : AllByRecursion (λ event. event.caller ≢ caller) events
 
--- the session of a caller, over a part of the events of a run; a fault of its source or its sink is answered only where that
--- object's count rose
-pub record IsResult {S K C : Type 0} (left : S → Option (List ℕ)) (source_faults : S → ℕ) (held : K → Option (List ℕ))
-    (sink_faults : K → ℕ) (coming : C → Option (ℕ → ℕ)) (opening : State) (limit : ℕ) (events : List Happened)
-    (caller : ℕ) (result : SessionResult S K C) : Type 0 where
-  pub session : HasSession left held sink_faults coming opening caller limit events result.how result.turns result.old
-      result.new ⊎ IsUnbegun events caller result
-  pub user : result.new.user ≡ result.old.user
-  pub source_cause : result.how ≡ SourceFault → Rose (source_faults result.old.source) (source_faults result.new.source)
-  pub sink_cause : result.how ≡ SinkFault → Rose (sink_faults result.old.sink) (sink_faults result.new.sink)
+-- the session of a caller, over a part of the events of a run, or none
+abbrev pub IsResult : {E : Type 0} → (E → EndView) → State → ℕ → List Happened → ℕ → SessionResult E → Type 0
+IsResult view opening limit events caller result =
+    HasSession opening caller limit events result.how result.turns (view result.old) (view result.new)
+    ⊎ IsUnbegun events caller result

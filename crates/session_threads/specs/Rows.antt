@@ -28,11 +28,11 @@ PairsFrom Are number [] (y ∷ ys) = ⊥
 PairsFrom Are number (x ∷ xs) [] = ⊥
 
 -- the pass that is split off for a caller
-abbrev pub pass_for : {D : Type 0} → CallerPass D → ℕ → CallerPass D
+abbrev pub pass_for : CallerPass → ℕ → CallerPass
 pass_for first caller = record first { caller = caller; own = []; splits = 0; ended = [] }
 
 -- an end sits in this seat, with the pass of that caller and a reader that was told of the opening's list alone
-abbrev pub SitsIn : {S K C D J : Type 0} → Kept → CallerPass D → ℕ → End S K C → Option (Seat S K C (DatabaseView D) J) → Type 0
+abbrev pub SitsIn : {S K C J : Type 0} → Kept → CallerPass → ℕ → End S K C → Option (Seat S K C DatabaseView J) → Type 0
 SitsIn opening first caller end None = ⊥
 SitsIn opening first caller end (Some seat) =
     (seat.pass ≡ pass_for first caller) × (seat.end ≡ end) × (seat.reader ≡ first_read opening)
@@ -45,23 +45,23 @@ pub record HasRoom {S K C D J : Type 0} (count : ℕ) (room : Room S K C D J) : 
   pub lists : count ≤ vec_capacity room.lists
 
 -- a seat with a pass of this lock
-abbrev pub IsSeatOf : {S K C D J : Type 0} → TableId → Option (Seat S K C (DatabaseView D) J) → Type 0
+abbrev pub IsSeatOf : {S K C J : Type 0} → TableId → Option (Seat S K C DatabaseView J) → Type 0
 IsSeatOf lock None = ⊥
 IsSeatOf lock (Some seat) = seat.pass.lock ≡ lock
 
 -- the seats that are taken
-abbrev pub taken : {S K C D J : Type 0} → List (Option (Seat S K C (DatabaseView D) J)) → List (Seat S K C (DatabaseView D) J)
+abbrev pub taken : {S K C J : Type 0} → List (Option (Seat S K C DatabaseView J)) → List (Seat S K C DatabaseView J)
 taken [] = []
 taken (None ∷ seats) = taken seats
 taken (Some seat ∷ seats) = seat ∷ taken seats
 
 -- the first pass, once the passes of these seats have ended
-abbrev pub with_all_ended : {S K C D J : Type 0} → CallerPass D → List (Seat S K C (DatabaseView D) J) → CallerPass D
+abbrev pub with_all_ended : {S K C J : Type 0} → CallerPass → List (Seat S K C DatabaseView J) → CallerPass
 with_all_ended pass [] = pass
 with_all_ended pass (seat ∷ seats) = with_all_ended (with_ended pass seat.pass) seats
 
 -- all left their seats: their passes ended, and their ends and turns came back with the status of the first that didn't end clean
-pub record AreLeft {S K C D J : Type 0} (seats : List (Option (Seat S K C (DatabaseView D) J))) (pass pass' : CallerPass D)
+pub record AreLeft {S K C J : Type 0} (seats : List (Option (Seat S K C DatabaseView J))) (pass pass' : CallerPass)
     (ends : List (End S K C)) (turns : List (List Turn)) (status : ℕ) : Type 0 where
   pub passes : pass' ≡ with_all_ended pass (taken seats)
   pub ends_are : ends ≡ map (λ seat. seat.end) (taken seats)

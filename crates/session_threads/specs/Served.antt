@@ -5,23 +5,22 @@ use Rattle.active_snapshot.specs.States.{ReaderState, first_read}
 use Rattle.commit_ledger.specs.Kept.{Kept}
 use Rattle.config_db.specs.View.{DatabaseView, opened}
 use Rattle.session_history.specs.Events.{Leads}
-use Rattle.session_shell.specs.declared.end.End.{End}
 use Rattle.session_shell.specs.declared.turn.Turn.{Turn}
-use Rattle.session_threads.specs.declared.ticking.Ticker.{Ticker}
 use Rattle.session_threads.specs.Adding.{AddsUp}
-use Rattle.session_threads.specs.Looks.{HasTicked}
+use Rattle.session_shell.specs.Transcript.{EndView}
+use Rattle.session_threads.specs.Looks.{HasTicked, TickerView}
 use Rattle.session_threads.specs.Results.{IsResult, SessionResult, status_of_all}
 
 -- the database, and how it was before its first turn
-pub record ServedView (D : Type 0) : Type 0 where
-  pub first : DatabaseView D
-  pub database : DatabaseView D
+pub record ServedView : Type 0 where
+  pub first : DatabaseView
+  pub database : DatabaseView
 
 -- nothing had happened before the first turn, and all that happened since led to the database's state and adds up
-pub record IsUnderway {D : Type 0} (tells : D → Bool) (faults : D → ℕ) (v : ServedView D) : Type 0 where
+pub record IsUnderway (v : ServedView) : Type 0 where
   pub fresh : v.first.events ≡ []
   pub leads : Leads (opened v.first) v.database.events v.database.state
-  pub adds : AddsUp tells faults v.database.events v.first v.database
+  pub adds : AddsUp v.database.events v.first v.database
 
 -- there is a reader for each of so many sessions, and each was told of the opening's list alone
 abbrev pub HasReaders : Kept → ℕ → List ReaderState → Type 0
@@ -33,19 +32,17 @@ EachFrom Is number [] = Unit {0}
 EachFrom Is number (x ∷ xs) = Is number x × EachFrom Is (number + 1) xs
 
 -- a database in which nothing had happened, and what came over it of the sessions of these ends and of the ticker
-pub record AreServed {S K C B D : Type 0} (left : S → Option (List ℕ)) (source_faults : S → ℕ)
-    (held : K → Option (List ℕ)) (sink_faults : K → ℕ) (coming : C → Option (ℕ → ℕ)) (due : B → Option (ℕ → Bool)) (tells : D → Bool)
-    (faults : D → ℕ) (limit : ℕ) (first : DatabaseView D) (ends ends' : List (End S K C)) (ticker ticker' : Ticker B C)
-    (turns : List (List Turn)) (v : DatabaseView D) (status : ℕ) : Type 0 where
+pub record AreServed {E : Type 0} (view : E → EndView) (limit : ℕ) (first : DatabaseView) (ends ends' : List E)
+    (ticker ticker' : TickerView) (turns : List (List Turn)) (v : DatabaseView) (status : ℕ) : Type 0 where
   pub leads : Leads (opened first) v.events v.state
-  pub adds : AddsUp tells faults v.events first v
+  pub adds : AddsUp v.events first v
   -- the sessions of callers 1, 2 and so on
-  pub results : List (SessionResult S K C)
+  pub results : List (SessionResult E)
   pub old : map (λ result. result.old) results ≡ ends
   pub new : map (λ result. result.new) results ≡ ends'
   pub turned : map (λ result. result.turns) results ≡ turns
-  pub each : EachFrom (IsResult left source_faults held sink_faults coming (opened first) limit v.events) 1 results
+  pub each : EachFrom (IsResult view (opened first) limit v.events) 1 results
   -- the ticker, which is caller 0
-  pub ticked : HasTicked due coming (opened first) ticker ticker' v.events
+  pub ticked : HasTicked (opened first) ticker ticker' v.events
   pub callers : AllByRecursion (λ event. event.caller ≤ length ends) v.events
   pub is_status : status ≡ status_of_all (map (λ result. result.how) results)

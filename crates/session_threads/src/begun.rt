@@ -26,7 +26,7 @@ impl<D: Disk> Model for Begun<D> {
     ghost use Rattle.config_db.specs.View.{DatabaseView};
     ghost use Rattle.session_threads.specs.Begun.{start_with};
 
-    ghost Value = { DatabaseView D };
+    ghost Value = { DatabaseView };
 
     ghost coded = { Prim.hlevel (codes, statements_code) };
 

@@ -44,13 +44,13 @@ impl<'a, D: Disk, J: Naming> Model for Gate<'a, D, J> {
     ghost use Rattle.session_threads.specs.Gates.{GateView};
     ghost use Rattle.session_threads.specs.Passes.{IsReady};
 
-    ghost Value = { GateView D };
+    ghost Value = { GateView };
 
     ghost coded = { Prim.hlevel (codes, statements_code) };
 
     ghost view = { λ g. record { pass = g.pass; reader = g.reader } };
 
-    ghost invariant = { λ g. (first : DatabaseView D) × IsReady g.lock.now first g.pass };
+    ghost invariant = { λ g. (first : DatabaseView) × IsReady g.lock.now first g.pass };
 }
 
 /// Whether a command shows the active configuration or the commits.
@@ -141,7 +141,7 @@ impl<'a, D: Disk, J: Naming> Gate<'a, D, J> {
         pass: Pass<Happened, Begun<D>>,
         reader: SnapReader<J>,
     ) -> Gate<'a, D, J>
-        requires { (first : DatabaseView D) × IsReady lock.now first pass }
+        requires { (first : DatabaseView) × IsReady lock.now first pass }
         ensures { result ≡ record { pass = pass; reader = reader } }
     {
         Gate {

@@ -2,6 +2,7 @@
 
 ghost use Rattle.std.specs.Prelude.{◌≡◌, true, Some};
 ghost use Rattle.config_db.specs.View.{DatabaseView};
+ghost use Rattle.session_shell.specs.Opened.{end_view};
 ghost use Rattle.session_threads.specs.Passes.{CallerPass, IsReady, KnowsOwn, Waited};
 ghost use Rattle.session_threads.specs.Sessions.{CanServe, HasLeft, IsSeated, IsWithin, RunsOne, ServesOne, ServesSeat, gate_of, result_of};
 
@@ -37,8 +38,8 @@ fn run_session<R: Wait, S: Source, K: Sink, C: Clock, D: Disk, J: Naming>(
     seat: Seat<S, K, C, Begun<D>, J>,
     limits: Limits,
 ) -> Seat<S, K, C, Begun<D>, J>
-    requires { (first : DatabaseView D) × IsReady lock.now first seat.pass }
-    ensures { RunsOne S.left S.faults K.held K.faults C.coming limits.input (gate_of seat) (gate_of result)
+    requires { (first : DatabaseView) × IsReady lock.now first seat.pass }
+    ensures { RunsOne (end_view S.view K.view C.coming) limits.input (gate_of seat) (gate_of result)
         (result_of seat result) }
 {
     let Seat {
@@ -85,8 +86,8 @@ fn ask_leave<R: Wait, D: Disk, J: Naming>(
     is_first: bool,
 ) -> bool
     requires { pass.old.lock ≡ lock.now }
-    ensures waited { (start : CallerPass D) → Waited start pass.old → Waited start pass.new }
-    ensures within { (first : DatabaseView D) → pass.old.fixed ≡ Some first → result ≡ true
+    ensures waited { (start : CallerPass) → Waited start pass.old → Waited start pass.new }
+    ensures within { (first : DatabaseView) → pass.old.fixed ≡ Some first → result ≡ true
         → IsWithin first pass.new reader.now }
 {
     let note = lock.turn(rt, pass, Leave { is_first });
@@ -102,7 +103,7 @@ fn leave<R: Wait, D: Disk, J: Naming>(
     reader: &SnapReader<J>,
 )
     requires { (pass.old.lock ≡ lock.now) × KnowsOwn pass.old }
-    ensures { (first : DatabaseView D) → pass.old.fixed ≡ Some first → HasLeft first pass.old pass.new reader.now }
+    ensures { (first : DatabaseView) → pass.old.fixed ≡ Some first → HasLeft first pass.old pass.new reader.now }
 {
     let mut is_first = true;
     for _ in rt.forever() {
@@ -122,9 +123,9 @@ fn serve_one<R: Wait, S: Source, K: Sink, C: Clock, D: Disk, J: Naming>(
     seat: Seat<S, K, C, Begun<D>, J>,
     limits: Limits,
 ) -> Seat<S, K, C, Begun<D>, J>
-    requires { (first : DatabaseView D) × CanServe lock.now first (gate_of seat) }
-    ensures { (first : DatabaseView D) → CanServe lock.now first (gate_of seat)
-        → ServesOne S.left S.faults K.held K.faults C.coming limits.input first seat.pass result.pass
+    requires { (first : DatabaseView) × CanServe lock.now first (gate_of seat) }
+    ensures { (first : DatabaseView) → CanServe lock.now first (gate_of seat)
+        → ServesOne (end_view S.view K.view C.coming) limits.input first seat.pass result.pass
         (result_of seat result) }
 {
     fronts_never_fall();
@@ -141,9 +142,9 @@ pub(crate) fn serve_at<R: Wait, S: Source, K: Sink, C: Clock, D: Disk, J: Naming
     place: &mut Option<Seat<S, K, C, Begun<D>, J>>,
     limits: Limits,
 )
-    requires { (first : DatabaseView D) × IsSeated lock.now first place.old }
-    ensures { (first : DatabaseView D) → IsSeated lock.now first place.old
-        → ServesSeat S.left S.faults K.held K.faults C.coming limits.input first place.old place.new }
+    requires { (first : DatabaseView) × IsSeated lock.now first place.old }
+    ensures { (first : DatabaseView) → IsSeated lock.now first place.old
+        → ServesSeat (end_view S.view K.view C.coming) limits.input first place.old place.new }
 {
     let Some(seat) = place.take() else {
         unreachable!()

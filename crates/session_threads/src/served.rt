@@ -27,13 +27,13 @@ impl<D: Disk, J: Naming> Model for Served<D, J> {
     ghost use Rattle.cfg_tree.specs.Statements.{statements_code};
     ghost use Rattle.session_threads.specs.Served.{IsUnderway, ServedView};
 
-    ghost Value = { ServedView D };
+    ghost Value = { ServedView };
 
     ghost coded = { Prim.hlevel (codes, statements_code) };
 
     ghost view = { λ s. record { first = s.first; database = s.database } };
 
-    ghost invariant = { λ s. IsUnderway D.tells D.faults (record { first = s.first; database = s.database }) };
+    ghost invariant = { λ s. IsUnderway (record { first = s.first; database = s.database }) };
 }
 
 impl<D: Disk, J: Naming> Book for Served<D, J> {
@@ -70,7 +70,7 @@ impl<D: Disk, J: Naming> Served<D, J> {
     /// The database.
     pub(crate) fn into_database(self) -> Database<D, J>
         ensures is { result ≡ self.database }
-        ensures underway { IsUnderway D.tells D.faults self }
+        ensures underway { IsUnderway self }
     {
         let Served {
             database,

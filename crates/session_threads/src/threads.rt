@@ -4,6 +4,8 @@ ghost use Rattle.std.specs.Prelude.{◌≡◌, ℕ, All};
 ghost use Rattle.std.specs.Thread.{IsSend, IsSync};
 ghost use Rattle.atomic_table.specs.Seated.{TableId};
 ghost use Rattle.config_db.specs.View.{DatabaseView};
+ghost use Rattle.session_shell.specs.Opened.{end_view};
+ghost use Rattle.session_threads.specs.Looks.{ticker_view};
 ghost use Rattle.session_threads.specs.Rows.{Pairs};
 ghost use Rattle.session_threads.specs.Sessions.{IsSeated, ServesSeat};
 ghost use Rattle.session_threads.specs.Ticks.{IsFirst, TicksOn};
@@ -26,14 +28,14 @@ use turn_lock::{Pass, Turns};
 /// over a row of generic structs.
 pub(crate) trait Serve<D: Disk, J: Naming> {
     /// It can be served over that lock, over a database that began so.
-    ghost can_serve: { Self → TableId → DatabaseView D → Type 0 };
+    ghost can_serve: { Self → TableId → DatabaseView → Type 0 };
 
     /// It was served, with that many bytes of input at most, over a database that began so.
-    ghost serves: { ℕ → DatabaseView D → Self → Self → Type 0 };
+    ghost serves: { ℕ → DatabaseView → Self → Self → Type 0 };
 
     fn serve<R: Wait>(&mut self, rt: &R, alloc: Global, lock: &Turns<Served<D, J>>, limits: Limits)
-        requires { (first : DatabaseView D) × can_serve self.old lock.now first }
-        ensures { (first : DatabaseView D) → can_serve self.old lock.now first
+        requires { (first : DatabaseView) × can_serve self.old lock.now first }
+        ensures { (first : DatabaseView) → can_serve self.old lock.now first
             → serves limits.input first self.old self.new };
 }
 
@@ -41,7 +43,7 @@ impl<S: Source, K: Sink, C: Clock, D: Disk, J: Naming> Serve<D, J>
     for Option<Seat<S, K, C, Begun<D>, J>> {
     ghost can_serve = { λ seat lock first. IsSeated lock first seat };
 
-    ghost serves = { λ limit first old new. ServesSeat S.left S.faults K.held K.faults C.coming limit first old new };
+    ghost serves = { λ limit first old new. ServesSeat (end_view S.view K.view C.coming) limit first old new };
 
     fn serve<R: Wait>(
         &mut self,
@@ -73,13 +75,14 @@ where
     C: Clock + Send,
     D: Disk + Send,
     J: Naming + Send + Sync,
-    requires { (first : DatabaseView D) × IsFirst lock.now first pass.old
+    requires { (first : DatabaseView) × IsFirst lock.now first pass.old
         × All (λ seat. T.can_serve seat lock.now first) seats.old }
-    ensures seats { (first : DatabaseView D) → IsFirst lock.now first pass.old
+    ensures seats { (first : DatabaseView) → IsFirst lock.now first pass.old
         → All (λ seat. T.can_serve seat lock.now first) seats.old
         → Pairs (T.serves limits.input first) seats.old seats.new }
-    ensures ticker { (first : DatabaseView D) → IsFirst lock.now first pass.old
-        → TicksOn B.coming C.coming first pass.old pass.new ticker.old ticker.new }
+    ensures ticker { (first : DatabaseView) → IsFirst lock.now first pass.old
+        → TicksOn first pass.old pass.new (ticker_view B.coming C.coming ticker.old)
+        (ticker_view B.coming C.coming ticker.new) }
 {
     match seats.split_first_mut() {
         None => tick_along(rt, lock, pass, ticker),
@@ -108,29 +111,31 @@ where
     C: Clock + Send,
     D: Disk + Send,
     J: Naming + Send + Sync,
-    requires { (first : DatabaseView D) × IsFirst lock.now first pass.old × T.can_serve seat.old lock.now first
+    requires { (first : DatabaseView) × IsFirst lock.now first pass.old × T.can_serve seat.old lock.now first
         × All (λ seat. T.can_serve seat lock.now first) others.old }
-    ensures seat { (first : DatabaseView D) → T.can_serve seat.old lock.now first
+    ensures seat { (first : DatabaseView) → T.can_serve seat.old lock.now first
         → T.serves limits.input first seat.old seat.new }
-    ensures others { (first : DatabaseView D) → IsFirst lock.now first pass.old
+    ensures others { (first : DatabaseView) → IsFirst lock.now first pass.old
         → All (λ seat. T.can_serve seat lock.now first) others.old
         → Pairs (T.serves limits.input first) others.old others.new }
-    ensures ticker { (first : DatabaseView D) → IsFirst lock.now first pass.old
-        → TicksOn B.coming C.coming first pass.old pass.new ticker.old ticker.new }
+    ensures ticker { (first : DatabaseView) → IsFirst lock.now first pass.old
+        → TicksOn first pass.old pass.new (ticker_view B.coming C.coming ticker.old)
+        (ticker_view B.coming C.coming ticker.new) }
 {
     let mut apart = move ||
         requires { IsSync R.row × IsSend T.row × IsSend B.row × IsSend C.row × IsSend D.row × IsSend J.row × IsSync J.row
-            × ((first : DatabaseView D) × IsFirst lock.now first pass.now
+            × ((first : DatabaseView) × IsFirst lock.now first pass.now
             × All (λ seat. T.can_serve seat lock.now first) others.now) }
-        ensures { ((first : DatabaseView D) → IsFirst lock.entry.now first pass.entry.now
+        ensures { ((first : DatabaseView) → IsFirst lock.entry.now first pass.entry.now
             → All (λ seat. T.can_serve seat lock.entry.now first) others.entry.now
             → Pairs (T.serves limits.input first) others.entry.now others.exit.now)
-            × ((first : DatabaseView D) → IsFirst lock.entry.now first pass.entry.now
-            → TicksOn B.coming C.coming first pass.entry.now pass.exit.now ticker.entry.now ticker.exit.now) }
+            × ((first : DatabaseView) → IsFirst lock.entry.now first pass.entry.now
+            → TicksOn first pass.entry.now pass.exit.now (ticker_view B.coming C.coming ticker.entry.now)
+            (ticker_view B.coming C.coming ticker.exit.now)) }
     { serve_seats(rt, alloc, lock, limits, others, pass, ticker) };
     let mut here = move ||
-        requires { (first : DatabaseView D) × T.can_serve seat.now lock.now first }
-        ensures { (first : DatabaseView D) → T.can_serve seat.entry.now lock.entry.now first
+        requires { (first : DatabaseView) × T.can_serve seat.now lock.now first }
+        ensures { (first : DatabaseView) → T.can_serve seat.entry.now lock.entry.now first
             → T.serves limits.input first seat.entry.now seat.exit.now }
     { seat.serve(rt, alloc, lock, limits) };
     join_mut(rt, &mut apart, &mut here);

@@ -2,6 +2,7 @@
 
 ghost use Rattle.std.specs.Prelude.{◌≡◌, Some};
 ghost use Rattle.config_db.specs.View.{DatabaseView};
+ghost use Rattle.session_threads.specs.Looks.{ticker_view};
 ghost use Rattle.session_threads.specs.Ticks.{IsFirst, Ticks, TicksOn};
 
 use crate::begun::Begun;
@@ -28,9 +29,10 @@ fn look<R: Wait, B: Beat, C: Clock, D: Disk, J: Naming>(
     pass: &mut Pass<Happened, Begun<D>>,
     ticker: &mut Ticker<B, C>,
 ) -> bool
-    requires { (first : DatabaseView D) × IsFirst lock.now first pass.old }
-    ensures { (first : DatabaseView D) → IsFirst lock.now first pass.old
-        → Ticks B.coming C.coming result first pass.old pass.new ticker.old ticker.new }
+    requires { (first : DatabaseView) × IsFirst lock.now first pass.old }
+    ensures { (first : DatabaseView) → IsFirst lock.now first pass.old
+        → Ticks result first pass.old pass.new (ticker_view B.coming C.coming ticker.old)
+        (ticker_view B.coming C.coming ticker.new) }
 {
     if !ticker.beat.beat() {
         return false;
@@ -46,9 +48,10 @@ pub(crate) fn tick_along<R: Wait, B: Beat, C: Clock, D: Disk, J: Naming>(
     pass: &mut Pass<Happened, Begun<D>>,
     ticker: &mut Ticker<B, C>,
 )
-    requires { (first : DatabaseView D) × IsFirst lock.now first pass.old }
-    ensures { (first : DatabaseView D) → IsFirst lock.now first pass.old
-        → TicksOn B.coming C.coming first pass.old pass.new ticker.old ticker.new }
+    requires { (first : DatabaseView) × IsFirst lock.now first pass.old }
+    ensures { (first : DatabaseView) → IsFirst lock.now first pass.old
+        → TicksOn first pass.old pass.new (ticker_view B.coming C.coming ticker.old)
+        (ticker_view B.coming C.coming ticker.new) }
 {
     for _ in rt.forever() {
         if !look(rt, lock, pass, ticker) {

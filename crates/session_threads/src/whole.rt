@@ -3,6 +3,8 @@
 ghost use Rattle.std.specs.Prelude.{◌≡◌, ◌<◌, ◌≤◌, ◌==◌, [], ℕ, length, vec_capacity, All, IfOk, if◌then◌else◌};
 ghost use Rattle.commit_ledger.specs.Kept.{Kept};
 ghost use Rattle.config_db.specs.View.{opened};
+ghost use Rattle.session_shell.specs.Opened.{end_view};
+ghost use Rattle.session_threads.specs.Looks.{ticker_view};
 ghost use Rattle.session_threads.specs.Results.{status_of, users_of};
 ghost use Rattle.session_threads.specs.Rows.{AreLeft, HasRoom, IsSeatOf, NoneServed, PairsFrom, SitsIn};
 ghost use Rattle.session_threads.specs.Served.{AreServed, HasReaders};
@@ -216,8 +218,9 @@ where
     requires readers { HasReaders database.opening (length ends.items) database.readers }
     requires room { HasRoom (length ends.items) room }
     requires few { length ends.items ≤ 64 }
-    ensures { AreServed S.left S.faults K.held K.faults C.coming B.coming D.tells D.faults limits.input database
-        ends.items result.ends.items ticker result.ticker result.turns.items result.database result.status }
+    ensures { AreServed (end_view S.view K.view C.coming) limits.input database ends.items result.ends.items
+        (ticker_view B.coming C.coming ticker) (ticker_view B.coming C.coming result.ticker) result.turns.items
+        result.database result.status }
 {
     let Room { mut seats, lists } = room;
     let mut ends = ends;

@@ -1,6 +1,7 @@
 -- A journal that was made or attached, as a list of commits.
 use Rattle.std.proofs.Common.{◌≡◌, ◌≢◌, inl, inr, ℕ, Bool, true, false, List, [], ◌∷◌, IsTrue, refl, sym, subst, ap, ◌∙◌, rules}
-use Rattle.disk_model.specs.Disk.{History, Sync, Called, GoesOn, MaySync, IsImage, state_of, contents_of}
+use Rattle.disk_model.specs.Disk.{DiskView, History, Sync, Called, GoesOn, MaySync, IsImage, state_of, contents_of}
+use Rattle.disk_model.specs.Pair.{BothTell, DiskPair}
 use Rattle.record_code.specs.declared.payloads.Placed.{Placed}
 use Rattle.record_code.specs.Listed.{records_of}
 use Rattle.commit_journal.specs.declared.why.AttachWhy.{AttachWhy}
@@ -9,7 +10,7 @@ use Rattle.commit_journal.specs.declared.why.CreateWhy.TheVariants.{NoMemory as 
 use Rattle.stored_ledger.specs.declared.why.StartWhy.{StartWhy}
 use Rattle.stored_ledger.specs.declared.why.StartWhy.TheVariants.{Exists, NotAJournal, Damaged, BadRecord, DiskFault, NoMemory}
 use Rattle.commit_journal.specs.Attach.{ExplainsPair}
-use Rattle.commit_journal.specs.Journal.{JournalView, Tell, a_of, b_of, disk_a, disk_b}
+use Rattle.commit_journal.specs.Journal.{JournalView, Tell, a_of, b_of, disk_a, disk_b, disks_of}
 use Rattle.commit_journal.specs.Opening.{IsOpened, IsCreated, IsAttached, IsNotAttached, making_a, making_b}
 use Rattle.commit_journal.specs.Pair.{first_of, second_of}
 use Rattle.commit_check.specs.Accepts.{Accepts}
@@ -19,7 +20,7 @@ use Rattle.commit_ledger.specs.Kept.{Kept, factory, factory_commit}
 use Rattle.commit_ledger.specs.Payload.{entry_record, kind_of, payload_bytes}
 use Rattle.commit_ledger.specs.Reading.{ReadsAs}
 use Rattle.commit_ledger.proofs.ReadingLemmas.{read_maps_are_accepted}
-use Rattle.stored_ledger.specs.Stored.{BothTell, IsStored, factory_records}
+use Rattle.stored_ledger.specs.Stored.{IsStored, factory_records}
 use Rattle.stored_ledger.specs.Starting.{Explains, IsMade, IsNotMade, IsFound, IsNotFound}
 use Rattle.stored_ledger.specs.Whys.{IsUnreadFor, why_of_opening}
 use Rattle.stored_ledger.proofs.SoundLemmas.{read_lists_are_numbered}
@@ -35,22 +36,22 @@ record_is commit kind payload same kind_is payload_is =
     path
 
 -- of two disks that tell the one of A tells, and that of B
-tell_a : {D : Type 0} (tells : D → Bool) (b : Bool) (c o : D) → IsTrue (tells c) → IsTrue (tells o) → IsTrue (tells (first_of b c o))
-tell_a tells false c o one two = one
-tell_a tells true c o one two = two
+tell_a : (b : Bool) (c o : DiskView) → IsTrue c.tells → IsTrue o.tells → IsTrue (first_of b c o).tells
+tell_a false c o one two = one
+tell_a true c o one two = two
 
-tell_b : {D : Type 0} (tells : D → Bool) (b : Bool) (c o : D) → IsTrue (tells c) → IsTrue (tells o) → IsTrue (tells (second_of b c o))
-tell_b tells false c o one two = two
-tell_b tells true c o one two = one
+tell_b : (b : Bool) (c o : DiskView) → IsTrue c.tells → IsTrue o.tells → IsTrue (second_of b c o).tells
+tell_b false c o one two = two
+tell_b true c o one two = one
 
 -- the history of the disk of A, and of that of B
-of_first : {D : Type 0} (history : D → History) (b : Bool) (c o : D) → history (first_of b c o) ≡ first_of b (history c) (history o)
-of_first history false c o = refl
-of_first history true c o = refl
+of_first : (b : Bool) (c o : DiskView) → (first_of b c o).history ≡ first_of b c.history o.history
+of_first false c o = refl
+of_first true c o = refl
 
-of_second : {D : Type 0} (history : D → History) (b : Bool) (c o : D) → history (second_of b c o) ≡ second_of b (history c) (history o)
-of_second history false c o = refl
-of_second history true c o = refl
+of_second : (b : Bool) (c o : DiskView) → (second_of b c o).history ≡ second_of b c.history o.history
+of_second false c o = refl
+of_second true c o = refl
 
 -- a refusal of the journal has its cause as a refusal of the list
 explained_by : (a b : List ℕ) (why : AttachWhy) → ExplainsPair a b why → Explains a b (why_of_opening why)
@@ -87,34 +88,37 @@ unread_is_no_fault placed (BadRecord offset) unread is = cc
 unread_is_no_fault placed DiskFault unread is = unread
 unread_is_no_fault placed NoMemory unread is = cc
 
+abbrev pair : DiskView → DiskView → DiskPair
+pair a b = record { a = a; b = b }
+
 -- without memory nothing is made, and no disk was called
-pub nothing_made : {D : Type 0} (tells : D → Bool) (history : D → History) (faults : D → ℕ) (a b : D) → IsNotMade tells history faults a b NoMemory a b
-nothing_made tells history faults a b = record {
+pub nothing_made : (a b : DiskView) → IsNotMade (pair a b) NoMemory (pair a b)
+nothing_made a b = record {
   cause = MakingNoMemory;
   told = refl;
   disks = search rules;
 }
 
-module _ {D : Type 0} (tells : D → Bool) (history : D → History) (faults : D → ℕ) (a b : D) (limit : ℕ) (v : JournalView D) (is_opened : IsOpened tells faults a b limit v) where
-  told_a : Tell tells v → IsTrue (tells a)
-  told_a tell = subst (λ (t : Bool). IsTrue t) is_opened.tells_a (tell_a tells v.b_counts v.counting v.other tell.0 tell.1)
+module _ (a b : DiskView) (limit : ℕ) (v : JournalView) (is_opened : IsOpened a b limit v) where
+  told_a : Tell v → IsTrue a.tells
+  told_a tell = subst (λ (t : Bool). IsTrue t) is_opened.tells_a (tell_a v.b_counts v.counting v.other tell.0 tell.1)
 
-  told_b : Tell tells v → IsTrue (tells b)
-  told_b tell = subst (λ (t : Bool). IsTrue t) is_opened.tells_b (tell_b tells v.b_counts v.counting v.other tell.0 tell.1)
+  told_b : Tell v → IsTrue b.tells
+  told_b tell = subst (λ (t : Bool). IsTrue t) is_opened.tells_b (tell_b v.b_counts v.counting v.other tell.0 tell.1)
 
-  a_is : history (disk_a v) ≡ a_of history v
-  a_is = of_first history v.b_counts v.counting v.other
+  a_is : (disk_a v).history ≡ a_of v
+  a_is = of_first v.b_counts v.counting v.other
 
-  b_is : history (disk_b v) ≡ b_of history v
-  b_is = of_second history v.b_counts v.counting v.other
+  b_is : (disk_b v).history ≡ b_of v
+  b_is = of_second v.b_counts v.counting v.other
 
-  image_a : (c : List ℕ) → IsImage (state_of (history (disk_a v))) c → IsImage (state_of (a_of history v)) c
+  image_a : (c : List ℕ) → IsImage (state_of (disk_a v).history) c → IsImage (state_of (a_of v)) c
   image_a c image = subst (λ (h : History). IsImage (state_of h) c) a_is image
 
-  image_b : (c : List ℕ) → IsImage (state_of (history (disk_b v))) c → IsImage (state_of (b_of history v)) c
+  image_b : (c : List ℕ) → IsImage (state_of (disk_b v).history) c → IsImage (state_of (b_of v)) c
   image_b c image = subst (λ (h : History). IsImage (state_of h) c) b_is image
 
-  pub made_is_stored : IsCreated tells history a b factory_records v → ReadsAs Accepts factory_records factory → IsStored tells history v factory
+  pub made_is_stored : IsCreated a b factory_records v → ReadsAs Accepts factory_records factory → IsStored v factory
   made_is_stored made reads = record {
     idle = is_opened.idle;
     records = factory_records;
@@ -125,15 +129,15 @@ module _ {D : Type 0} (tells : D → Bool) (history : D → History) (faults : D
     room = (read_lists_are_numbered Accepts factory_records factory reads).room;
   }
 
-  pub made_is : IsCreated tells history a b factory_records v → ReadsAs Accepts factory_records factory → IsMade tells history a b (disk_a v) (disk_b v)
+  pub made_is : IsCreated a b factory_records v → ReadsAs Accepts factory_records factory → IsMade (pair a b) (disks_of v)
   made_is made reads = record {
     none_there = λ tell. made.none_there tell.0 tell.1;
     only = λ tell c d left right. (factory_records, made.only tell.0 tell.1 (entry_record (CommitOf factory_commit)) refl c d (image_a c left) (image_b d right), reads);
-    made_a = λ tell. subst (λ (h : History). GoesOn (history a) (making_a factory_records) h) (sym a_is) (made.made_a tell);
-    made_b = λ tell. subst (λ (h : History). GoesOn (history b) making_b h) (sym b_is) (made.made_b tell);
+    made_a = λ tell. subst (λ (h : History). GoesOn a.history (making_a factory_records) h) (sym a_is) (made.made_a tell);
+    made_b = λ tell. subst (λ (h : History). GoesOn b.history making_b h) (sym b_is) (made.made_b tell);
   }
 
-  pub found_is_stored : (placed : List Placed) (kept : Kept) → IsAttached tells history a b placed v → ReadsAs Accepts (records_of placed) kept → IsStored tells history v kept
+  pub found_is_stored : (placed : List Placed) (kept : Kept) → IsAttached a b placed v → ReadsAs Accepts (records_of placed) kept → IsStored v kept
   found_is_stored placed kept found reads = record {
     idle = is_opened.idle;
     records = records_of placed;
@@ -144,37 +148,37 @@ module _ {D : Type 0} (tells : D → Bool) (history : D → History) (faults : D
     room = (read_lists_are_numbered Accepts (records_of placed) kept reads).room;
   }
 
-  called_a : (call : History → Type 0) → call (a_of history v) → call (history (disk_a v))
+  called_a : (call : History → Type 0) → call (a_of v) → call (disk_a v).history
   called_a call is = subst call (sym a_is) is
 
-  called_b : (call : History → Type 0) → call (b_of history v) → call (history (disk_b v))
+  called_b : (call : History → Type 0) → call (b_of v) → call (disk_b v).history
   called_b call is = subst call (sym b_is) is
 
-  pub found_is : (placed : List Placed) (kept : Kept) → IsAttached tells history a b placed v → ReadsAs Accepts (records_of placed) kept
-      → IsFound tells history a b (disk_a v) (disk_b v) kept
+  pub found_is : (placed : List Placed) (kept : Kept) → IsAttached a b placed v → ReadsAs Accepts (records_of placed) kept
+      → IsFound (pair a b) (disks_of v) kept
   found_is placed kept found reads = record {
     spelled = λ tell. (records_of placed, found.spelled tell.0 tell.1, reads);
     only = λ tell c d left right. (records_of placed, found.only tell.0 tell.1 c d (image_a c left) (image_b d right), reads);
-    synced_a = λ tell. called_a (Called (history a) (Sync true)) (found.synced_a tell);
-    synced_b = λ tell. called_b (Called (history b) (Sync true)) (found.synced_b tell);
+    synced_a = λ tell. called_a (Called a.history (Sync true)) (found.synced_a tell);
+    synced_b = λ tell. called_b (Called b.history (Sync true)) (found.synced_b tell);
     contents = λ tell. (ap contents_of a_is ∙ (found.contents tell.0 tell.1).0, ap contents_of b_is ∙ (found.contents tell.0 tell.1).1);
   }
 
   -- the journal's records aren't a list of commits, and its disks are given back
-  pub unread_is : (placed : List Placed) (why : StartWhy) → IsAttached tells history a b placed v → IsUnreadFor placed why
-      → IsNotFound tells history faults a b why (disk_a v) (disk_b v)
+  pub unread_is : (placed : List Placed) (why : StartWhy) → IsAttached a b placed v → IsUnreadFor placed why
+      → IsNotFound (pair a b) why (disks_of v)
   unread_is placed why found unread = record {
     explained = λ tell. explains tell why unread;
     not_there = unread_is_not_there placed why unread;
-    synced_a = λ tell. called_a (MaySync (history a)) (inr (inl (found.synced_a tell)));
-    synced_b = λ tell. called_b (MaySync (history b)) (inr (inl (found.synced_b tell)));
+    synced_a = λ tell. called_a (MaySync a.history) (inr (inl (found.synced_a tell)));
+    synced_b = λ tell. called_b (MaySync b.history) (inr (inl (found.synced_b tell)));
     contents = λ tell. (ap contents_of a_is ∙ (found.contents tell.0 tell.1).0, ap contents_of b_is ∙ (found.contents tell.0 tell.1).1);
     tells_a = is_opened.tells_a;
     tells_b = is_opened.tells_b;
     cause = record { later_a = is_opened.later_a; later_b = is_opened.later_b; rose = λ is. absurd (unread_is_no_fault placed why unread is) };
   }
     where
-      explains : BothTell tells a b → (why : StartWhy) → IsUnreadFor placed why → Explains (contents_of (history a)) (contents_of (history b)) why
+      explains : BothTell (pair a b) → (why : StartWhy) → IsUnreadFor placed why → Explains (contents_of a.history) (contents_of b.history) why
       explains tell Exists is = is
       explains tell NotAJournal is = absurd is
       explains tell (Damaged offset kept computed) is = absurd is
@@ -183,10 +187,10 @@ module _ {D : Type 0} (tells : D → Bool) (history : D → History) (faults : D
       explains tell NoMemory is = tt
 
 -- the journal itself couldn't be opened
-pub not_attached_is : {D : Type 0} (tells : D → Bool) (history : D → History) (faults : D → ℕ) (a b : D) (why : AttachWhy) (a' b' : D)
-    → IsNotAttached tells history faults a b why a' b' → IsNotFound tells history faults a b (why_of_opening why) a' b'
-not_attached_is tells history faults a b why a' b' is = record {
-  explained = λ tell. explained_by (contents_of (history a)) (contents_of (history b)) why (is.explained tell.0 tell.1);
+pub not_attached_is : (a b : DiskView) (why : AttachWhy) (a' b' : DiskView)
+    → IsNotAttached a b why a' b' → IsNotFound (pair a b) (why_of_opening why) (pair a' b')
+not_attached_is a b why a' b' is = record {
+  explained = λ tell. explained_by (contents_of a.history) (contents_of b.history) why (is.explained tell.0 tell.1);
   not_there = never_there why;
   synced_a = is.synced_a;
   synced_b = is.synced_b;

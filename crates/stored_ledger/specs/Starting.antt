@@ -1,6 +1,7 @@
 -- What two disks hold once a list of commits was made or opened on them, and why it may be refused. This project's own.
 use Rattle.std.specs.Prelude.{◌≡◌, ◌≢◌, Bool, true, IsTrue, ℕ, List}
-use Rattle.disk_model.specs.Disk.{History, Sync, Called, GoesOn, MaySync, contents_of}
+use Rattle.disk_model.specs.Disk.{Sync, Called, GoesOn, MaySync, contents_of}
+use Rattle.disk_model.specs.Pair.{BothTell, DiskPair}
 use Rattle.record_code.specs.declared.payloads.Placed.{Placed}
 use Rattle.record_code.specs.Listed.{records_of, PlacedFrom}
 use Rattle.record_code.specs.Reading.{first_gate}
@@ -16,15 +17,15 @@ use Rattle.commit_journal.specs.Pair.{PairSpells}
 use Rattle.commit_check.specs.Accepts.{Accepts}
 use Rattle.commit_ledger.specs.Kept.{Kept, factory}
 use Rattle.commit_ledger.specs.Reading.{IsUnread}
-use Rattle.stored_ledger.specs.Stored.{BothTell, OnlyKept, SpellsKept, factory_records}
+use Rattle.stored_ledger.specs.Stored.{OnlyKept, SpellsKept, factory_records}
 
 -- the disks on which a list was made: no journal was there, and now each pair of images spells the factory commit alone
-pub record IsMade {D : Type 0} (tells : D → Bool) (history : D → History) (a b a' b' : D) : Type 0 where
-  pub none_there : BothTell tells a b → IsThere (contents_of (history a)) (contents_of (history b)) → ⊥
-  pub only : BothTell tells a b → OnlyKept (history a') (history b') factory
+pub record IsMade (before after : DiskPair) : Type 0 where
+  pub none_there : BothTell before → IsThere (contents_of before.a.history) (contents_of before.b.history) → ⊥
+  pub only : BothTell before → OnlyKept after.a.history after.b.history factory
   -- what was written where, and in which order
-  pub made_a : IsTrue (tells a) → GoesOn (history a) (making_a factory_records) (history a')
-  pub made_b : IsTrue (tells b) → GoesOn (history b) making_b (history b')
+  pub made_a : IsTrue before.a.tells → GoesOn before.a.history (making_a factory_records) after.a.history
+  pub made_b : IsTrue before.b.tells → GoesOn before.b.history making_b after.b.history
 
 -- why a journal couldn't be made, as it is told
 abbrev pub why_of_making : CreateWhy → StartWhy
@@ -33,20 +34,25 @@ why_of_making MakingFault = DiskFault
 why_of_making MakingNoMemory = NoMemory
 
 -- the disks on which no list could be made, and why not: for what the journal was refused
-pub record IsNotMade {D : Type 0} (tells : D → Bool) (history : D → History) (faults : D → ℕ) (a b : D) (why : StartWhy) (a' b' : D) : Type 0 where
+pub record IsNotMade (before : DiskPair) (why : StartWhy) (after : DiskPair) : Type 0 where
   pub cause : CreateWhy
   pub told : why ≡ why_of_making cause
-  pub disks : IsNotCreated tells history faults a b factory_records cause a' b'
+  pub disks : IsNotCreated before.a before.b factory_records cause after.a after.b
+
+-- the contents of two disks are as they were
+abbrev pub HaveSameContents : DiskPair → DiskPair → Type 0
+HaveSameContents before after =
+    (contents_of after.a.history ≡ contents_of before.a.history) × (contents_of after.b.history ≡ contents_of before.b.history)
 
 -- the disks on which a list was found: they spelled it, and were not written
-pub record IsFound {D : Type 0} (tells : D → Bool) (history : D → History) (a b a' b' : D) (kept : Kept) : Type 0 where
-  pub spelled : BothTell tells a b → SpellsKept (contents_of (history a)) (contents_of (history b)) kept
+pub record IsFound (before after : DiskPair) (kept : Kept) : Type 0 where
+  pub spelled : BothTell before → SpellsKept (contents_of before.a.history) (contents_of before.b.history) kept
   -- and each pair of images spells it now
-  pub only : BothTell tells a b → OnlyKept (history a') (history b') kept
+  pub only : BothTell before → OnlyKept after.a.history after.b.history kept
   -- one sync of each disk, and no write
-  pub synced_a : IsTrue (tells a) → Called (history a) (Sync true) (history a')
-  pub synced_b : IsTrue (tells b) → Called (history b) (Sync true) (history b')
-  pub contents : BothTell tells a b → (contents_of (history a') ≡ contents_of (history a)) × (contents_of (history b') ≡ contents_of (history b))
+  pub synced_a : IsTrue before.a.tells → Called before.a.history (Sync true) after.a.history
+  pub synced_b : IsTrue before.b.tells → Called before.b.history (Sync true) after.b.history
+  pub contents : BothTell before → HaveSameContents before after
 
 -- the files spell records of which the first that breaks a rule is at that offset, or none at all
 pub record IsBadList (a b : List ℕ) (offset : ℕ) : Type 0 where
@@ -75,15 +81,15 @@ IsByBytes DiskFault = ⊥
 IsByBytes NoMemory = ⊥
 
 -- the disks on which no list could be opened, and why not: they were not written
-pub record IsNotFound {D : Type 0} (tells : D → Bool) (history : D → History) (faults : D → ℕ) (a b : D) (why : StartWhy) (a' b' : D) : Type 0 where
-  pub explained : BothTell tells a b → Explains (contents_of (history a)) (contents_of (history b)) why
+pub record IsNotFound (before : DiskPair) (why : StartWhy) (after : DiskPair) : Type 0 where
+  pub explained : BothTell before → Explains (contents_of before.a.history) (contents_of before.b.history) why
   -- a journal that is there is no cause
   pub not_there : why ≢ Exists
   -- one sync of each disk at most, and no write
-  pub synced_a : IsTrue (tells a) → MaySync (history a) (history a')
-  pub synced_b : IsTrue (tells b) → MaySync (history b) (history b')
-  pub contents : BothTell tells a b → (contents_of (history a') ≡ contents_of (history a)) × (contents_of (history b') ≡ contents_of (history b))
-  pub tells_a : tells a' ≡ tells a
-  pub tells_b : tells b' ≡ tells b
+  pub synced_a : IsTrue before.a.tells → MaySync before.a.history after.a.history
+  pub synced_b : IsTrue before.b.tells → MaySync before.b.history after.b.history
+  pub contents : BothTell before → HaveSameContents before after
+  pub tells_a : after.a.tells ≡ before.a.tells
+  pub tells_b : after.b.tells ≡ before.b.tells
   -- a disk's fault comes only where its count rose
-  pub cause : PairCause (faults a) (faults a') (faults b) (faults b') (why ≡ DiskFault)
+  pub cause : PairCause before.a.faults after.a.faults before.b.faults after.b.faults (why ≡ DiskFault)

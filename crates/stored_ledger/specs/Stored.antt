@@ -1,5 +1,5 @@
 -- Two disks that hold a list of commits, as the records of a journal. This project's own.
-use Rattle.std.specs.Prelude.{◌≤◌, Bool, IsSome, IsTrue, ℕ, List, [], ◌∷◌}
+use Rattle.std.specs.Prelude.{◌≤◌, IsSome, ℕ, List, [], ◌∷◌}
 use Rattle.disk_model.specs.Disk.{History, IsImage, state_of}
 use Rattle.record_code.specs.Record.{Record}
 use Rattle.commit_journal.specs.Pair.{PairSpells}
@@ -23,16 +23,12 @@ SpellsKept a b kept = (rs : List Record) × PairSpells a b rs × ReadsAs Accepts
 abbrev pub OnlyKept : History → History → Kept → Type 0
 OnlyKept a b kept = (c d : List ℕ) → IsImage (state_of a) c → IsImage (state_of b) d → SpellsKept c d kept
 
--- both disks tell what they hold
-abbrev pub BothTell : {D : Type 0} → (D → Bool) → D → D → Type 0
-BothTell tells a b = IsTrue (tells a) × IsTrue (tells b)
-
 -- a journal in which nothing is in flight, and the list of commits that its records are read as
-pub record IsStored {D : Type 0} (tells : D → Bool) (history : D → History) (v : JournalView D) (kept : Kept) : Type 0 where
+pub record IsStored (v : JournalView) (kept : Kept) : Type 0 where
   pub idle : IsIdle v
   -- the records are the journal's, where its disks tell what they hold
   pub records : List Record
-  pub has : Tell tells v → Has history v records
+  pub has : Tell v → Has v records
   pub reads : ReadsAs Accepts records kept
   -- each map that the list keeps is accepted; commits are numbered from 1; an unconfirmed run has room for the entry of its revert
   pub maps : KeepsMaps Accepts kept

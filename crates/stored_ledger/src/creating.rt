@@ -1,7 +1,8 @@
 //! A list of commits that is made on two disks.
 
 ghost use Rattle.std.specs.Prelude.{◌≡◌, IfOk, IfErr};
-ghost use Rattle.commit_journal.specs.Journal.{disk_a, disk_b};
+ghost use Rattle.disk_model.specs.Pair.{pair_of};
+ghost use Rattle.commit_journal.specs.Journal.{disks_of};
 ghost use Rattle.commit_journal.specs.Opening.{IsOpened};
 ghost use Rattle.commit_ledger.specs.Kept.{factory};
 ghost use Rattle.stored_ledger.specs.Starting.{IsMade, IsNotMade, why_of_making};
@@ -59,13 +60,13 @@ fn not_made<D>(fault: CreateFault<D>) -> StartFault<D>
 impl<D: Disk> Stored<D> {
     /// Makes a list of the factory commit alone on two disks, unless a journal is there.
     pub fn create(alloc: Global, a: D, b: D, limits: Limits) -> Result<Stored<D>, StartFault<D>>
-        ensures opened { IfOk result (λ stored. IsOpened D.tells D.faults a b limits.journal stored.journal) }
-        ensures stored { IfOk result (λ stored. IsStored D.tells D.history stored.journal stored.ledger) }
+        ensures opened { IfOk result (λ stored. IsOpened (D.view a) (D.view b) limits.journal stored.journal) }
+        ensures stored { IfOk result (λ stored. IsStored stored.journal stored.ledger) }
         ensures made { IfOk result (λ stored.
-            IsMade D.tells D.history a b (disk_a stored.journal) (disk_b stored.journal)) }
+            IsMade (pair_of D.view a b) (disks_of stored.journal)) }
         ensures factory { IfOk result (λ stored. stored.ledger ≡ factory) }
         ensures err { IfErr result (λ fault.
-            IsNotMade D.tells D.history D.faults a b fault.why fault.a fault.b) }
+            IsNotMade (pair_of D.view a b) fault.why (pair_of D.view fault.a fault.b)) }
     {
         nothing_is_accepted();
         lists_begin_with_one_commit(&Judge::of(alloc));

@@ -3,7 +3,8 @@
 ghost use Rattle.std.specs.Prelude.{◌≡◌, IfOk, IfErr};
 ghost use Rattle.record_code.specs.Listed.{records_of};
 ghost use Rattle.commit_check.specs.Accepts.{Accepts};
-ghost use Rattle.commit_journal.specs.Journal.{disk_a, disk_b};
+ghost use Rattle.disk_model.specs.Pair.{pair_of};
+ghost use Rattle.commit_journal.specs.Journal.{disk_a, disk_b, disks_of};
 ghost use Rattle.commit_journal.specs.Opening.{IsOpened};
 ghost use Rattle.commit_ledger.specs.Reading.{ReadsAs};
 ghost use Rattle.stored_ledger.specs.Starting.{IsFound, IsNotFound};
@@ -63,7 +64,7 @@ fn read_list(alloc: Global, payloads: &Payloads) -> Result<Ledger, StartWhy>
 
 /// Gives the disks of a journal back whose records aren't a list of commits.
 fn given_back<D: Disk>(why: StartWhy, journal: Journal<D>) -> StartFault<D>
-    ensures { result ≡ record { why = why; a = disk_a journal; b = disk_b journal } }
+    ensures { (result.why ≡ why) × (D.view result.a ≡ disk_a journal) × (D.view result.b ≡ disk_b journal) }
 {
     let (a, b) = journal.into_disks();
     StartFault { why, a, b }
@@ -72,12 +73,12 @@ fn given_back<D: Disk>(why: StartWhy, journal: Journal<D>) -> StartFault<D>
 impl<D: Disk> Stored<D> {
     /// Opens the list of commits that two disks hold. It leaves their contents as they were.
     pub fn open(alloc: Global, a: D, b: D, limits: Limits) -> Result<Stored<D>, StartFault<D>>
-        ensures opened { IfOk result (λ stored. IsOpened D.tells D.faults a b limits.journal stored.journal) }
-        ensures stored { IfOk result (λ stored. IsStored D.tells D.history stored.journal stored.ledger) }
+        ensures opened { IfOk result (λ stored. IsOpened (D.view a) (D.view b) limits.journal stored.journal) }
+        ensures stored { IfOk result (λ stored. IsStored stored.journal stored.ledger) }
         ensures found { IfOk result (λ stored.
-            IsFound D.tells D.history a b (disk_a stored.journal) (disk_b stored.journal) stored.ledger) }
+            IsFound (pair_of D.view a b) (disks_of stored.journal) stored.ledger) }
         ensures err { IfErr result (λ fault.
-            IsNotFound D.tells D.history D.faults a b fault.why fault.a fault.b) }
+            IsNotFound (pair_of D.view a b) fault.why (pair_of D.view fault.a fault.b)) }
     {
         let (journal, payloads) = match Journal::attach(alloc, a, b, limits.journal) {
             Ok(attached) => attached,

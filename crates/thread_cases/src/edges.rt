@@ -86,9 +86,7 @@ impl<R: std::rt::Clock + Drop> Waiting<R> {
 }
 
 impl<R: std::rt::Clock + Drop> Source for Waiting<R> {
-    ghost left = { λ _. None };
-
-    ghost faults = { λ s. s.faults };
+    ghost view = { λ s. record { left = None; faults = s.faults } };
 
     fn read(&mut self, into: &mut [u8]) -> Got {
         if self.given == self.stop && !self.gate.opens(&self.clock) {
@@ -126,9 +124,7 @@ impl Counting {
 }
 
 impl Sink for Counting {
-    ghost held = { λ _. None };
-
-    ghost faults = { λ s. s.faults };
+    ghost view = { λ s. record { held = None; faults = s.faults } };
 
     fn write(&mut self, piece: &[u8]) -> Put {
         if self.text.extend_from_slice(piece).is_err() {
@@ -190,11 +186,7 @@ pub(crate) struct Held<R: std::rt::Clock + Drop, D: Disk + Drop> {
 }
 
 impl<R: std::rt::Clock + Drop, D: Disk + Drop> Disk for Held<R, D> {
-    ghost tells = { λ h. D.tells h.disk };
-
-    ghost history = { λ h. D.history h.disk };
-
-    ghost faults = { λ h. D.faults h.disk };
+    ghost view = { λ h. D.view h.disk };
 
     fn len(&mut self) -> DiskLen {
         self.disk.len()

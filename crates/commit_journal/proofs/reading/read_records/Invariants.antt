@@ -6,12 +6,12 @@ use Rattle.commit_journal.proofs.reading.read_records.Given as goal
 
 abbrev pub invariant-loop-gate : goal.invariant-loop-gate
 invariant-loop-gate g l = record {
-  tells : g.D.Disk.tells l.disk ≡ g.D.Disk.tells l.initial.disk;
-  history : g.D.Disk.history l.disk ≡ g.D.Disk.history l.initial.disk;
-  faults : g.D.Disk.faults l.initial.disk ≤ g.D.Disk.faults l.disk;
+  tells : (g.D.Disk.view l.disk).tells ≡ (g.D.Disk.view l.initial.disk).tells;
+  history : (g.D.Disk.view l.disk).history ≡ (g.D.Disk.view l.initial.disk).history;
+  faults : (g.D.Disk.view l.initial.disk).faults ≤ (g.D.Disk.view l.disk).faults;
   bound : l.gate < 2 ^ 63;
   places : PlacedFrom first_gate l.payloads l.gate;
-  reads : IsTrue (g.D.Disk.tells l.initial.disk) → Reads (contents_of (g.D.Disk.history l.initial.disk)) first_gate (records_of l.payloads) l.gate;
+  reads : IsTrue (g.D.Disk.view l.initial.disk).tells → Reads (contents_of (g.D.Disk.view l.initial.disk).history) first_gate (records_of l.payloads) l.gate;
 }
 
 abbrev pub decreases-loop-gate : goal.decreases-loop-gate

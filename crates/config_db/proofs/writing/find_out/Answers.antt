@@ -5,14 +5,14 @@ use Rattle.config_db.proofs.writing.find_out.Goals as goal
 
 pub returns-in-Ok-Kept : goal.returns-in-Ok-Kept
 returns-in-Ok-Kept g c =
-    found_kept g.D.Disk.tells g.D.Disk.history g.D.Disk.faults c.args.journal.now c.settle.new.self _ c.settle.ensures.stays c.settle.ensures.counts c.settle.ensures.cause
-    (subst (λ s. IsSettledAs g.D.Disk.tells g.D.Disk.history c.args.journal.now s c.settle.new.self) c.in-Ok-Kept.field-0-is c.in-Ok-Kept.ensures.ok) c.settle.ensures.safe
+    found_kept c.args.journal.now c.settle.new.self _ c.settle.ensures.stays c.settle.ensures.counts c.settle.ensures.cause
+    (subst (λ s. IsSettledAs c.args.journal.now s c.settle.new.self) c.in-Ok-Kept.field-0-is c.in-Ok-Kept.ensures.ok) c.settle.ensures.safe
 
 pub returns-in-Ok-NotKept : goal.returns-in-Ok-NotKept
 returns-in-Ok-NotKept g c =
-    found_dropped g.D.Disk.tells g.D.Disk.history g.D.Disk.faults c.args.journal.now c.settle.new.self _ c.settle.ensures.stays c.settle.ensures.counts c.settle.ensures.cause
-    (subst (λ s. IsSettledAs g.D.Disk.tells g.D.Disk.history c.args.journal.now s c.settle.new.self) c.in-Ok-NotKept.field-0-is c.in-Ok-NotKept.ensures.ok) c.settle.ensures.safe
+    found_dropped c.args.journal.now c.settle.new.self _ c.settle.ensures.stays c.settle.ensures.counts c.settle.ensures.cause
+    (subst (λ s. IsSettledAs c.args.journal.now s c.settle.new.self) c.in-Ok-NotKept.field-0-is c.in-Ok-NotKept.ensures.ok) c.settle.ensures.safe
 
 pub returns-in-Err : goal.returns-in-Err
 returns-in-Err g c =
-    not_found g.D.Disk.tells g.D.Disk.history g.D.Disk.faults c.args.journal.now c.settle.new.self _ c.settle.ensures.stays c.settle.ensures.counts c.in-Err.ensures.cause refl c.in-Err.ensures.err c.settle.ensures.safe
+    not_found c.args.journal.now c.settle.new.self _ c.settle.ensures.stays c.settle.ensures.counts c.in-Err.ensures.cause refl c.in-Err.ensures.err c.settle.ensures.safe

@@ -5,8 +5,8 @@ use Rattle.io_edge.proofs.writing.put_all.Given as goal
 abbrev pub invariant-pieces : goal.invariant-pieces
 invariant-pieces g l = record {
   within : l.at ≤ length l.bytes;
-  written : g.K.Sink.held l.sink ≡ behind (g.K.Sink.held l.fn.sink) (take l.at l.bytes);
-  later : g.K.Sink.faults l.fn.sink ≤ g.K.Sink.faults l.sink;
+  written : (g.K.Sink.view l.sink).held ≡ behind ((g.K.Sink.view l.fn.sink).held) (take l.at l.bytes);
+  later : (g.K.Sink.view l.fn.sink).faults ≤ (g.K.Sink.view l.sink).faults;
 }
 
 abbrev pub decreases-pieces : goal.decreases-pieces

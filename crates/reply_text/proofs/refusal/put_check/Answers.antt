@@ -16,10 +16,10 @@ joined number other path same =
 
 pub returns-in-Ok-clause-wrote : goal.returns-in-Ok-clause-wrote
 returns-in-Ok-clause-wrote g c =
-    subst (λ text. Wrote c.put_path.result text (g.K.Sink.held c.args.sink.now) (g.K.Sink.held c.put_path.new.sink)) (joined c.from.result c.args.number c.args.path.now c.from.ensures)
+    subst (λ text. Wrote c.put_path.result text (g.K.Sink.view c.args.sink.now).held (g.K.Sink.view c.put_path.new.sink).held) (joined c.from.result c.args.number c.args.path.now c.from.ensures)
     (wrote_then _ (front c.from.result) (printed_path c.args.path.now) _ _ _ c.in-Ok.ensures.wrote c.put_path.ensures.wrote)
 
 pub returns-in-Err-clause-wrote : goal.returns-in-Err-clause-wrote
 returns-in-Err-clause-wrote g c =
-    subst (λ text. WrotePart text (g.K.Sink.held c.args.sink.now) (g.K.Sink.held c.put_number_between.new.sink)) (joined c.from.result c.args.number c.args.path.now c.from.ensures)
+    subst (λ text. WrotePart text (g.K.Sink.view c.args.sink.now).held (g.K.Sink.view c.put_number_between.new.sink).held) (joined c.from.result c.args.number c.args.path.now c.from.ensures)
     (wrote_part_of (front c.from.result) (printed_path c.args.path.now) _ _ c.in-Err.ensures.wrote)

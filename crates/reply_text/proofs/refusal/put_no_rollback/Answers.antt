@@ -17,10 +17,10 @@ joined n kept = ap (λ text. codes "no rollback " ++ text) (append_assoc (decima
 
 pub returns-in-Ok-clause-wrote : goal.returns-in-Ok-clause-wrote
 returns-in-Ok-clause-wrote g c =
-    subst (λ text. Wrote c.put_number_before.result text (g.K.Sink.held c.args.sink.now) (g.K.Sink.held c.put_number_before.new.sink)) (joined c.args.n c.args.kept)
+    subst (λ text. Wrote c.put_number_before.result text (g.K.Sink.view c.args.sink.now).held (g.K.Sink.view c.put_number_before.new.sink).held) (joined c.args.n c.args.kept)
     (wrote_then _ (front c.args.n) (back c.args.kept) _ _ _ c.in-Ok.ensures.wrote c.put_number_before.ensures.wrote)
 
 pub returns-in-Err-clause-wrote : goal.returns-in-Err-clause-wrote
 returns-in-Err-clause-wrote g c =
-    subst (λ text. WrotePart text (g.K.Sink.held c.args.sink.now) (g.K.Sink.held c.put_number_between.new.sink)) (joined c.args.n c.args.kept)
+    subst (λ text. WrotePart text (g.K.Sink.view c.args.sink.now).held (g.K.Sink.view c.put_number_between.new.sink).held) (joined c.args.n c.args.kept)
     (wrote_part_of (front c.args.n) (back c.args.kept) _ _ c.in-Err.ensures.wrote)

@@ -10,12 +10,12 @@ pub returns-in-Ok-clause-wrote : goal.returns-in-Ok-clause-wrote
 returns-in-Ok-clause-wrote g t c =
     let all : List ℕ = c.args.bytes.now in
     let rest : List ℕ = take (length all - 1) (drop 1 all) in
-    subst (λ xs. Wrote c.put_escaped.result (flat_map escaped xs) (g.K.Sink.held c.args.sink.now) (g.K.Sink.held c.put_escaped.new.sink)) (front_back all 0 c.in-len1-up.len_at_least)
+    subst (λ xs. Wrote c.put_escaped.result (flat_map escaped xs) (g.K.Sink.view c.args.sink.now).held (g.K.Sink.view c.put_escaped.new.sink).held) (front_back all 0 c.in-len1-up.len_at_least)
     (wrote_then _ (escaped (get_or all 0 0)) (flat_map escaped rest) _ _ _ c.in-Ok.ensures.wrote c.put_escaped.ensures.wrote)
 
 pub returns-in-Err-clause-wrote : goal.returns-in-Err-clause-wrote
 returns-in-Err-clause-wrote g t c =
     let all : List ℕ = c.args.bytes.now in
     let rest : List ℕ = take (length all - 1) (drop 1 all) in
-    subst (λ xs. WrotePart (flat_map escaped xs) (g.K.Sink.held c.args.sink.now) (g.K.Sink.held c.put_escaped_byte.new.sink)) (front_back all 0 c.in-len1-up.len_at_least)
+    subst (λ xs. WrotePart (flat_map escaped xs) (g.K.Sink.view c.args.sink.now).held (g.K.Sink.view c.put_escaped_byte.new.sink).held) (front_back all 0 c.in-len1-up.len_at_least)
     (wrote_part_of (escaped (get_or all 0 0)) (flat_map escaped rest) _ _ c.in-Err.ensures.wrote)

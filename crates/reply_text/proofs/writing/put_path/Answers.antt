@@ -11,12 +11,12 @@ pub returns-in-Ok-clause-wrote : goal.returns-in-Ok-clause-wrote
 returns-in-Ok-clause-wrote g c =
     let all : List Step = c.steps.result.now in
     let rest : List Step = take (length all - 1) (drop 1 all) in
-    subst (λ xs. Wrote c.put_spaced_steps.result (printed_path xs) (g.K.Sink.held c.args.sink.now) (g.K.Sink.held c.put_spaced_steps.new.sink)) (item_back all c.step-item.result c.step-item.is c.in-len1-up.len_at_least ∙ c.steps.ensures.steps)
+    subst (λ xs. Wrote c.put_spaced_steps.result (printed_path xs) (g.K.Sink.view c.args.sink.now).held (g.K.Sink.view c.put_spaced_steps.new.sink).held) (item_back all c.step-item.result c.step-item.is c.in-len1-up.len_at_least ∙ c.steps.ensures.steps)
     (wrote_then _ (printed_step c.step-item.result) (flat_map (λ step. 32 ∷ printed_step step) rest) _ _ _ c.in-Ok.ensures.wrote c.put_spaced_steps.ensures.wrote)
 
 pub returns-in-Err-clause-wrote : goal.returns-in-Err-clause-wrote
 returns-in-Err-clause-wrote g c =
     let all : List Step = c.steps.result.now in
     let rest : List Step = take (length all - 1) (drop 1 all) in
-    subst (λ xs. WrotePart (printed_path xs) (g.K.Sink.held c.args.sink.now) (g.K.Sink.held c.put_step.new.sink)) (item_back all c.step-item.result c.step-item.is c.in-len1-up.len_at_least ∙ c.steps.ensures.steps)
+    subst (λ xs. WrotePart (printed_path xs) (g.K.Sink.view c.args.sink.now).held (g.K.Sink.view c.put_step.new.sink).held) (item_back all c.step-item.result c.step-item.is c.in-len1-up.len_at_least ∙ c.steps.ensures.steps)
     (wrote_part_of (printed_step c.step-item.result) (flat_map (λ step. 32 ∷ printed_step step) rest) _ _ c.in-Err.ensures.wrote)

@@ -1,7 +1,9 @@
 use Rattle.std.proofs.Common.{length, inl, inr, sym, ap, subst, ◌∙◌, arith}
 use Rattle.config_core.specs.State.{opening_of}
+use Rattle.disk_model.specs.Pair.{pair_of}
 use Rattle.session_threads.specs.Rows.{HasRoom}
 use Rattle.stored_ledger.specs.Starting.{IsNotFound}
+use Rattle.service.specs.World.{told_of, views, world_of}
 use Rattle.service.proofs.ModeLemmas.{ends_are}
 use Rattle.service.proofs.RunLemmas.{readers_are}
 use Rattle.service.proofs.ServingLemmas.{IsServed-of}
@@ -30,20 +32,23 @@ serve-requires-clause-readers g c = λ κs lives.
 
 pub returns-in-Ok : goal.returns-in-Ok
 returns-in-Ok g c =
-    inr (inr (IsServed-of g.S.Source.left g.S.Source.faults g.K.Sink.held g.K.Sink.faults g.C.Clock.coming g.B.Beat.coming g.D.Disk.tells
-    g.D.Disk.history g.D.Disk.faults c.args.asked.limits.input c.args.ends.items c.args.ticker c.args.disk_a c.args.disk_b c.args.asked.users
-    c.args.asked.limits.journal c.in-Ok.database c.serve.result c.requires.users c.in-Ok.ensures.begun c.serve.ensures
-    c.histories_have_one_outcome.ensures.state c.in-Ok.ensures.found))
+    inr (IsServed-of (views g.S.Source.view g.K.Sink.view g.C.Clock.coming g.B.Beat.coming g.D.Disk.view) c.args.asked
+    (record { ends = c.args.ends.items; ticker = c.args.ticker; a = c.args.disk_a; b = c.args.disk_b }) (world_of c.serve.result)
+    (told_of c.serve.result) c.in-Ok.database c.requires.users c.in-Ok.ensures.begun c.serve.ensures
+    c.histories_have_one_outcome.ensures.state c.in-Ok.ensures.found)
 
 pub returns : goal.returns
 returns g c =
     let why = c.in-Err.fault.why in
-    inr (inl (record {
+    let given = pair_of g.D.Disk.view c.args.disk_a c.args.disk_b in
+    inl (record {
       cause = why;
-      told = c.refused.ensures.why;
+      why = c.refused.ensures.why;
       status_is = c.refused.ensures.status;
       idle = c.refused.ensures.idle;
-      ticker_same = c.refused.ensures.ticker;
-      disks = subst (λ x. IsNotFound g.D.Disk.tells g.D.Disk.history g.D.Disk.faults c.args.disk_a c.args.disk_b why x c.refused.result.disk_b) (sym c.refused.ensures.disks.0)
-          (subst (λ x. IsNotFound g.D.Disk.tells g.D.Disk.history g.D.Disk.faults c.args.disk_a c.args.disk_b why c.in-Err.fault.a x) (sym c.refused.ensures.disks.1) c.in-Err.ensures.err);
-    }))
+      ends_same = ap (λ v. v.items) c.refused.ensures.ends.0;
+      ticker_same = c.refused.ensures.ends.1;
+      disks = subst (λ x. IsNotFound given why (pair_of g.D.Disk.view x c.refused.result.disk_b)) (sym c.refused.ensures.disks.0)
+          (subst (λ x. IsNotFound given why (pair_of g.D.Disk.view c.in-Err.fault.a x)) (sym c.refused.ensures.disks.1)
+          c.in-Err.ensures.err);
+    })

@@ -101,7 +101,7 @@ serve_both-returns-clause-ticker g t c first is = let on = c.join_mut.ensures.0.
 pub serve_seats-serve_both-requires-after_bounds :
     goal.serve_seats-serve_both-requires-after_bounds
 serve_seats-serve_both-requires-after_bounds g t c κs within =
-    let first : DatabaseView g.row.D.Denot = c.requires.0 in
+    let first : DatabaseView = c.requires.0 in
     let can : g.row.T.Denot → Type 0 = λ seat. g.T.Serve.can_serve seat c.args.lock.now first in
     let all : All can (c.in-Some.seat.now ∷ c.in-Some.others.now) = subst (All can) c.in-Some.ensures.cases.0 c.requires.2 in (
       first,

@@ -1,9 +1,10 @@
+use Rattle.session_threads.specs.Looks.{ticker_view}
 use Rattle.session_threads.proofs.TickLemmas.{IsFirst-then, TicksOn-then, TicksSoFar-none, TicksSoFar-then}
 use Rattle.session_threads.proofs.ticking.tick_along.Goals as goal
 
 pub loop-init : goal.loop-init
 loop-init g c first is =
-    TicksSoFar-none g.B.Beat.coming g.C.Clock.coming first c.args.pass.now c.args.ticker.now is.own
+    TicksSoFar-none first c.args.pass.now (ticker_view g.B.Beat.coming g.C.Clock.coming c.args.ticker.now) is.own
 
 pub look-requires : goal.look-requires
 look-requires g c =
@@ -14,12 +15,14 @@ look-requires g c =
 
 pub returns-then-not-look : goal.returns-then-not-look
 returns-then-not-look g c first is =
+    let see = ticker_view g.B.Beat.coming g.C.Clock.coming in
     let far = c.loop.invariant first is in
-    TicksOn-then g.B.Beat.coming g.C.Clock.coming first c.args.pass.now c.loop.pass c.look.new.pass c.args.ticker.now c.loop.ticker
-    c.look.new.ticker far (c.if-not-look.ensures first (IsFirst-then c.args.lock.now first c.args.pass.now c.loop.pass is far.goes))
+    TicksOn-then first c.args.pass.now c.loop.pass c.look.new.pass (see c.args.ticker.now) (see c.loop.ticker) (see c.look.new.ticker) far
+    (c.if-not-look.ensures first (IsFirst-then c.args.lock.now first c.args.pass.now c.loop.pass is far.goes))
 
 pub loop-preserved : goal.loop-preserved
 loop-preserved g c first is =
+    let see = ticker_view g.B.Beat.coming g.C.Clock.coming in
     let far = c.loop.invariant first is in
-    TicksSoFar-then g.B.Beat.coming g.C.Clock.coming first c.args.pass.now c.loop.pass c.look.new.pass c.args.ticker.now c.loop.ticker
-    c.look.new.ticker far (c.if-not-look.ensures first (IsFirst-then c.args.lock.now first c.args.pass.now c.loop.pass is far.goes))
+    TicksSoFar-then first c.args.pass.now c.loop.pass c.look.new.pass (see c.args.ticker.now) (see c.loop.ticker) (see c.look.new.ticker) far
+    (c.if-not-look.ensures first (IsFirst-then c.args.lock.now first c.args.pass.now c.loop.pass is far.goes))

@@ -6,14 +6,14 @@ use Rattle.session_threads.proofs.whole.+leave_all.Goals as goal
 
 pub join-requires-clause-here : goal.join-requires-clause-here
 join-requires-clause-here g t c = (
-  ap (λ (p : CallerPass g.row.D.Denot). p.lock) c.leave_all-status.ensures.left.passes
+  ap (λ (p : CallerPass). p.lock) c.leave_all-status.ensures.left.passes
       ∙ lock-with_all_ended c.args.pass.now (taken c.pop.new.self.items) ∙ c.requires.pass.0,
   last_here c.args.lock.now c.pop.new.self.items c.args.seats.items c.in-Some.place c.in-Some-place.field-0 c.requires.seats
       c.in-Some.ensures.items c.in-Some-place.is,
 )
 
 pub join-requires-clause-first : goal.join-requires-clause-first
-join-requires-clause-first g t c = ap (λ (p : CallerPass g.row.D.Denot). p.caller) c.leave_all-status.ensures.left.passes
+join-requires-clause-first g t c = ap (λ (p : CallerPass). p.caller) c.leave_all-status.ensures.left.passes
     ∙ caller-with_all_ended c.args.pass.now (taken c.pop.new.self.items) ∙ c.requires.pass.1
 
 pub push_reserved-requires : goal.push_reserved-requires

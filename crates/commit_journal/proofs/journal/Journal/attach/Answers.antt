@@ -6,11 +6,11 @@ use Rattle.commit_journal.proofs.journal.Journal.attach.Goals as goal
 
 pub returns-in-Err-clause-err : goal.returns-in-Err-clause-err
 returns-in-Err-clause-err g c =
-    let h = g.D.Disk.history in record {
+    let view = g.D.Disk.view in record {
       explained = search rules;
       owed = λ t u why refusal cause is.
-          owed _ _ c.in-Err.why why (subst (λ (l : List ℕ). ExplainsPair l (contents_of (h c.args.b)) c.in-Err.why) (c.open_files.ensures.settles t).same
-          (subst (λ (l : List ℕ). ExplainsPair (contents_of (h c.open_files.new.a)) l c.in-Err.why) (c.open_files.ensures.other_settles u).same (c.in-Err.ensures.err t u))) refusal cause is;
+          owed _ _ c.in-Err.why why (subst (λ (l : List ℕ). ExplainsPair l (contents_of (view c.args.b).history) c.in-Err.why) (c.open_files.ensures.settles t).same
+          (subst (λ (l : List ℕ). ExplainsPair (contents_of (view c.open_files.new.a).history) l c.in-Err.why) (c.open_files.ensures.other_settles u).same (c.in-Err.ensures.err t u))) refusal cause is;
       synced_a = search rules;
       synced_b = search rules;
       contents = search rules;

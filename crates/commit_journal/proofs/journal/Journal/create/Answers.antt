@@ -23,7 +23,7 @@ invariant_of-result g c =
 
 pub returns-in-Ok-clause-made : goal.returns-in-Ok-clause-made
 returns-in-Ok-clause-made g c =
-    let h = g.D.Disk.history in record {
+    let view = g.D.Disk.view in record {
       none_there = λ t u. c.in-Ok.ensures.free t u;
       has = λ t u r one.
           let is = c.with_gate-entry.ensures.bytes ∙ ap (λ (l : List Record). gated (bodies l)) one in
@@ -42,17 +42,17 @@ returns-in-Ok-clause-made g c =
           let settled = c.in-Ok.ensures.settled t r sound is in
           let chosen = c.in-Ok.ensures.chosen t u r sound is in
           quiet_only _ _ (r ∷ []) settled.quiet (c.in-Ok.ensures.other_quiet u) (chosen_spells false _ _ (r ∷ []) _ chosen settled.spells);
-      made_a = λ t. subst (λ (l : List ℕ). GoesOn (h c.args.a) (making (head_a ++ l)) (h c.make_files.new.a)) c.with_gate-entry.ensures.bytes (c.in-Ok.ensures.made t);
+      made_a = λ t. subst (λ (l : List ℕ). GoesOn (view c.args.a).history (making (head_a ++ l)) (view c.make_files.new.a).history) c.with_gate-entry.ensures.bytes (c.in-Ok.ensures.made t);
       made_b = λ u. c.in-Ok.ensures.other_made u;
     }
 
 pub returns-in-Err-clause-err : goal.returns-in-Err-clause-err
 returns-in-Err-clause-err g c =
-    let h = g.D.Disk.history in record {
+    let view = g.D.Disk.view in record {
       exists = search rules;
       spared = search rules;
       unchanged = search rules;
-      part_a = λ t. subst (λ (l : List ℕ). MadePart (h c.args.a) (making (head_a ++ l)) (h c.make_files.new.a)) c.with_gate-entry.ensures.bytes (c.make_files.ensures.part t);
+      part_a = λ t. subst (λ (l : List ℕ). MadePart (view c.args.a).history (making (head_a ++ l)) (view c.make_files.new.a).history) c.with_gate-entry.ensures.bytes (c.make_files.ensures.part t);
       part_b = λ u. c.make_files.ensures.other_part u;
       b_first = λ u. c.make_files.ensures.other_first u;
       tells_a = search rules;

@@ -32,7 +32,7 @@ write_shown-requires-clause-nothing_waits g c =
 pub invariant_of-self-in-Ok-write_shown : goal.invariant_of-self-in-Ok-write_shown
 invariant_of-self-in-Ok-write_shown g c =
     let i = c.self.inside in
-    let comes = carried g.D.Disk.tells g.D.Disk.history g.D.Disk.faults (record { journal = i.journal; opening = i.opening; users = i.users; events = i.events.items; state = i.core; shown = i.shown; readers = i.readers }) c.self.invariant.0 (λ events s t. c.histories_have_one_outcome.ensures.state i.opening i.users events s t) c.write_shown.new.journal c.note-reply.new.events.items c.note-reply.new.core c.write_shown.new.shown c.args.caller c.args.moment c.args.event c.in-Ok-write_shown.outcome
+    let comes = carried (record { journal = i.journal; opening = i.opening; users = i.users; events = i.events.items; state = i.core; shown = i.shown; readers = i.readers }) c.self.invariant.0 (λ events s t. c.histories_have_one_outcome.ensures.state i.opening i.users events s t) c.write_shown.new.journal c.note-reply.new.events.items c.note-reply.new.core c.write_shown.new.shown c.args.caller c.args.moment c.args.event c.in-Ok-write_shown.outcome
     c.note-reply.result c.calls.result c.in-Ok.prepared (subst (λ v. v.state.flight ≡ None) (sym c.self.view_is) c.requires.free) (subst (λ v. Fits v.state c.args.caller c.args.moment c.args.event) (sym c.self.view_is) c.requires.fits)
     c.in-Ok.ensures.ok c.in-Ok-write_shown.ensures.written c.in-Ok-write_shown.ensures.shown (calls_is c.write_shown.new.journal c.calls.result c.calls.ensures.a c.calls.ensures.b) c.note-reply.ensures.state c.note-reply.ensures.reply
     (c.note-reply.ensures.events ∙ ap (λ l. l ++ noted c.args.caller c.args.moment c.args.event c.in-Ok-write_shown.outcome c.calls.result ∷ []) c.in_ok-reserve.ensures.items) in
@@ -46,9 +46,9 @@ returns-in-Err-write_shown-clause-err g c =
 pub returns-in-Ok-write_shown-clause-ok : goal.returns-in-Ok-write_shown-clause-ok
 returns-in-Ok-write_shown-clause-ok g c =
     let i = c.self.inside in
-    let comes = carried g.D.Disk.tells g.D.Disk.history g.D.Disk.faults (record { journal = i.journal; opening = i.opening; users = i.users; events = i.events.items; state = i.core; shown = i.shown; readers = i.readers }) c.self.invariant.0 (λ events s t. c.histories_have_one_outcome.ensures.state i.opening i.users events s t) c.write_shown.new.journal c.note-reply.new.events.items c.note-reply.new.core c.write_shown.new.shown c.args.caller c.args.moment c.args.event c.in-Ok-write_shown.outcome
+    let comes = carried (record { journal = i.journal; opening = i.opening; users = i.users; events = i.events.items; state = i.core; shown = i.shown; readers = i.readers }) c.self.invariant.0 (λ events s t. c.histories_have_one_outcome.ensures.state i.opening i.users events s t) c.write_shown.new.journal c.note-reply.new.events.items c.note-reply.new.core c.write_shown.new.shown c.args.caller c.args.moment c.args.event c.in-Ok-write_shown.outcome
     c.note-reply.result c.calls.result c.in-Ok.prepared (subst (λ v. v.state.flight ≡ None) (sym c.self.view_is) c.requires.free) (subst (λ v. Fits v.state c.args.caller c.args.moment c.args.event) (sym c.self.view_is) c.requires.fits)
     c.in-Ok.ensures.ok c.in-Ok-write_shown.ensures.written c.in-Ok-write_shown.ensures.shown (calls_is c.write_shown.new.journal c.calls.result c.calls.ensures.a c.calls.ensures.b) c.note-reply.ensures.state c.note-reply.ensures.reply
     (c.note-reply.ensures.events ∙ ap (λ l. l ++ noted c.args.caller c.args.moment c.args.event c.in-Ok-write_shown.outcome c.calls.result ∷ []) c.in_ok-reserve.ensures.items) in
-    subst (λ v. Happens g.D.Disk.tells g.D.Disk.faults c.args.caller c.args.moment c.args.event c.in-Ok-write_shown.outcome c.note-reply.result v (next (record { journal = i.journal; opening = i.opening; users = i.users; events = i.events.items; state = i.core; shown = i.shown; readers = i.readers }) c.write_shown.new.journal c.note-reply.new.events.items c.note-reply.new.core c.write_shown.new.shown))
+    subst (λ v. Happens c.args.caller c.args.moment c.args.event c.in-Ok-write_shown.outcome c.note-reply.result v (next (record { journal = i.journal; opening = i.opening; users = i.users; events = i.events.items; state = i.core; shown = i.shown; readers = i.readers }) c.write_shown.new.journal c.note-reply.new.events.items c.note-reply.new.core c.write_shown.new.shown))
     c.self.view_is comes.happens

@@ -6,5 +6,5 @@ use Rattle.config_db.proofs.database.Database.clear.Goals as goal
 
 pub returns-in-Revert : goal.returns-in-Revert
 returns-in-Revert g c =
-    way_reverts g.D.Disk.tells g.D.Disk.faults c.args.caller c.args.moment c.revert.result c.args.self.now c.revert.new.self c.requires
+    way_reverts c.args.caller c.args.moment c.revert.result c.args.self.now c.revert.new.self c.requires
     (subst (λ v. waiting_of v.state c.args.moment ≡ Missed) c.self.view_is (revert_needed c.self.inside.core c.args.moment (sym c.in-Revert.is ∙ c.next.ensures))) c.revert.ensures

@@ -5,6 +5,6 @@ use Rattle.config_db.proofs.database.Database.close.Goals as goal
 pub returns : goal.returns
 returns g c = record {
   last = c.settle_last-fault.new.self;
-  settles = subst (λ f. SettlesLast g.D.Disk.tells g.D.Disk.faults f c.args.self c.settle_last-fault.new.self) (sym c.hand_back.ensures.fault) c.settle_last-fault.ensures;
+  settles = subst (λ f. SettlesLast f c.args.self c.settle_last-fault.new.self) (sym c.hand_back.ensures.fault) c.settle_last-fault.ensures;
   handed = c.hand_back.ensures.back;
 }

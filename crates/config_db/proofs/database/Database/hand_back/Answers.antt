@@ -1,4 +1,5 @@
-use Rattle.std.proofs.Common.{Some, refl, subst}
+use Rattle.std.proofs.Common.{Some, refl, subst, rules}
+use Rattle.disk_model.specs.Pair.{pair_of}
 use Rattle.session_history.specs.declared.history.History.{History}
 use Rattle.config_db.specs.Closing.{IsHandedBack}
 use Rattle.config_db.proofs.ClosingLemmas.{handed_back}
@@ -8,6 +9,6 @@ pub returns-clause-back : goal.returns-clause-back
 returns-clause-back g c =
     let i = c.self.inside in
     let happened : History = record { opening = Some i.opening; users = i.users; made = c.calls-made.result; events = i.events } in
-    subst (λ v. IsHandedBack g.D.Disk.tells g.D.Disk.history v happened c.into_disks-a.result.0 c.into_disks-a.result.1) c.self.view_is
-    (handed_back g.D.Disk.tells g.D.Disk.history g.D.Disk.faults (record { journal = i.journal; opening = i.opening; users = i.users; events = i.events.items; state = i.core; shown = i.shown; readers = i.readers }) happened c.into_disks-a.result.0 c.into_disks-a.result.1
-    c.histories_stay_accepted.ensures c.self.invariant.0 refl refl refl c.calls-made.ensures.a c.calls-made.ensures.b c.into_disks-a.ensures.a c.into_disks-a.ensures.b)
+    subst (λ v. IsHandedBack v happened (pair_of g.D.Disk.view c.into_disks-a.result.0 c.into_disks-a.result.1)) c.self.view_is
+    (handed_back (record { journal = i.journal; opening = i.opening; users = i.users; events = i.events.items; state = i.core; shown = i.shown; readers = i.readers }) happened (pair_of g.D.Disk.view c.into_disks-a.result.0 c.into_disks-a.result.1)
+    c.histories_stay_accepted.ensures c.self.invariant.0 refl refl refl c.calls-made.ensures.a c.calls-made.ensures.b (search rules))

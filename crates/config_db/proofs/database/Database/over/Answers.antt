@@ -4,7 +4,7 @@ use Rattle.config_db.proofs.database.Database.over.Goals as goal
 
 pub invariant_of-result : goal.invariant_of-result
 invariant_of-result g c = (
-  book_begins g.D.Disk.tells g.D.Disk.history g.D.Disk.faults c.args.journal c.args.over.opening c.args.users c.args.over.core c.new.result.items c.args.over.shown c.args.over.readers
+  book_begins c.args.journal c.args.over.opening c.args.users c.args.over.core c.new.result.items c.args.over.shown c.args.over.readers
       c.requires.held c.requires.starts c.new.ensures.items c.requires.shown,
   λ some. absurd (let none = ap (λ s. is_some s.flight) c.requires.starts in cc),
 )

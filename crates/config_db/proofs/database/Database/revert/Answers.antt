@@ -5,5 +5,5 @@ use Rattle.config_db.proofs.database.Database.revert.Goals as goal
 
 pub returns-in-Ok : goal.returns-in-Ok
 returns-in-Ok g c =
-    subst (λ t. Reverts g.D.Disk.tells g.D.Disk.faults c.args.caller c.args.moment t c.args.self.now c.carry_out.new.self) (sym c.reverted.ensures)
-    (reverts_of g.D.Disk.tells g.D.Disk.faults c.args.caller c.args.moment c.in-Ok.ended.outcome c.in-Ok.ended.reply c.args.self.now c.carry_out.new.self c.in-Ok.ensures.ok c.in-Ok.ensures.cause)
+    subst (λ t. Reverts c.args.caller c.args.moment t c.args.self.now c.carry_out.new.self) (sym c.reverted.ensures)
+    (reverts_of c.args.caller c.args.moment c.in-Ok.ended.outcome c.in-Ok.ended.reply c.args.self.now c.carry_out.new.self c.in-Ok.ensures.ok c.in-Ok.ensures.cause)

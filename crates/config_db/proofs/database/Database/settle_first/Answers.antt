@@ -3,4 +3,4 @@ use Rattle.config_db.proofs.database.Database.settle_first.Goals as goal
 
 pub returns-in-Done : goal.returns-in-Done
 returns-in-Done g c =
-    way_settled g.D.Disk.tells g.D.Disk.faults c.args.caller c.args.moment c.catch_up.result c.args.self.now c.settle.new.self c.catch_up.new.self c.requires.no_earlier c.requires.flying c.in-Done.ensures c.catch_up.ensures
+    way_settled c.args.caller c.args.moment c.catch_up.result c.args.self.now c.settle.new.self c.catch_up.new.self c.requires.no_earlier c.requires.flying c.in-Done.ensures c.catch_up.ensures

@@ -9,17 +9,17 @@ use Rattle.config_db.proofs.database.Database.settle_last.Goals as goal
 pub returns-in-Done : goal.returns-in-Done
 returns-in-Done g c =
     let is_moment : c.greatest-moment.result ≡ c.args.self.now.state.greatest = c.greatest-moment.ensures ∙ ap (λ v. v.state.greatest) c.self.view_is in
-    last_settled g.D.Disk.tells g.D.Disk.faults c.args.self.now c.settle.new.self
-    (subst (λ m. Settles g.D.Disk.tells g.D.Disk.faults 0 m Done c.args.self.now c.settle.new.self) is_moment c.in-Done.ensures)
+    last_settled c.args.self.now c.settle.new.self
+    (subst (λ m. Settles 0 m Done c.args.self.now c.settle.new.self) is_moment c.in-Done.ensures)
 
 pub returns-in-Fault : goal.returns-in-Fault
 returns-in-Fault g c =
-    last_unsettled g.D.Disk.tells g.D.Disk.faults c.args.self.now c.settle.new.self
+    last_unsettled c.args.self.now c.settle.new.self
     (subst (λ v. IsSome v.state.flight) c.self.view_is (settle_needed c.self.inside.core c.greatest-moment.result (sym c.in-Settle.is ∙ c.next.ensures))) c.in-Fault.ensures
 
 pub returns-in-Revert : goal.returns-in-Revert
 returns-in-Revert g c =
-    last_none g.D.Disk.tells g.D.Disk.faults c.args.self.now
+    last_none c.args.self.now
     (subst (λ v. v.state.flight ≡ None) c.self.view_is (⊎_elim
     (λ is. none_missed c.self.inside.core c.greatest-moment.result (revert_needed c.self.inside.core c.greatest-moment.result (sym is ∙ c.next.ensures)))
     (λ is. none_waits c.self.inside.core c.greatest-moment.result (nothing_needed c.self.inside.core c.greatest-moment.result (sym is ∙ c.next.ensures))) c.in-Revert.is))

@@ -13,28 +13,28 @@ pub returns-in-Ok-InputFull-clause-steps : goal.returns-in-Ok-InputFull-clause-s
 returns-in-Ok-InputFull-clause-steps g c =
     let full : (Full ≡ Full) ↔ (c.next.new.self.room < c.next.new.self.ahead) = search rules in
     Steps-full g.D.Door.follows c.args.door.now c.args.self.now.feed c.next.new.self c.args.self.now.reading c.self.inside.reading _ _ (search rules)
-    (ap (λ h. view_of g.C.Clock.coming g.K.Sink.held g.K.Sink.faults h) (sym c.self.view_is)) (search rules) (full.0 refl)
+    (ap (λ h. view_of g.C.Clock.coming h) (sym c.self.view_is)) (search rules) (full.0 refl)
 
 pub returns-in-Ok-Failed-clause-steps : goal.returns-in-Ok-Failed-clause-steps
 returns-in-Ok-Failed-clause-steps g c =
     let none : c.next.new.self.ahead ≡ 0 = search rules in
     Steps-failed g.D.Door.follows c.args.door.now c.args.self.now.feed c.next.new.self c.args.self.now.reading c.self.inside.reading _ _ (search rules)
-    (ap (λ h. view_of g.C.Clock.coming g.K.Sink.held g.K.Sink.faults h) (sym c.self.view_is)) (search rules) (omega (arith, none))
+    (ap (λ h. view_of g.C.Clock.coming h) (sym c.self.view_is)) (search rules) none
 
 pub returns-in-Err-clause-steps : goal.returns-in-Err-clause-steps
 returns-in-Err-clause-steps g c =
     Steps-no_memory g.D.Door.follows c.args.door.now c.args.self.now.feed c.next.new.self c.args.self.now.reading c.self.inside.reading _ _ (search rules) (search rules)
-    (ap (λ h. view_of g.C.Clock.coming g.K.Sink.held g.K.Sink.faults h) (sym c.self.view_is))
+    (ap (λ h. view_of g.C.Clock.coming h) (sym c.self.view_is))
 
 pub returns-in-Ok : goal.returns-in-Ok
 returns-in-Ok g c =
-    let old : SessionView = view_of g.C.Clock.coming g.K.Sink.held g.K.Sink.faults c.args.self.now in
-    let mid : SessionView = record { coming = g.C.Clock.coming c.self.inside.clock; held = g.K.Sink.held c.self.inside.sink; faults = g.K.Sink.faults c.self.inside.sink; turns = c.self.inside.turns.items } in
-    let new : SessionView = view_of g.C.Clock.coming g.K.Sink.held g.K.Sink.faults c.take.new.self in
-    let same : old ≡ mid = ap (λ h. view_of g.C.Clock.coming g.K.Sink.held g.K.Sink.faults h) (sym c.self.view_is) in
+    let old : SessionView = view_of g.C.Clock.coming c.args.self.now in
+    let mid : SessionView = record { coming = g.C.Clock.coming c.self.inside.clock; held = (g.K.Sink.view c.self.inside.sink).held; faults = (g.K.Sink.view c.self.inside.sink).faults; turns = c.self.inside.turns.items } in
+    let new : SessionView = view_of g.C.Clock.coming c.take.new.self in
+    let same : old ≡ mid = ap (λ h. view_of g.C.Clock.coming h) (sym c.self.view_is) in
     let reading : c.args.self.now.reading ≡ c.self.inside.reading = search rules in
     let old_feed : c.args.self.now.feed ≡ c.self.inside.lines = search rules in
-    let sink : g.K.Sink.faults c.args.self.now.sink ≡ g.K.Sink.faults c.self.inside.sink = search rules in
+    let sink : c.args.self.now.sink.faults ≡ (g.K.Sink.view c.self.inside.sink).faults = search rules in
     let new_feed : c.next.new.self ≡ c.take.new.self.feed = sym c.take.ensures.feed in
     let read : IsRead c.self.inside.reading c.in-Ok.line = search rules in
     let gives : GivesLine c.in-Ok.line c.self.inside.lines.left c.self.inside.lines.room c.next.new.self.left c.next.new.self.room = search rules in
@@ -52,7 +52,7 @@ returns-in-Ok g c =
       spare = search rules;
       falls = λ is. subst (λ f. f.room < c.args.self.now.feed.room) new_feed (subst (λ f. c.next.new.self.room < f.room) (sym old_feed) (falls_of c.self.inside.reading c.in-Ok.line c.self.inside.lines.room c.next.new.self.room read (c.take.ensures.end is) falls));
       source_cause = search rules;
-      sink_cause = λ is. subst (λ f. Rose f (g.K.Sink.faults c.take.new.self.sink)) (sym sink) (c.take.ensures.cause is);
+      sink_cause = λ is. subst (λ f. Rose f c.take.new.self.sink.faults) (sym sink) (c.take.ensures.cause is);
       later_source = subst (λ f. c.args.self.now.feed.faults ≤ f.faults) new_feed (subst (λ f. f.faults ≤ c.next.new.self.faults) (sym old_feed) later);
-      later_sink = subst (λ f. f ≤ g.K.Sink.faults c.take.new.self.sink) (sym sink) c.take.ensures.later;
+      later_sink = subst (λ f. f ≤ c.take.new.self.sink.faults) (sym sink) c.take.ensures.later;
     }

@@ -8,9 +8,9 @@ use Rattle.session_shell.proofs.serving.Serving.take.Goals as goal
 
 pub returns-in-Ok-None-clause-takes : goal.returns-in-Ok-None-clause-takes
 returns-in-Ok-None-clause-takes g c =
-    let old : SessionView = view_of g.C.Clock.coming g.K.Sink.held g.K.Sink.faults c.args.self.now in
-    let mid : SessionView = record { coming = g.C.Clock.coming c.self.inside.clock; held = g.K.Sink.held c.self.inside.sink; faults = g.K.Sink.faults c.self.inside.sink; turns = c.self.inside.turns.items } in
-    let same : old ≡ mid = ap (λ h. view_of g.C.Clock.coming g.K.Sink.held g.K.Sink.faults h) (sym c.self.view_is) in
+    let old : SessionView = view_of g.C.Clock.coming c.args.self.now in
+    let mid : SessionView = record { coming = g.C.Clock.coming c.self.inside.clock; held = (g.K.Sink.view c.self.inside.sink).held; faults = (g.K.Sink.view c.self.inside.sink).faults; turns = c.self.inside.turns.items } in
+    let same : old ≡ mid = ap (λ h. view_of g.C.Clock.coming h) (sym c.self.view_is) in
     let came : ComesOf c.args.self.now.reading c.args.line.now (None, c.comes_of.new.reading) = search rules in
     let how : c.how_next.result ≡ how_next c.args.line.now c.comes_of.new.reading true = search rules in
     subst (λ m. Takes g.D.Door.follows c.args.line.now c.how_next.result c.args.door.now c.args.door.now c.args.self.now.reading c.comes_of.new.reading old m) same
@@ -19,10 +19,10 @@ returns-in-Ok-None-clause-takes g c =
 
 pub returns-in-Ok-Some-clause-takes : goal.returns-in-Ok-Some-clause-takes
 returns-in-Ok-Some-clause-takes g c =
-    let old : SessionView = view_of g.C.Clock.coming g.K.Sink.held g.K.Sink.faults c.args.self.now in
-    let mid : SessionView = record { coming = g.C.Clock.coming c.self.inside.clock; held = g.K.Sink.held c.self.inside.sink; faults = g.K.Sink.faults c.self.inside.sink; turns = c.self.inside.turns.items } in
-    let new : SessionView = view_of g.C.Clock.coming g.K.Sink.held g.K.Sink.faults c.serve_item-put.new.self in
-    let same : old ≡ mid = ap (λ h. view_of g.C.Clock.coming g.K.Sink.held g.K.Sink.faults h) (sym c.self.view_is) in
+    let old : SessionView = view_of g.C.Clock.coming c.args.self.now in
+    let mid : SessionView = record { coming = g.C.Clock.coming c.self.inside.clock; held = (g.K.Sink.view c.self.inside.sink).held; faults = (g.K.Sink.view c.self.inside.sink).faults; turns = c.self.inside.turns.items } in
+    let new : SessionView = view_of g.C.Clock.coming c.serve_item-put.new.self in
+    let same : old ≡ mid = ap (λ h. view_of g.C.Clock.coming h) (sym c.self.view_is) in
     let came : ComesOf c.args.self.now.reading c.args.line.now (Some c.in-Ok-Some.item, c.comes_of.new.reading) = search rules in
     let how : c.how_next-in-Ok-Some.result ≡ how_next c.args.line.now c.serve_item-put.new.self.reading (is_ok c.serve_item-put.result) = search rules in
     subst (λ m. Takes g.D.Door.follows c.args.line.now c.how_next-in-Ok-Some.result c.args.door.now c.serve_item-put.new.door c.args.self.now.reading c.serve_item-put.new.self.reading m new) (sym same)
@@ -32,6 +32,6 @@ returns-in-Ok-Some-clause-takes g c =
 pub returns-in-Ok-Some-clause-cause : goal.returns-in-Ok-Some-clause-cause
 returns-in-Ok-Some-clause-cause g c =
     let how : c.how_next-in-Ok-Some.result ≡ how_next c.args.line.now c.serve_item-put.new.self.reading (is_ok c.serve_item-put.result) = search rules in
-    λ is. let old : g.K.Sink.faults c.self.inside.sink ≡ g.K.Sink.faults c.args.self.now.sink = search rules in
-    subst (λ f. Rose f (g.K.Sink.faults c.serve_item-put.new.self.sink)) old
+    λ is. let old : (g.K.Sink.view c.self.inside.sink).faults ≡ c.args.self.now.sink.faults = search rules in
+    subst (λ f. Rose f c.serve_item-put.new.self.sink.faults) old
     (cause_of c.serve_item-put.result c.args.line.now c.serve_item-put.new.self.reading _ c.serve_item-put.ensures.cause (sym how ∙ is))

@@ -11,7 +11,7 @@ use Rattle.session_threads.proofs.deeds.AskDeedServed.act.Goals as goal
 
 pub invariant_of-served : goal.invariant_of-served
 invariant_of-served g c =
-    IsUnderway-then g.D.Disk.tells g.D.Disk.faults _ _ c.step-answered.ensures.own c.served.inside.first c.served.inside.database
+    IsUnderway-then _ _ c.step-answered.ensures.own c.served.inside.first c.served.inside.database
     c.step-answered.new.self c.step-answered.ensures.extends (record {
       fresh = c.served.invariant.fresh;
       leads = c.served.invariant.leads;
@@ -20,22 +20,22 @@ invariant_of-served g c =
 
 pub returns-clause-adds : goal.returns-clause-adds
 returns-clause-adds g c =
-    subst (λ (s : ServedView g.row.D.Denot). AddsOwn caller_in c.args.caller s.database.events c.step-answered.new.self.events)
+    subst (λ (s : ServedView). AddsOwn caller_in c.args.caller s.database.events c.step-answered.new.self.events)
     c.served.view_is
-    (AddsOwn-of g.D.Disk.tells g.D.Disk.faults c.args.caller _ c.step-answered.ensures.own c.served.inside.first c.served.inside.database
+    (AddsOwn-of c.args.caller _ c.step-answered.ensures.own c.served.inside.first c.served.inside.database
     c.step-answered.new.self c.step-answered.ensures.extends)
 
 pub returns-clause-says : goal.returns-clause-says
 returns-clause-says g c =
-    subst (λ (s : ServedView g.row.D.Denot). FollowsAlone s.first c.args.caller s.database.events c.args.self.command
+    subst (λ (s : ServedView). FollowsAlone s.first c.args.caller s.database.events c.args.self.command
     c.args.self.moment c.step-answered.result c.step-answered.new.self.events
     × (TellsKept (opened s.first) c.step-answered.new.self.events c.note-note.result.list
     × IfSome c.again-view.result (λ view. IsLast c.note-note.result.list (arc_value view)))) c.served.view_is (
-      FollowsAlone-of g.D.Disk.tells g.D.Disk.faults c.served.inside.first c.served.inside.database c.step-answered.new.self
+      FollowsAlone-of c.served.inside.first c.served.inside.database c.step-answered.new.self
           c.args.caller c.args.self.moment c.args.self.command c.step-answered.result c.served.invariant.leads c.step-answered.ensures,
       (
         subst (λ l. TellsKept (opened c.served.inside.first) c.step-answered.new.self.events l) (sym c.note-note.ensures.list)
-            (TellsKept-of g.D.Disk.tells g.D.Disk.faults c.served.inside.first c.step-answered.new.self (invariant_of-served g c)
+            (TellsKept-of c.served.inside.first c.step-answered.new.self (invariant_of-served g c)
             c.note-note.ensures.views c.note-note.ensures.shows),
         IsLast-again arc_value c.note-note.result.list c.again-view.result _ _ c.again-view.ensures c.view.ensures
             (subst (λ l. IsLast l c.step-answered.new.self.state.kept) (sym c.note-note.ensures.list) c.note-note.ensures.shows.last),

@@ -11,7 +11,7 @@ use Rattle.session_threads.proofs.gate.Gate.take_turn.Goals as goal
 pub invariant_of-self : goal.invariant_of-self
 invariant_of-self g c =
     let ready = c.self.invariant in
-    let More : DatabaseView g.row.D.Denot → List Happened → Type 0 =
+    let More : DatabaseView → List Happened → Type 0 =
     λ first events. TellsKept (opened first) events c.turn-answered.result.note.list
     × IfSome c.turn-answered.result.view (λ view. IsLast c.turn-answered.result.note.list (arc_value view)) in
     let took = FollowsTurn-took c.self.inside.pass c.turn-answered.new.pass c.args.command c.args.moment
@@ -23,12 +23,12 @@ invariant_of-self g c =
 
 pub returns : goal.returns
 returns g c =
-    let More : DatabaseView g.row.D.Denot → List Happened → Type 0 =
+    let More : DatabaseView → List Happened → Type 0 =
     λ first events. TellsKept (opened first) events c.turn-answered.result.note.list
     × IfSome c.turn-answered.result.view (λ view. IsLast c.turn-answered.result.note.list (arc_value view)) in
     let took = FollowsTurn-took c.self.inside.pass c.turn-answered.new.pass c.args.command c.args.moment
     c.turn-answered.result.answered More c.self.invariant.1.own c.turn-answered.ensures in
-    subst (λ (d : GateView g.row.D.Denot). TookIn d c.args.command c.args.moment c.turn-answered.result.answered
+    subst (λ (d : GateView). TookIn d c.args.command c.args.moment c.turn-answered.result.answered
     (record { pass = c.turn-answered.new.pass; reader = c.learn.new.reader })) c.self.view_is
     (TookIn-turn c.self.inside.pass c.turn-answered.new.pass c.self.inside.reader c.learn.new.reader c.args.command c.args.moment
     c.turn-answered.result.answered c.turn-answered.result.note.list c.learn.ensures

@@ -12,13 +12,13 @@ pub returns-in-Ok-create-clause-stored : goal.returns-in-Ok-create-clause-stored
 returns-in-Ok-create-clause-stored g c =
     let reads : ReadsAs Accepts factory_records factory =
     c.lists_begin_with_one_commit.ensures.read factory_commit (c.lists_begin_with_one_commit.ensures.factory c.nothing_is_accepted.ensures) refl refl in
-    let made = subst (λ (rs : List Record). IsCreated g.D.Disk.tells g.D.Disk.history c.args.a c.args.b rs c.in-Ok-create.journal) c.in-Ok.ensures.1 c.in-Ok-create.ensures.made in
-    subst (λ (k : Kept). IsStored g.D.Disk.tells g.D.Disk.history c.in-Ok-create.journal k) (sym c.in-Ok.ensures.0)
-    (made_is_stored g.D.Disk.tells g.D.Disk.history g.D.Disk.faults c.args.a c.args.b c.args.limits.journal c.in-Ok-create.journal c.in-Ok-create.ensures.ok made reads)
+    let made = subst (λ (rs : List Record). IsCreated (g.D.Disk.view c.args.a) (g.D.Disk.view c.args.b) rs c.in-Ok-create.journal) c.in-Ok.ensures.1 c.in-Ok-create.ensures.made in
+    subst (λ (k : Kept). IsStored c.in-Ok-create.journal k) (sym c.in-Ok.ensures.0)
+    (made_is_stored (g.D.Disk.view c.args.a) (g.D.Disk.view c.args.b) c.args.limits.journal c.in-Ok-create.journal c.in-Ok-create.ensures.ok made reads)
 
 pub returns-in-Ok-create-clause-made : goal.returns-in-Ok-create-clause-made
 returns-in-Ok-create-clause-made g c =
     let reads : ReadsAs Accepts factory_records factory =
     c.lists_begin_with_one_commit.ensures.read factory_commit (c.lists_begin_with_one_commit.ensures.factory c.nothing_is_accepted.ensures) refl refl in
-    let made = subst (λ (rs : List Record). IsCreated g.D.Disk.tells g.D.Disk.history c.args.a c.args.b rs c.in-Ok-create.journal) c.in-Ok.ensures.1 c.in-Ok-create.ensures.made in
-    made_is g.D.Disk.tells g.D.Disk.history g.D.Disk.faults c.args.a c.args.b c.args.limits.journal c.in-Ok-create.journal c.in-Ok-create.ensures.ok made reads
+    let made = subst (λ (rs : List Record). IsCreated (g.D.Disk.view c.args.a) (g.D.Disk.view c.args.b) rs c.in-Ok-create.journal) c.in-Ok.ensures.1 c.in-Ok-create.ensures.made in
+    made_is (g.D.Disk.view c.args.a) (g.D.Disk.view c.args.b) c.args.limits.journal c.in-Ok-create.journal c.in-Ok-create.ensures.ok made reads

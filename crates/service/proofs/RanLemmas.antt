@@ -1,0 +1,71 @@
+-- What a run comes to, of whatever its words ask.
+use Rattle.std.proofs.Common.{◌≡◌, ◌⊎◌, inl, inr, ℕ, List, Option, None, Some, refl, sym, subst, arith}
+use Rattle.command_line.specs.Asked.{Asks}
+use Rattle.command_line.specs.declared.asked.Asked.{Asked}
+use Rattle.command_line.specs.declared.asked.RunMode.{RunMode}
+use Rattle.command_line.specs.declared.asked.RunMode.TheVariants.{Init, Serve, Check, Gen}
+use Rattle.commit_ledger.specs.Kept.{Kept}
+use Rattle.stored_ledger.specs.declared.why.StartWhy.{StartWhy}
+use Rattle.stored_ledger.specs.Starting.{Explains, IsByBytes}
+use Rattle.stored_ledger.specs.Stored.{SpellsKept}
+use Rattle.service.specs.Run.{AsksFor, EachEnd, IsAsking, IsFaultless, IsUndone, IsUntouched}
+use Rattle.service.specs.Running.{Ran, RanIn, Serves}
+use Rattle.service.specs.Serving.{AreSound}
+use Rattle.service.specs.World.{Told, Views, World}
+use Rattle.service.proofs.ModeLemmas.{mode_is_not_1}
+use Rattle.service.proofs.ServingLemmas.{serves_complete, serves_is_not_1}
+
+module _ {E T D : Type 0} (see : Views E T D) (SinkAlone : E → E → Type 0) (before after : World E T D) (told : Told) where
+  -- what was asked was done in its mode
+  pub ran_as : (asked : Asked) (mode : RunMode) → asked.mode ≡ mode → RanIn see SinkAlone mode asked before after told
+      → Ran see SinkAlone (Some asked) before after told
+  ran_as asked mode is ran = inr (subst (λ (m : RunMode). RanIn see SinkAlone m asked before after told) (sym is) ran)
+
+  pub ran_served : (asked : Asked) → asked.mode ≡ Serve → IsUndone before after told ⊎ Serves see asked before after told
+      → Ran see SinkAlone (Some asked) before after told
+  ran_served asked is (inl undone) = inl undone
+  ran_served asked is (inr served) = ran_as asked Serve is served
+
+  in_mode_is_not_1 : (words : List (List ℕ)) (asked : Asked) (mode : RunMode) → Asks words asked
+      → RanIn see SinkAlone mode asked before after told → told.status ≡ 1 → ⊥
+  in_mode_is_not_1 words asked Serve asks ran one = serves_is_not_1 see asked before after told ran one
+  in_mode_is_not_1 words asked Init asks ran one = mode_is_not_1 see SinkAlone words asked before after told asks ran one
+  in_mode_is_not_1 words asked Check asks ran one = mode_is_not_1 see SinkAlone words asked before after told asks ran one
+  in_mode_is_not_1 words asked Gen asks ran one = mode_is_not_1 see SinkAlone words asked before after told asks ran one
+
+  -- words that ask something don't come to the status of words that ask nothing
+  pub ran_is_not_1 : (words : List (List ℕ)) (asked : Asked) → Asks words asked → Ran see SinkAlone (Some asked) before after told
+      → told.status ≡ 1 → ⊥
+  ran_is_not_1 words asked asks (inl undone) one = omega (arith, one, undone.0)
+  ran_is_not_1 words asked asks (inr ran) one = in_mode_is_not_1 words asked asked.mode asks ran one
+
+  -- what was read of the words is what they ask, whatever that is
+  pub ran_for : ((words : List (List ℕ)) (one other : Asked) → Asks words one → Asks words other → one ≡ other)
+      → (words : List (List ℕ)) (asked : Asked) → Asks words asked → Ran see SinkAlone (Some asked) before after told
+      → (other : Option Asked) → AsksFor words other → Ran see SinkAlone other before after told
+  ran_for one_thing words asked asks ran None nothing = absurd (nothing (asked, asks))
+  ran_for one_thing words asked asks ran (Some other) also =
+      subst (λ (x : Asked). Ran see SinkAlone (Some x) before after told) (one_thing words asked other asks also) ran
+
+  -- words that ask nothing
+  pub ran_refused : (words : List (List ℕ)) → (IsAsking words → ⊥) → told.status ≡ 1 → IsUntouched before after told
+      → (other : Option Asked) → AsksFor words other → Ran see SinkAlone other before after told
+  ran_refused words nothing is untouched None also = (inl is, untouched)
+  ran_refused words nothing is untouched (Some other) asks = absurd (nothing (other, asks))
+
+  -- memory was wanting for the words
+  pub ran_without : (words : List (List ℕ)) → told.status ≡ 9 → IsUntouched before after told → (other : Option Asked)
+      → AsksFor words other → Ran see SinkAlone other before after told
+  ran_without words is untouched None also = (inr is, untouched)
+  ran_without words is untouched (Some other) asks = inl (is, untouched)
+
+  -- without a fault and within the limit mode serve comes to the status 0 or 9
+  pub ran_complete : ((a b : List ℕ) (kept : Kept) (why : StartWhy) → SpellsKept a b kept → IsByBytes why → Explains a b why → ⊥)
+      → (asked : Asked) → asked.mode ≡ Serve → Ran see SinkAlone (Some asked) before after told
+      → AreSound (see.disks before.a before.b) (see.disks after.a after.b)
+      → EachEnd (λ old new. IsFaultless asked.limits.input (see.end old) (see.end new)) before.ends after.ends
+      → (told.status ≡ 0) ⊎ (told.status ≡ 9)
+  ran_complete spelled_once asked is (inl undone) sound each = inr undone.0
+  ran_complete spelled_once asked is (inr ran) sound each =
+      serves_complete see asked before after told spelled_once
+      (subst (λ (m : RunMode). RanIn see SinkAlone m asked before after told) is ran) sound each

@@ -1,0 +1,26 @@
+-- What a run comes to, by what its words ask. This project's own.
+use Rattle.std.specs.Prelude.{◌⊎◌, Option, None, Some}
+use Rattle.command_line.specs.declared.asked.Asked.{Asked}
+use Rattle.command_line.specs.declared.asked.RunMode.{RunMode}
+use Rattle.command_line.specs.declared.asked.RunMode.TheVariants.{Init, Serve, Check, Gen}
+use Rattle.service.specs.Modes.{RunsMode}
+use Rattle.service.specs.Run.{IsRefused, IsUndone}
+use Rattle.service.specs.Serving.{IsNotStarted, IsServed}
+use Rattle.service.specs.World.{Told, Views, World}
+
+-- mode serve: the start was refused, or the sessions were served
+abbrev pub Serves : {E T D : Type 0} → Views E T D → Asked → World E T D → World E T D → Told → Type 0
+Serves see asked before after told = IsNotStarted see before after told ⊎ IsServed see asked before after told
+
+-- by the mode
+abbrev pub RanIn : {E T D : Type 0} → Views E T D → (E → E → Type 0) → RunMode → Asked → World E T D → World E T D → Told → Type 0
+RanIn see SinkAlone Serve asked before after told = Serves see asked before after told
+RanIn see SinkAlone Init asked before after told = RunsMode see SinkAlone asked before after told
+RanIn see SinkAlone Check asked before after told = RunsMode see SinkAlone asked before after told
+RanIn see SinkAlone Gen asked before after told = RunsMode see SinkAlone asked before after told
+
+-- what a run came to: words that ask nothing are refused; else memory was wanting before anything was done, or the mode ran
+abbrev pub Ran : {E T D : Type 0} → Views E T D → (E → E → Type 0) → Option Asked → World E T D → World E T D → Told → Type 0
+Ran see SinkAlone None before after told = IsRefused before after told
+Ran see SinkAlone (Some asked) before after told =
+    IsUndone before after told ⊎ RanIn see SinkAlone asked.mode asked before after told
