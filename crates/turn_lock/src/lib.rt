@@ -8,12 +8,13 @@
 //! history, and one slot for the value. A turn is six atomic steps on them, in this order:
 //! 1. draw: the next ticket is the caller's (`draw`).
 //! 2. look: where the ticket served is the caller's, the value goes out to the caller, who has then seen
-//!    the whole entered history (`wait`).
+//!    the whole entered history (`wait`). Between two looks in vain the caller rests, and soon sleeps.
 //! 3. take: nothing is left in the slot (`take`); then the deed runs.
 //! 4. put: the value lies in the slot again, and is still out (`put`).
 //! 5. enter: the deed's entries are part of the entered history (`enter`). Put comes first, so that the
 //!    step can tell which entries these are.
-//! 6. pass on: the value is home, and the next ticket is served (`pass_on`).
+//! 6. pass on: the value is home, and the next ticket is served (`pass_on`). Behind it the caller of that
+//!    ticket is woken, where it sleeps (src/bell.rt).
 //!
 //! Two more steps make a new pass (`split`) and end one (`join`). What holds between any two steps of any
 //! callers is `LockRule` (specs/Rule.antt).
@@ -21,6 +22,7 @@
 //! Leaves to others: what the value, its entries and the deeds are.
 #![tactic(auto)]
 
+mod bell;
 mod book;
 mod laws;
 mod lock;

@@ -3,6 +3,7 @@
 ghost use Rattle.std.specs.Prelude.{◌≡◌, ◌+◌, ◌<◌, ◌≤◌, [], length, IfOk, IfErr};
 ghost use Rattle.turn_lock.specs.Passes.{IsClosed, first_pass, with_split, split_pass, with_ended};
 
+use crate::bell::Bells;
 use crate::book::Book;
 use crate::pass::Pass;
 use crate::rule::{Opening, Rule, SplitOff, TakeIn};
@@ -16,6 +17,7 @@ use std::snapshot::Snapshot;
 /// A lock over a value. Contracts see which lock it is.
 pub struct Turns<T: Book> {
     pub(crate) table: Table<Option<T>, View<T::Entry, T::Fixed>, Opening<T>, Rule<T>, Global>,
+    pub(crate) bells: Bells,
 }
 
 impl<T: Book> Model for Turns<T> {
@@ -48,6 +50,9 @@ impl<T: Book> Turns<T> {
         ensures ok { IfOk result (λ made. made.1 ≡ first_pass made.0 (T.fixed value) callers) }
         ensures err { IfErr result (λ none. none.value ≡ value) }
     {
+        let Some(bells) = Bells::make(alloc, callers) else {
+            return Err(NoTurns { value });
+        };
         let opening = Opening {
             value: Snapshot::of(&value),
             callers,
@@ -60,7 +65,7 @@ impl<T: Book> Turns<T> {
         slots.push_reserved(Some(value));
         match Table::new(alloc, &[0, 0, 0], slots, &opening) {
             Ok((table, seat)) => Ok((
-                Turns { table },
+                Turns { table, bells },
                 Pass {
                     badge: seat.into_badge(),
                     caller: 0,
@@ -120,7 +125,7 @@ impl<T: Book> Turns<T> {
         requires all { length first.ended ≡ first.splits }
         ensures { IsClosed T.history T.caller_of T.fixed first result }
     {
-        let Turns { table } = self;
+        let Turns { table, bells: _ } = self;
         let Pass {
             badge,
             caller: _,

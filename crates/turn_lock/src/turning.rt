@@ -1,11 +1,12 @@
 //! One turn, step by step.
 
-ghost use Rattle.std.specs.Prelude.{◌≡◌, ℕ, ◌%◌, ◌^◌, [], ◌∷◌, IfSome, Some, None};
-ghost use Rattle.turn_lock.specs.declared.view.Stage.TheVariants.{Idle, Waits};
+ghost use Rattle.std.specs.Prelude.{◌≡◌, ℕ, ◌+◌, ◌%◌, ◌^◌, [], ◌∷◌, IfSome, Some, None};
+ghost use Rattle.turn_lock.specs.declared.view.Stage.TheVariants.{Idle, Waits, Serves};
 ghost use Rattle.turn_lock.specs.Views.{staged, entering, pass_view};
 ghost use Rattle.turn_lock.specs.Steps.{IsSameSeat, IsTurn, WaitsFor, Grown, IsWhole};
 ghost use Rattle.turn_lock.specs.Passes.{TookTurn};
 
+use crate::bell::OwedRing;
 use crate::book::{Book, Deed};
 use crate::lock::Turns;
 use crate::pass::Pass;
@@ -14,7 +15,6 @@ use crate::view::View;
 use atomic_table::{Badge, Seat};
 use std::mem::replace;
 use std::sync::Wait;
-use std::thread;
 
 /// A pass in the table.
 type Place<T> = Seat<Option<T>, View<<T as Book>::Entry, <T as Book>::Fixed>>;
@@ -40,18 +40,23 @@ impl<T: Book> Turns<T> {
         self.table.shared.fetch_add::<Draw>(seat, NEXT, 1)
     }
 
-    /// Waits until the ticket is served.
+    /// Waits until the ticket is served. The bell is read before each look, since a ring behind the look must let no
+    /// sleep begin.
     fn wait<R: Wait>(&self, rt: &R, seat: &mut Place<T>, ticket: u64)
         requires here { seat.old.table_id ≡ self.now }
         requires waits { WaitsFor ticket seat.old.me }
         ensures same { IsSameSeat seat.old seat.new }
         ensures turn { (t : ℕ) × IsTurn T.history T.caller_of T.fixed t seat.old.me seat.new.me }
     {
+        let bell = self.bells.of(ticket);
+        let mut looks: u32 = 0;
         for _ in rt.forever() {
+            let heard = bell.rings();
             if self.table.shared.load::<Look<T>>(seat, SERVING) == ticket {
                 return;
             }
-            thread::yield_now();
+            bell.rest(rt, looks, heard);
+            looks = looks.saturating_add(1);
         }
         unreachable!()
     }
@@ -89,14 +94,18 @@ impl<T: Book> Turns<T> {
         self.table.shared.fetch_add::<Enter<T>>(seat, COUNT, added);
     }
 
-    /// Sends the value home, and serves the next ticket.
-    fn pass_on(&self, seat: &mut Place<T>)
+    /// Sends the value home, and serves the next ticket, whose caller is owed a ring.
+    fn pass_on(&self, seat: &mut Place<T>) -> OwedRing
         requires here { seat.old.table_id ≡ self.now }
         requires whole { IsWhole T.history T.fixed seat.old.me }
         ensures same { IsSameSeat seat.old seat.new }
         ensures left { seat.new.me ≡ (staged seat.old.me.0 Idle, []) }
+        ensures next { (t : ℕ) → seat.old.me.0.stage ≡ Serves t → result.ticket ≡ (t + 1) % 2 ^ 64 }
     {
-        self.table.shared.fetch_add::<PassOn>(seat, SERVING, 1);
+        let served = self.table.shared.fetch_add::<PassOn>(seat, SERVING, 1);
+        OwedRing {
+            ticket: served.wrapping_add(1),
+        }
     }
 
     /// The turn of a seat.
@@ -124,7 +133,8 @@ impl<T: Book> Turns<T> {
         let after = value.count();
         self.put(seat, value);
         self.enter(seat, after - before);
-        self.pass_on(seat);
+        let owed = self.pass_on(seat);
+        self.bells.ring(owed);
         answer
     }
 
