@@ -7,3 +7,5 @@ pub mod ApartLemmas
 pub mod PairLemmas
 pub mod ReadingLemmas
 pub mod SoundLemmas
+pub mod LexingLemmas
+pub mod ExampleLemmas

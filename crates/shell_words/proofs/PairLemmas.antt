@@ -27,7 +27,7 @@ use Rattle.shell_words.proofs.ApartLemmas.{all_at}
 abbrev words_in : List Item → List (List ℕ)
 words_in items = map (λ (item : Item). item.token.word) items
 
-abbrev no_mark : keywords.Keyword → Item → Bool
+abbrev pub no_mark : keywords.Keyword → Item → Bool
 no_mark mark item = not (is_mark mark item)
 
 -- the tokens in front are no marks, then comes one, and the words are those of the two sides
@@ -53,10 +53,10 @@ not_true true e = absurd (false≢true e)
 not_true false e = refl
 
 -- no token of the symbol is the mark
-passes_by : (mark : keywords.Keyword) (symbol : Symbol) (item : Item) → disjoint symbol (Mark mark) ≡ true → is_of symbol item ≡ true → no_mark mark item ≡ true
+pub passes_by : (mark : keywords.Keyword) (symbol : Symbol) (item : Item) → disjoint symbol (Mark mark) ≡ true → is_of symbol item ≡ true → no_mark mark item ≡ true
 passes_by mark symbol item e is = ap not (is_not (is_mark mark item) (λ marked. disjoint_sound symbol (Mark mark) item e is marked))
 
-all_pass : (mark : keywords.Keyword) (symbol : Symbol) (items : List Item) → disjoint symbol (Mark mark) ≡ true → list_all (is_of symbol) items ≡ true → list_all (no_mark mark) items ≡ true
+pub all_pass : (mark : keywords.Keyword) (symbol : Symbol) (items : List Item) → disjoint symbol (Mark mark) ≡ true → list_all (is_of symbol) items ≡ true → list_all (no_mark mark) items ≡ true
 all_pass mark symbol [] e all = refl
 all_pass mark symbol (item ∷ items) e all =
     let both = and_parts (is_of symbol item) (list_all (is_of symbol) items) all in
@@ -157,7 +157,7 @@ in_words mark (Many symbol ∷ parts) items words e fit =
     (at_mark mark parts fit.rest fit.others both.1 fit.behind)
 
 -- how many stand before the first mark
-before_is : (mark : keywords.Keyword) (front back : List Item) (middle : Item) → list_all (no_mark mark) front ≡ true → is_mark mark middle ≡ true → tokens_before mark (front ++ middle ∷ back) ≡ length front
+pub before_is : (mark : keywords.Keyword) (front back : List Item) (middle : Item) → list_all (no_mark mark) front ≡ true → is_mark mark middle ≡ true → tokens_before mark (front ++ middle ∷ back) ≡ length front
 before_is mark [] back middle none is = ap (λ t. cond (not t) (1 + tokens_before mark back) 0) is
 before_is mark (item ∷ front) back middle none is =
     let both = and_parts (no_mark mark item) (list_all (no_mark mark) front) none in

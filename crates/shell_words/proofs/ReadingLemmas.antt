@@ -37,7 +37,7 @@ pub each_form : (configuring : Bool) (form : CommandForm) → Contains (forms_of
 each_form configuring form served = completed (parts_of form) (tested configuring form served).shown
 
 -- one more form in front
-later : {X : Type 0} (first : X) (rest : List X) (x : X) → Contains rest x → Contains (first ∷ rest) x
+pub later : {X : Type 0} (first : X) (rest : List X) (x : X) → Contains rest x → Contains (first ∷ rest) x
 later first rest x contained = (suc contained.0, omega (arith, contained.1), contained.2)
 
 -- some form goes on as far as the furthest

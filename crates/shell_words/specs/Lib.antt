@@ -5,4 +5,5 @@ pub mod Form
 pub mod Pair
 pub mod Made
 pub mod Reading
+pub mod Examples
 pub mod Walk

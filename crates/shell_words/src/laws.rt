@@ -1,9 +1,10 @@
 ghost use Rattle.std.specs.Prelude.{◌≡◌, ℕ, List, Bool, Option, None, Some, Result, Ok, map};
-ghost use Rattle.std.specs.List.{Contains};
+ghost use Rattle.std.specs.List.{All, Contains};
 ghost use Rattle.commands.specs.declared.mover.Mover.{Mover};
 ghost use Rattle.cfg_lex.specs.declared.token.Token.{Token};
 ghost use Rattle.cfg_lex.specs.Tokens.{IsCut};
 ghost use Rattle.shell_words.specs.declared.form.CommandForm.{CommandForm};
+ghost use Rattle.shell_words.specs.Examples.{HasExample, IsShown, examples};
 ghost use Rattle.shell_words.specs.Form.{Fits, IsIn, forms_of, parts_of};
 ghost use Rattle.shell_words.specs.Item.{Item, item_in};
 ghost use Rattle.shell_words.specs.declared.form.Makes.TheVariants.{Move};
@@ -33,4 +34,10 @@ pub fn lines_are_read_in_one_way()
 /// Each command that a line asks is sound: its minutes are at most 65,535, and its comment is of printing bytes.
 pub fn lines_ask_sound_commands()
     ensures { (configuring : Bool) (line : List ℕ) (made : Option Words0) → IsReading configuring line (Ok made) → AsksSound made }
+{}
+
+/// The lines of specs/Examples.antt ask what they are shown to ask, and each form has a line among them.
+pub fn lines_ask_what_their_examples_show()
+    ensures shown { (configuring : Bool) → All (IsShown configuring) (examples configuring) }
+    ensures each_form { (configuring : Bool) (form : CommandForm) → Contains (forms_of configuring) form → HasExample configuring form }
 {}

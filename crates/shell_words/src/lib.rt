@@ -17,6 +17,8 @@ mod pair;
 mod reader;
 mod walk;
 
-pub use laws::{lines_are_read_in_one_way, lines_ask_sound_commands};
+pub use laws::{
+    lines_are_read_in_one_way, lines_ask_sound_commands, lines_ask_what_their_examples_show,
+};
 pub use making::Words0;
 pub use reader::{ReadFault, read_line};
