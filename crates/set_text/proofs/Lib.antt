@@ -7,3 +7,5 @@ pub mod ReadLemmas
 pub mod OnceLemmas
 pub mod BackLemmas
 pub mod TrailLemmas
+pub mod ExampleLemmas
+pub mod Names

@@ -4,6 +4,7 @@ pub mod Form
 pub mod Phase
 pub mod Fit
 pub mod Lines
+pub mod Examples
 pub mod Stop
 pub mod Back
 pub mod Trail

@@ -1,9 +1,11 @@
-//! A text has one answer, and printed lines are read back.
+//! A text has one answer, lines ask what is shown of them, and printed lines are read back.
 
 ghost use Rattle.std.specs.Prelude.{◌≡◌, ◌≢◌, ℕ, List};
+ghost use Rattle.std.specs.List.{All};
 ghost use Rattle.set_text.specs.declared.fault.LineFault.{LineFault};
 ghost use Rattle.set_text.specs.declared.fault.LineFault.TheVariants.{NoMemory};
 ghost use Rattle.set_text.specs.declared.op_lines.OpLine.{OpLine};
+ghost use Rattle.set_text.specs.Examples.{IsShown, examples};
 ghost use Rattle.set_text.specs.Lines.{AsksFor, IsLineFault};
 ghost use Rattle.set_text.specs.Printed.{Line, printed_lines};
 ghost use Rattle.set_text.specs.Back.{AreReadable, changes_of};
@@ -19,4 +21,9 @@ pub fn texts_have_one_answer()
 /// Printed lines ask for what they say, each in its place: lines with words, each of which can be printed.
 pub fn printed_lines_are_read_back()
     ensures { (lines : List Line) → AreReadable lines → AsksFor (printed_lines lines) (changes_of 1 lines) }
+{}
+
+/// Lines of the parts of specs/Examples.antt ask what they are shown to ask.
+pub fn lines_ask_what_their_examples_show()
+    ensures { All IsShown examples }
 {}

@@ -21,7 +21,9 @@ mod stop;
 mod trail;
 
 pub use fault::LineFault;
-pub use laws::{printed_lines_are_read_back, texts_have_one_answer};
+pub use laws::{
+    lines_ask_what_their_examples_show, printed_lines_are_read_back, texts_have_one_answer,
+};
 pub use lines::parse_lines;
 pub use op_lines::{OpLine, OpLines};
 pub use printing::print_lines;
