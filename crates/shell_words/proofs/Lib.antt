@@ -9,3 +9,4 @@ pub mod ReadingLemmas
 pub mod SoundLemmas
 pub mod LexingLemmas
 pub mod ExampleLemmas
+pub mod Names
