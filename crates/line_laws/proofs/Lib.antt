@@ -1,0 +1,5 @@
+pub mod TokenLemmas
+pub mod RowLemmas
+pub mod TypedLemmas
+pub mod LoadedLemmas
+pub mod LineLemmas
