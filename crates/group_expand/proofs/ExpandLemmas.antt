@@ -18,8 +18,9 @@ use Rattle.group_expand.specs.Made.{with_order, order_of, given_at}
 use Rattle.group_expand.specs.Row.{Stated}
 use Rattle.group_expand.specs.Node.{Node, children_of}
 use Rattle.group_expand.specs.Fronts.{front_of}
-use Rattle.group_expand.specs.Offer.{Offer, own_offer, IsLevel, offered}
-use Rattle.group_expand.specs.Runs.{first_step, steps_of, is_apply_step, own_of, own_gift, own_nodes, source_gift, run_gift, order_for}
+use Rattle.group_expand.specs.Offer.{Offer, own_offer, offered}
+use Rattle.group_expand.specs.Level.{Ranked, Level, IsLevel}
+use Rattle.group_expand.specs.Runs.{first_step, steps_of, is_apply_step, own_of, own_gift, own_nodes, source_gift, run_gift, run_in, order_for}
 use Rattle.group_expand.specs.Placed.{map_of, node_at, kids_at, offer_at, run_at, look_of, kids_of, given_below, given_for, IsRow, IsRight, IsLevelAt}
 use Rattle.group_expand.proofs.NodeLemmas.{append_nothing}
 use Rattle.group_expand.proofs.GivenLemmas.{from_live, ones_live, run_keeps, front_at}
@@ -158,7 +159,7 @@ module _ (row : List Stated) (h : IsRow row)
           e ∙ ap (λ (r : List Offer). own_nodes (own_of r)) run_is ∙ ap own_nodes (own_of_run L K row p s) ∙ own_at row h (p ++ s ∷ []) ∙ kids_or_none (p ++ s ∷ [])
 
       -- the level below a path that is there
-      pub level_is_at : (children : List Node) (level : List Offer) → children ≡ own_nodes (own_of run)
+      pub level_is_at : (children : List Node) (level : Level) → children ≡ own_nodes (own_of run)
           → IsLevel (offered children (front_of (kids_at L K row (groups_step ∷ [])) path children run)) level → IsLevelAt L K row path level
       level_is_at children level e made =
           let front_is : front_of (kids_at L K row (groups_step ∷ [])) path children run ≡ map (placed L row) (front L K (p ++ s ∷ []))
@@ -172,7 +173,7 @@ module _ (row : List Stated) (h : IsRow row)
           ∙ ap (offered (kids_at L K row (p ++ s ∷ []))) front_is) made))
 
       -- what is given at a path that is there
-      pub given_is : (children : List Node) (level : List Offer) (g : Given) → children ≡ own_nodes (own_of run)
+      pub given_is : (children : List Node) (level : Level) (g : Given) → children ≡ own_nodes (own_of run)
           → IsLevel (offered children (front_of (kids_at L K row (groups_step ∷ [])) path children run)) level
           → g ≡ with_order (order_for (ordered_head (place_of path)) (own_of run) children level) gift → given_at L K (p ++ s ∷ []) ≡ Some g
       unfolding given_at
@@ -219,14 +220,14 @@ module _ (row : List Stated) (path : List Step) where
   below_more zero l = absurd (omega (arith, l))
   below_more (suc n) l = let e : n ≡ suc n - 1 = omega arith in ap (λ (k : ℕ). flat_map (given_for row k path) (steps_at (look_of row) (kids_of row) path)) e
 
-  module _ (n : ℕ) (level : List Offer) (at_path : IsLevelAt (look_of row) (kids_of row) row path level) where
+  module _ (n : ℕ) (level : Level) (at_path : IsLevelAt (look_of row) (kids_of row) row path level) where
     abbrev pub one : Step → List (List Step × Given)
     one s = given_for row (n - 1) path s
 
-    pub level_all : 0 < n → flat_map one (steps_of level) ≡ given_below row n path
+    pub level_all : 0 < n → flat_map one (steps_of level.plain) ≡ given_below row n path
     level_all l = ap (flat_map one) at_path.steps ∙ sym (below_more n l)
 
-    pub run_more : (left run rest : List Offer) (made now all : List (List Step × Given)) (s : Step) (step : IsRunStep level left run rest) → s ≡ first_step left no_step
+    pub run_more : (left run rest : List Ranked) (made now all : List (List Step × Given)) (s : Step) (step : IsRunStep level.plain left run rest) → s ≡ first_step left no_step
         → made ++ flat_map one (steps_of left) ≡ all → now ≡ made ++ one s → now ++ flat_map one (steps_of rest) ≡ all
     run_more left run rest made now all s step is e f =
         ap (λ (xs : List (List Step × Given)). xs ++ flat_map one (steps_of rest)) f
@@ -234,15 +235,15 @@ module _ (row : List Stated) (path : List Step) where
         ∙ ap (λ (t : Step). made ++ (one t ++ flat_map one (steps_of rest))) (is ∙ step.ahead no_step)
         ∙ ap (λ (ss : List Step). made ++ flat_map one ss) (sym step.steps) ∙ e
 
-    pub run_wide : (left run rest : List Offer) (made start : List (List Step × Given)) (limit : ℕ) (s : Step) (step : IsRunStep level left run rest) → 0 < n → s ≡ first_step left no_step
-        → made ++ flat_map one (steps_of left) ≡ start ++ flat_map one (steps_of level) → limit < length made + length (one s) → limit < length start + length (given_below row n path)
+    pub run_wide : (left run rest : List Ranked) (made start : List (List Step × Given)) (limit : ℕ) (s : Step) (step : IsRunStep level.plain left run rest) → 0 < n → s ≡ first_step left no_step
+        → made ++ flat_map one (steps_of left) ≡ start ++ flat_map one (steps_of level.plain) → limit < length made + length (one s) → limit < length start + length (given_below row n path)
     run_wide left run rest made start limit s step l is e k =
         let a = ap (λ (xs : List (List Step × Given)). length xs) (e ∙ ap (λ (xs : List (List Step × Given)). start ++ xs) (level_all l))
         in let b = ap (λ (ss : List Step). length (flat_map one ss)) step.steps
         in let d = ap (λ (t : Step). length (one t)) (is ∙ step.ahead no_step)
         in omega (arith, k, a, b, d, length-append made (flat_map one (steps_of left)), length-append (one step.step) (flat_map one (steps_of rest)), length-append start (given_below row n path))
 
-    pub level_done : (left : List Offer) (made start : List (List Step × Given)) → 0 < n → length left ≡ 0 → made ++ flat_map one (steps_of left) ≡ start ++ flat_map one (steps_of level)
+    pub level_done : (left : List Ranked) (made start : List (List Step × Given)) → 0 < n → length left ≡ 0 → made ++ flat_map one (steps_of left) ≡ start ++ flat_map one (steps_of level.plain)
         → made ≡ start ++ given_below row n path
     level_done [] made start l z e = sym (append_nothing made) ∙ e ∙ ap (λ (xs : List (List Step × Given)). start ++ xs) (level_all l)
     level_done (o ∷ os) made start l z e = absurd (omega (arith, z))
@@ -253,17 +254,19 @@ module _ (row : List Stated) (path : List Step) where
     among_all P (t ∷ ss) h u (inr m) = among_all P ss h.1 u m
 
     -- the offers of a run are those of its step
-    pub run_right : (left run rest : List Offer) (step : IsRunStep level left run rest) → IsRight (look_of row) (kids_of row) row level path step.step
+    pub run_right : (left run rest : List Ranked) (step : IsRunStep level.plain left run rest) → IsRight (look_of row) (kids_of row) row level path step.step
     run_right left run rest step =
         among_all (IsRight (look_of row) (kids_of row) row level path) (steps_at (look_of row) (kids_of row) path) at_path.right step.step
         (subst (λ (ss : List Step). Among step.step ss) at_path.steps
-        (among_steps step.step level (found_step step.step level (subst (λ (os : List Offer). HasOne os) step.whole (record { has = step.some })))))
+        (among_steps step.step level.plain (found_step step.step level.plain (subst (λ (rs : List Ranked). HasOne rs) step.whole (record { has = step.some })))))
 
-    pub run_is_at : (left run rest : List Offer) (step : IsRunStep level left run rest) (s : Step) → s ≡ first_step left no_step → run ≡ run_at (look_of row) (kids_of row) row path s
-    run_is_at left run rest step s e =
-        step.whole ∙ (run_right left run rest step).run ∙ ap (run_at (look_of row) (kids_of row) row path) (sym (e ∙ step.ahead no_step))
+    pub run_is_at : (left run rest : List Ranked) (step : IsRunStep level.plain left run rest) (s : Step) (made : List Offer) → s ≡ first_step left no_step → made ≡ run_in s level.wild run
+        → made ≡ run_at (look_of row) (kids_of row) row path s
+    run_is_at left run rest step s made e f =
+        f ∙ ap (λ (t : Step). run_in t level.wild run) (e ∙ step.ahead no_step) ∙ ap (run_in step.step level.wild) step.whole ∙ (run_right left run rest step).run
+        ∙ ap (run_at (look_of row) (kids_of row) row path) (sym (e ∙ step.ahead no_step))
 
-    pub run_plain : (left run rest : List Offer) (step : IsRunStep level left run rest) (s : Step) → s ≡ first_step left no_step → is_plain (path ++ s ∷ []) ≡ true
+    pub run_plain : (left run rest : List Ranked) (step : IsRunStep level.plain left run rest) (s : Step) → s ≡ first_step left no_step → is_plain (path ++ s ∷ []) ≡ true
     run_plain left run rest step s e = ap (λ (t : Step). is_plain (path ++ t ∷ [])) (e ∙ step.ahead no_step) ∙ (run_right left run rest step).plain
 
 pub tame_row : (row : List Stated) → IsRow row → (p : List Step) (s : Step) → is_live (look_of row) (p ++ s ∷ []) ≡ true → is_outside (p ++ s ∷ []) ≡ true → is_wildcard s.name ≡ false
@@ -274,7 +277,7 @@ tame_row row h p s live outside = tree_tame (map_of row) h.tree p s (there (look
     there (Some v) e = refl
 
 -- the level of the top
-pub top_level_is : (row : List Stated) → IsRow row → (own : List Node) (level : List Offer) (top : List Step) → top ≡ [] → own ≡ kids_at (look_of row) (kids_of row) row []
+pub top_level_is : (row : List Stated) → IsRow row → (own : List Node) (level : Level) (top : List Step) → top ≡ [] → own ≡ kids_at (look_of row) (kids_of row) row []
     → IsLevel (offered own (front_of (kids_at (look_of row) (kids_of row) row (groups_step ∷ [])) top own [])) level → IsLevelAt (look_of row) (kids_of row) row [] level
 top_level_is row h own level top none e made =
     level_at (look_of row) (kids_of row) row (once_at row) [] refl

@@ -26,7 +26,8 @@ use Rattle.group_expand.proofs.StepLemmas.{last_is}
 use Rattle.group_expand.proofs.ApartLemmas.{step_is}
 use Rattle.group_expand.proofs.ClosedLemmas.{both}
 use Rattle.group_expand.proofs.PlacedLemmas.{live_more}
-use Rattle.group_expand.proofs.RunLemmas.{placed, filter_map, map_append, map_map, live_once}
+use Rattle.group_expand.proofs.ListLemmas.{filter_map, map_append, map_map}
+use Rattle.group_expand.proofs.RunLemmas.{placed, live_once}
 
 pub step_told : (s t : Step) → same_step s t ≡ eq_by_cmp step_cmp s t
 step_told s t = by_tests (same_step s t) (eq_by_cmp step_cmp s t) refl refl

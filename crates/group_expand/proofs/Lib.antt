@@ -19,6 +19,8 @@ pub mod PlaceLemmas
 pub mod PlacedLemmas
 pub mod CutLemmas
 pub mod SearchLemmas
+pub mod ListLemmas
+pub mod RankLemmas
 pub mod RunLemmas
 pub mod StepsLemmas
 pub mod GivenLemmas

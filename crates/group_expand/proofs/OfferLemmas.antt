@@ -9,10 +9,10 @@ use Rattle.std.specs.declared.cmp.Ordering.TheVariants.{Less, Equal, Greater}
 use Rattle.std.proofs.lemmas.List.Sorted.{ranks_by}
 use Rattle.cfg_base.specs.Order.{step_cmp, steps_total}
 use Rattle.cfg_base.specs.declared.path.Step.{Step}
-use Rattle.group_expand.specs.Offer.{Offer, is_for, comes_before, IsLevel}
+use Rattle.group_expand.specs.Level.{Ranked, is_at, comes_before, IsByStep}
 
 pub ranks : IsStrictWeakOrder comes_before
-ranks = ranks_by steps_total (λ (o : Offer). o.step)
+ranks = ranks_by steps_total (λ (r : Ranked). r.offer.step)
 
 tie : (s t : Step) → (not (is_lt (step_cmp s t)) && not (is_lt (step_cmp t s))) ≡ eq_by_cmp step_cmp s t
 tie s t = ap (λ (o : Ordering). not (is_lt (step_cmp s t)) && not (is_lt o)) (steps_total.antisymm t s) ∙ by_order (step_cmp s t)
@@ -22,13 +22,16 @@ tie s t = ap (λ (o : Ordering). not (is_lt (step_cmp s t)) && not (is_lt o)) (s
     by_order Equal = refl
     by_order Greater = refl
 
-abbrev some_offer : Step → Offer
-some_offer s = record { step = s; group = None; node = record { path = []; value = record { inactive = false; protected = false; order = []; words = [] }; below = [] } }
+abbrev some_offer : Step → Ranked
+some_offer s = record {
+  rank = 0;
+  offer = record { step = s; group = None; node = record { path = []; value = record { inactive = false; protected = false; order = []; words = [] }; below = [] } };
+}
 
-pub level_is : (offers level : List Offer) → IsSortedBy comes_before level → IsStableBy comes_before offers level → IsLevel offers level
-level_is offers level sorted stable = record {
+pub by_step : (offers level : List Ranked) → IsSortedBy comes_before level → IsStableBy comes_before offers level → IsByStep offers level
+by_step offers level sorted stable = record {
   ascends = sorted;
   alike = λ step.
-      let same : (λ (o : Offer). not (comes_before (some_offer step) o) && not (comes_before o (some_offer step))) ≡ is_for step = λ i o. tie step o.step i
-      in ap (λ (t : Offer → Bool). filter t level) (sym same) ∙ stable (some_offer step) ∙ ap (λ (t : Offer → Bool). filter t offers) same;
+      let same : (λ (r : Ranked). not (comes_before (some_offer step) r) && not (comes_before r (some_offer step))) ≡ is_at step = λ i r. tie step r.offer.step i
+      in ap (λ (t : Ranked → Bool). filter t level) (sym same) ∙ stable (some_offer step) ∙ ap (λ (t : Ranked → Bool). filter t offers) same;
 }

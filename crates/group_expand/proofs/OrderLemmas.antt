@@ -1,6 +1,6 @@
 -- The offers for a step tell what the step has, and its place in the order of its level.
 use Rattle.std.proofs.Common.{◌≡◌, ℕ, Bool, true, false, not, cond, List, [], ◌∷◌, ◌++◌, filter, map, refl, sym, ap, ◌∙◌, Option, Some, None, is_some}
-use Rattle.std.specs.Prelude.{◌&&◌, ◌||◌, is_none}
+use Rattle.std.specs.Prelude.{◌&&◌, ◌||◌}
 use Rattle.std.specs.List.{AllByRecursion, list_any}
 use Rattle.std.specs.Ordering.{eq_by_cmp}
 use Rattle.cfg_base.specs.Order.{step_cmp}
@@ -18,8 +18,9 @@ use Rattle.group_expand.specs.Front.{raw, live_kids, steps_at}
 use Rattle.group_expand.specs.Made.{order_of}
 use Rattle.group_expand.specs.Row.{Stated}
 use Rattle.group_expand.specs.Node.{Node}
-use Rattle.group_expand.specs.Offer.{Offer, own_offer, is_for}
-use Rattle.group_expand.specs.Runs.{steps_of, is_apply_step, own_of, source_gift, own_gift, run_gift, has_source, is_inherited, inherited_in, names_with, order_if, order_for}
+use Rattle.group_expand.specs.Offer.{Offer, own_offer}
+use Rattle.group_expand.specs.Level.{Level, is_at}
+use Rattle.group_expand.specs.Runs.{steps_of, is_apply_step, own_of, source_gift, own_gift, run_gift, has_source, may_be_inherited, is_inherited, inherited_in, names_with, order_if, order_for}
 use Rattle.group_expand.specs.Placed.{IsRight, value_in, node_at, kids_at, offer_at, run_at}
 use Rattle.group_expand.proofs.StepLemmas.{last_is}
 use Rattle.group_expand.proofs.PlacedLemmas.{live_more}
@@ -79,12 +80,8 @@ module _ (look : Look) (kids : List Step → List Step) (row : List Stated) wher
       ∙ ap (λ (b : Bool). chosen (p ++ s ∷ []) (is_own look (p ++ s ∷ [])) (is_outside (p ++ s ∷ []) && b)) (sym plain)
 
   -- a step that is there and isn't the configuration's own
-  own_none : (s : Step) (xs : List given.Source) → is_none (own_of (map (offer_at look row s) xs)) ≡ true
-  own_none s [] = refl
-  own_none s (x ∷ xs) = refl
-
   inherited_by : (q : List Step) (s : Step) (same l a : Bool)
-      → (same && ((a || is_none (own_of (run_of q s l))) && has_source (run_of q s l)))
+      → ((same && (a || not l)) && has_source (run_of q s l))
       ≡ (is_some (chosen q (l && (true && not a)) (true && true)) && (same && not (l && (true && not a))))
   inherited_by q s true true true = source_some s (raw look kids q) ∙ sym (and_true _)
     where
@@ -97,9 +94,7 @@ module _ (look : Look) (kids : List Step → List Step) (row : List Stated) wher
       and_true : (b : Bool) → (b && true) ≡ b
       and_true true = refl
       and_true false = refl
-  inherited_by q s true false false =
-      ap (λ (b : Bool). b && has_source (map (offer_at look row s) (raw look kids q))) (own_none s (raw look kids q))
-      ∙ source_some s (raw look kids q) ∙ sym (and_true _)
+  inherited_by q s true false false = source_some s (raw look kids q) ∙ sym (and_true _)
     where
       and_true : (b : Bool) → (b && true) ≡ b
       and_true true = refl
@@ -110,27 +105,28 @@ module _ (look : Look) (kids : List Step → List Step) (row : List Stated) wher
       and_false true = refl
       and_false false = refl
 
-  inherited_told : (level : List Offer) (p : List Step) (head : List ℕ) (s : Step) → is_outside (p ++ s ∷ []) ≡ true → IsRight look kids row level p s
-      → is_inherited head s (filter (is_for s) level) ≡ (is_some (gift_at look kids (p ++ s ∷ [])) && (same_word head s.head && not (is_own look (p ++ s ∷ []))))
+  inherited_told : (level : Level) (p : List Step) (head : List ℕ) (s : Step) → is_outside (p ++ s ∷ []) ≡ true → IsRight look kids row level p s
+      → is_inherited head s level.wild (filter (is_at s) level.plain) ≡ (is_some (gift_at look kids (p ++ s ∷ [])) && (same_word head s.head && not (is_own look (p ++ s ∷ []))))
   inherited_told level p head s outside h =
-      ap (is_inherited head s) h.run
+      ap (λ (run : List Offer). may_be_inherited head s (filter (is_at s) level.plain) && has_source run) h.run
+      ∙ ap (λ (b : Bool). (same_word head s.head && (is_apply_step s || not b)) && has_source (run_at look kids row p s)) h.own
       ∙ inherited_by (p ++ s ∷ []) s (same_word head s.head) (is_live look (p ++ s ∷ [])) (is_apply_step s)
       ∙ ap (λ (b : Bool). is_some (chosen (p ++ s ∷ []) (is_live look (p ++ s ∷ []) && (true && not b)) (true && true)) && (same_word head s.head && not (is_live look (p ++ s ∷ []) && (true && not b)))) (sym (apply_last p s))
       ∙ ap (λ (b : Bool). is_some (chosen (p ++ s ∷ []) (is_live look (p ++ s ∷ []) && (b && not (is_apply (p ++ s ∷ [])))) (b && true)) && (same_word head s.head && not (is_live look (p ++ s ∷ []) && (b && not (is_apply (p ++ s ∷ [])))))) (sym outside)
       ∙ ap (λ (b : Bool). is_some (chosen (p ++ s ∷ []) (is_own look (p ++ s ∷ [])) (is_outside (p ++ s ∷ []) && b)) && (same_word head s.head && not (is_own look (p ++ s ∷ [])))) (sym h.plain)
 
-  inherited_all : (level : List Offer) (p : List Step) (head : List ℕ) (ss : List Step) → ((s : Step) → is_outside (p ++ s ∷ []) ≡ true) → AllByRecursion (IsRight look kids row level p) ss
-      → filter (λ s. is_inherited head s (filter (is_for s) level)) ss
+  inherited_all : (level : Level) (p : List Step) (head : List ℕ) (ss : List Step) → ((s : Step) → is_outside (p ++ s ∷ []) ≡ true) → AllByRecursion (IsRight look kids row level p) ss
+      → filter (λ s. is_inherited head s level.wild (filter (is_at s) level.plain)) ss
       ≡ filter (λ s. same_word head s.head && not (is_own look (p ++ s ∷ []))) (filter (λ s. is_some (gift_at look kids (p ++ s ∷ []))) ss)
   inherited_all level p head [] outside h = refl
   inherited_all level p head (s ∷ ss) outside h =
-      ap (λ (b : Bool). cond b (s ∷ filter (λ s. is_inherited head s (filter (is_for s) level)) ss) (filter (λ s. is_inherited head s (filter (is_for s) level)) ss)) (inherited_told level p head s (outside s) h.0)
+      ap (λ (b : Bool). cond b (s ∷ filter (λ s. is_inherited head s level.wild (filter (is_at s) level.plain)) ss) (filter (λ s. is_inherited head s level.wild (filter (is_at s) level.plain)) ss)) (inherited_told level p head s (outside s) h.0)
       ∙ by_tests (is_some (gift_at look kids (p ++ s ∷ []))) (same_word head s.head && not (is_own look (p ++ s ∷ []))) refl (inherited_all level p head ss outside h.1)
     where
       by_tests : (a b : Bool) → (same_word head s.head && not (is_own look (p ++ s ∷ []))) ≡ b
-          → filter (λ s. is_inherited head s (filter (is_for s) level)) ss
+          → filter (λ s. is_inherited head s level.wild (filter (is_at s) level.plain)) ss
           ≡ filter (λ s. same_word head s.head && not (is_own look (p ++ s ∷ []))) (filter (λ s. is_some (gift_at look kids (p ++ s ∷ []))) ss)
-          → cond (a && b) (s ∷ filter (λ s. is_inherited head s (filter (is_for s) level)) ss) (filter (λ s. is_inherited head s (filter (is_for s) level)) ss)
+          → cond (a && b) (s ∷ filter (λ s. is_inherited head s level.wild (filter (is_at s) level.plain)) ss) (filter (λ s. is_inherited head s level.wild (filter (is_at s) level.plain)) ss)
           ≡ filter (λ s. same_word head s.head && not (is_own look (p ++ s ∷ []))) (cond a (s ∷ filter (λ s. is_some (gift_at look kids (p ++ s ∷ []))) ss) (filter (λ s. is_some (gift_at look kids (p ++ s ∷ []))) ss))
       by_tests true true e go =
           ap (λ (xs : List Step). s ∷ xs) go
@@ -190,12 +186,12 @@ module _ (look : Look) (kids : List Step → List Step) (row : List Stated) wher
         ∙ none_live q head dead names
 
     -- the order that the code makes is that of the level
-    pub order_is : (q : List Step) (level : List Offer) (head : Option (List ℕ)) → ((s : Step) → is_outside (q ++ s ∷ []) ≡ true) → steps_of level ≡ steps_at look kids q → AllByRecursion (IsRight look kids row level q) (steps_at look kids q)
+    pub order_is : (q : List Step) (level : Level) (head : Option (List ℕ)) → ((s : Step) → is_outside (q ++ s ∷ []) ≡ true) → steps_of level.plain ≡ steps_at look kids q → AllByRecursion (IsRight look kids row level q) (steps_at look kids q)
         → order_for head (cond (is_live look q) (Some (at q)) None) (cond (is_live look q) (kids_at look kids row q) []) level ≡ order_of look kids q head
     order_is q level None outside steps right = refl
     order_is q level (Some head) outside steps right =
         ap (λ (names : List (List ℕ)). names ++ inherited_in head level) (by_live (is_live look q) refl)
-        ∙ ap (λ (ss : List Step). filter (λ name. is_live look (q ++ step_of head name ∷ [])) (order_in (look q)) ++ map (λ s. s.name) (filter (λ s. is_inherited head s (filter (is_for s) level)) ss)) steps
+        ∙ ap (λ (ss : List Step). filter (λ name. is_live look (q ++ step_of head name ∷ [])) (order_in (look q)) ++ map (λ s. s.name) (filter (λ s. is_inherited head s level.wild (filter (is_at s) level.plain)) ss)) steps
         ∙ ap (λ (ss : List Step). filter (λ name. is_live look (q ++ step_of head name ∷ [])) (order_in (look q)) ++ map (λ s. s.name) ss) (inherited_all level q head (steps_at look kids q) outside right)
       where
         by_live : (b : Bool) → is_live look q ≡ b

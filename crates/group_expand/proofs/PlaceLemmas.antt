@@ -8,7 +8,7 @@ use Rattle.cfg_tree.specs.Tree.{ordered_head}
 use Rattle.cfg_tree.proofs.PathLemmas.{split, same_ends}
 use Rattle.cfg_tree.proofs.TypedLemmas.{place_snoc}
 use Rattle.group_expand.specs.Node.{Node}
-use Rattle.group_expand.specs.Offer.{Offer}
+use Rattle.group_expand.specs.Level.{Ranked, Level}
 use Rattle.group_expand.specs.Runs.{order_for}
 use Rattle.group_expand.specs.Row.{Stated}
 use Rattle.group_expand.specs.Placed.{given_for}
@@ -24,11 +24,15 @@ place_is path above step long is e =
     ∙ ap (λ (p : List Step). place_of p) (sym (split path long))
 
 -- the order of a level by a place that is right where something stands below
-pub order_by_place : (place right : Option Place) (own : Option Node) (children : List Node) (level : List Offer)
-    → (0 < length children → place ≡ right) → (0 < length level → place ≡ right) → order_for (ordered_head place) own children level ≡ order_for (ordered_head right) own children level
-order_by_place place right own (n ∷ ns) level f g = ap (λ (o : Option Place). order_for (ordered_head o) own (n ∷ ns) level) (f (omega arith))
-order_by_place place right own [] (o ∷ os) f g = ap (λ (q : Option Place). order_for (ordered_head q) own [] (o ∷ os)) (g (omega arith))
-order_by_place place right own [] [] f g = nothing_ordered (ordered_head place) own ∙ sym (nothing_ordered (ordered_head right) own)
+pub order_by_place : (place right : Option Place) (own : Option Node) (children : List Node) (level : Level)
+    → (0 < length children → place ≡ right) → (0 < length level.plain → place ≡ right) → order_for (ordered_head place) own children level ≡ order_for (ordered_head right) own children level
+order_by_place place right own children level f g = by_lists children level.plain f g
+  where
+    by_lists : (ns : List Node) (rs : List Ranked) → (0 < length ns → place ≡ right) → (0 < length rs → place ≡ right)
+        → order_for (ordered_head place) own ns (record { plain = rs; wild = level.wild }) ≡ order_for (ordered_head right) own ns (record { plain = rs; wild = level.wild })
+    by_lists (n ∷ ns) rs f g = ap (λ (o : Option Place). order_for (ordered_head o) own (n ∷ ns) (record { plain = rs; wild = level.wild })) (f (omega arith))
+    by_lists [] (r ∷ rs) f g = ap (λ (o : Option Place). order_for (ordered_head o) own [] (record { plain = r ∷ rs; wild = level.wild })) (g (omega arith))
+    by_lists [] [] f g = nothing_ordered (ordered_head place) own level.wild ∙ sym (nothing_ordered (ordered_head right) own level.wild)
 
 -- a path that is another one with one more step
 pub longer : (path p : List Step) (s : Step) → path ≡ p ++ s ∷ [] → 0 < length path

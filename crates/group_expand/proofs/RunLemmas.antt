@@ -1,9 +1,8 @@
--- The offers for one step: the path's own statement where it is live, and then its sources, in order.
+-- What a walk over the offers of a level picks for one step: the path's own statement where it is live, and then its sources, in order.
 use Rattle.std.proofs.Common.{◌≡◌, ℕ, Bool, true, false, not, cond, List, [], ◌∷◌, ◌++◌, filter, map, refl, sym, ap, ◌∙◌, Option, Some, None, is_some}
 use Rattle.std.specs.Prelude.{◌&&◌, flat_map}
 use Rattle.std.specs.List.{AllByRecursion}
 use Rattle.std.specs.Ordering.{eq_by_cmp}
-use Rattle.std.proofs.lemmas.List.Elements.{filter-append}
 use Rattle.cfg_base.specs.Order.{step_cmp}
 use Rattle.cfg_base.specs.declared.path.Step.{Step}
 use Rattle.cfg_base.specs.declared.value.Value.{Value}
@@ -17,64 +16,17 @@ use Rattle.group_expand.specs.Sources.{inner_of, is_wildcard, fits_wildcard, fit
 use Rattle.group_expand.specs.Front.{grown, front, live_kids}
 use Rattle.group_expand.specs.Row.{Stated}
 use Rattle.group_expand.specs.Node.{Node, children_of}
-use Rattle.group_expand.specs.Offer.{Source, Offer, own_offer, group_offer, has_wildcard, plain_offers, matched_offers, offers_of, offered, is_for}
+use Rattle.group_expand.specs.Offer.{Source, Offer, own_offer, group_offer, node_offer, offer_for, has_wildcard, plain_offers, wild_offers, offers_of, offered, is_for}
 use Rattle.group_expand.specs.Placed.{node_at, kids_at, offer_at, run_at}
 use Rattle.group_expand.proofs.StepLemmas.{last_is}
 use Rattle.group_expand.proofs.FrontLemmas.{raw_more}
 use Rattle.group_expand.proofs.PlacedLemmas.{live_more}
+use Rattle.group_expand.proofs.ListLemmas.{filter_map, filter_swap, flat_same_all, map_map, map_append, map_flat, flat_map_map, flat_append, flat_flat}
+use Rattle.group_expand.proofs.RankLemmas.{picked}
 
 -- a source as a node of the row
 abbrev pub placed : Look → List Stated → given.Source → Source
 placed look row x = record { group = x.group; node = node_at look row x.from }
-
-pub filter_map : {X Y : Type 0} (t : Y → Bool) (f : X → Y) (xs : List X) → filter t (map f xs) ≡ map f (filter (λ x. t (f x)) xs)
-filter_map t f [] = refl
-filter_map {X} {Y} t f (x ∷ xs) = by_test (t (f x)) (filter_map t f xs)
-  where
-    by_test : (b : Bool) → filter t (map f xs) ≡ map f (filter (λ x. t (f x)) xs)
-        → cond b (f x ∷ filter t (map f xs)) (filter t (map f xs)) ≡ map f (cond b (x ∷ filter (λ x. t (f x)) xs) (filter (λ x. t (f x)) xs))
-    by_test true e = ap (λ (ys : List Y). f x ∷ ys) e
-    by_test false e = e
-
-filter_swap : {X : Type 0} (t u : X → Bool) (xs : List X) → filter t (filter u xs) ≡ filter u (filter t xs)
-filter_swap t u [] = refl
-filter_swap {X} t u (x ∷ xs) = by_tests (t x) (u x) refl refl (filter_swap t u xs)
-  where
-    by_tests : (a b : Bool) → t x ≡ a → u x ≡ b → filter t (filter u xs) ≡ filter u (filter t xs)
-        → filter t (cond b (x ∷ filter u xs) (filter u xs)) ≡ filter u (cond a (x ∷ filter t xs) (filter t xs))
-    by_tests true true e f go =
-        ap (λ (c : Bool). cond c (x ∷ filter t (filter u xs)) (filter t (filter u xs))) e ∙ ap (λ (ys : List X). x ∷ ys) go
-        ∙ sym (ap (λ (c : Bool). cond c (x ∷ filter u (filter t xs)) (filter u (filter t xs))) f)
-    by_tests true false e f go = go ∙ sym (ap (λ (c : Bool). cond c (x ∷ filter u (filter t xs)) (filter u (filter t xs))) f)
-    by_tests false true e f go = ap (λ (c : Bool). cond c (x ∷ filter t (filter u xs)) (filter t (filter u xs))) e ∙ go
-    by_tests false false e f go = go
-
-filter_flat : {X Y : Type 0} (t : Y → Bool) (f : X → List Y) (xs : List X) → filter t (flat_map f xs) ≡ flat_map (λ x. filter t (f x)) xs
-filter_flat t f [] = refl
-filter_flat {X} {Y} t f (x ∷ xs) = filter-append t (f x) (flat_map f xs) ∙ ap (λ (ys : List Y). filter t (f x) ++ ys) (filter_flat t f xs)
-
-flat_same : {X Y : Type 0} (f g : X → List Y) → ((x : X) → f x ≡ g x) → (xs : List X) → flat_map f xs ≡ flat_map g xs
-flat_same f g go xs = let same : f ≡ g = λ i x. go x i in ap (λ (h : _). flat_map h xs) same
-
-flat_same_all : {X Y : Type 0} (f g : X → List Y) (xs : List X) → AllByRecursion (λ x. f x ≡ g x) xs → flat_map f xs ≡ flat_map g xs
-flat_same_all f g [] h = refl
-flat_same_all {X} {Y} f g (x ∷ xs) h = ap (λ (ys : List Y). ys ++ flat_map f xs) h.0 ∙ ap (λ (ys : List Y). g x ++ ys) (flat_same_all f g xs h.1)
-
-pub map_map : {X Y Z : Type 0} (f : Y → Z) (g : X → Y) (xs : List X) → map f (map g xs) ≡ map (λ x. f (g x)) xs
-map_map f g [] = refl
-map_map {X} {Y} {Z} f g (x ∷ xs) = ap (λ (zs : List Z). f (g x) ∷ zs) (map_map f g xs)
-
-pub map_append : {X Y : Type 0} (f : X → Y) (xs ys : List X) → map f (xs ++ ys) ≡ map f xs ++ map f ys
-map_append f [] ys = refl
-map_append {X} {Y} f (x ∷ xs) ys = ap (λ (zs : List Y). f x ∷ zs) (map_append f xs ys)
-
-pub map_flat : {X Y Z : Type 0} (f : Y → Z) (g : X → List Y) (xs : List X) → map f (flat_map g xs) ≡ flat_map (λ x. map f (g x)) xs
-map_flat f g [] = refl
-map_flat {X} {Y} {Z} f g (x ∷ xs) = map_append f (g x) (flat_map g xs) ∙ ap (λ (zs : List Z). map f (g x) ++ zs) (map_flat f g xs)
-
-pub flat_map_map : {X Y Z : Type 0} (f : Y → List Z) (g : X → Y) (xs : List X) → flat_map f (map g xs) ≡ flat_map (λ x. f (g x)) xs
-flat_map_map f g [] = refl
-flat_map_map {X} {Y} {Z} f g (x ∷ xs) = ap (λ (zs : List Z). f (g x) ++ zs) (flat_map_map f g xs)
 
 module _ (look : Look) (kids : List Step → List Step) (row : List Stated)
     (once : (q : List Step) (s : Step) → filter (eq_by_cmp step_cmp s) (kids q) ≡ step_if (is_some (look (q ++ s ∷ []))) s) where
@@ -136,8 +88,8 @@ module _ (look : Look) (kids : List Step → List Step) (row : List Stated)
   plain_for : (g : List ℕ) (q : List Step) (s : Step) → is_wildcard s.name ≡ false
       → filter (is_for s) (plain_offers g (kids_at look kids row q)) ≡ map (λ r. group_offer g s (at r)) (live_ones look kids ((q ++ s ∷ []) ∷ []))
   plain_for g q s plain =
-      ap (λ (ns : List Node). filter (is_for s) (map (λ n. group_offer g (last_of n.path) n) ns)) (plain_kids (live_kids look kids q))
-      ∙ kids_for q s (λ r. not (is_wildcard r.name)) (λ n. group_offer g (last_of n.path) n) (λ r. last_is q r)
+      ap (λ (ns : List Node). filter (is_for s) (map (node_offer g) ns)) (plain_kids (live_kids look kids q))
+      ∙ kids_for q s (λ r. not (is_wildcard r.name)) (node_offer g) (λ r. last_is q r)
       ∙ by_live (is_live look (q ++ s ∷ []))
     where
       plain_kids : (ss : List Step) → filter (λ n. not (has_wildcard n)) (map (λ r. at (q ++ r ∷ [])) ss) ≡ map (λ r. at (q ++ r ∷ [])) (filter (λ r. not (is_wildcard r.name)) ss)
@@ -146,67 +98,88 @@ module _ (look : Look) (kids : List Step → List Step) (row : List Stated)
           ∙ (let same : (λ (r : Step). not (has_wildcard (at (q ++ r ∷ [])))) ≡ (λ (r : Step). not (is_wildcard r.name)) = λ i r. not (is_wildcard (last_is q r i).name)
           in ap (λ (u : Step → Bool). map (λ r. at (q ++ r ∷ [])) (filter u ss)) same)
 
-      by_live : (b : Bool) → map (λ n. group_offer g (last_of n.path) n) (map (λ r. at (q ++ r ∷ [])) (filter (λ r. not (is_wildcard r.name)) (step_if b s)))
+      by_live : (b : Bool) → map (node_offer g) (map (λ r. at (q ++ r ∷ [])) (filter (λ r. not (is_wildcard r.name)) (step_if b s)))
           ≡ map (λ r. group_offer g s (at r)) (cond b ((q ++ s ∷ []) ∷ []) [])
       by_live true =
-          ap (λ (c : Bool). map (λ n. group_offer g (last_of n.path) n) (map (λ r. at (q ++ r ∷ [])) (cond (not c) (s ∷ []) []))) plain
+          ap (λ (c : Bool). map (node_offer g) (map (λ r. at (q ++ r ∷ [])) (cond (not c) (s ∷ []) []))) plain
           ∙ ap (λ (t : Step). group_offer g t (at (q ++ s ∷ [])) ∷ []) (last_is q s)
       by_live false = refl
 
-  -- what a node with a wildcard offers for a step
-  matched_for : (g : List ℕ) (p : List Step) (s : Step) (n : Node)
-      → filter (is_for s) (matched_offers (kids_at look kids row p) g n)
-      ≡ cond (is_live look (p ++ s ∷ [])) (cond (fits_wildcard s (last_of n.path)) (group_offer g s n ∷ []) []) []
-  matched_for g p s n = by_wild (has_wildcard n) refl
+  -- what a walk over the configuration's own, over a group's plain offers and over its wildcards picks for a step
+  own_picked : (s : Step) (b : Bool) (ns : List Node) → flat_map (picked s b) (map own_offer ns) ≡ filter (is_for s) (map own_offer ns)
+  own_picked s b [] = refl
+  own_picked s b (n ∷ ns) = by_test (is_for s (own_offer n)) (own_picked s b ns)
     where
-      matched_kids : (ss : List Step) → filter (λ o. fits_wildcard (last_of o.path) (last_of n.path)) (map (λ r. at (p ++ r ∷ [])) ss)
-          ≡ map (λ r. at (p ++ r ∷ [])) (filter (λ r. fits_wildcard r (last_of n.path)) ss)
-      matched_kids ss =
-          filter_map (λ o. fits_wildcard (last_of o.path) (last_of n.path)) (λ r. at (p ++ r ∷ [])) ss
-          ∙ (let same : (λ (r : Step). fits_wildcard (last_of (p ++ r ∷ [])) (last_of n.path)) ≡ (λ (r : Step). fits_wildcard r (last_of n.path)) = λ i r. fits_wildcard (last_is p r i) (last_of n.path)
-          in ap (λ (u : Step → Bool). map (λ r. at (p ++ r ∷ [])) (filter u ss)) same)
+      by_test : (c : Bool) → flat_map (picked s b) (map own_offer ns) ≡ filter (is_for s) (map own_offer ns)
+          → cond c (own_offer n ∷ []) [] ++ flat_map (picked s b) (map own_offer ns) ≡ cond c (own_offer n ∷ filter (is_for s) (map own_offer ns)) (filter (is_for s) (map own_offer ns))
+      by_test true go = ap (λ (os : List Offer). own_offer n ∷ os) go
+      by_test false go = go
 
+  plain_picked : (s : Step) (b : Bool) (g : List ℕ) (ns : List Node) → flat_map (picked s b) (plain_offers g ns) ≡ filter (is_for s) (plain_offers g ns)
+  plain_picked s b g [] = refl
+  plain_picked s b g (n ∷ ns) = by_tests (has_wildcard n) (is_for s (node_offer g n)) refl refl (plain_picked s b g ns)
+    where
+      by_tests : (w c : Bool) → has_wildcard n ≡ w → is_for s (node_offer g n) ≡ c → flat_map (picked s b) (plain_offers g ns) ≡ filter (is_for s) (plain_offers g ns)
+          → flat_map (picked s b) (map (node_offer g) (cond (not w) (n ∷ filter (λ n. not (has_wildcard n)) ns) (filter (λ n. not (has_wildcard n)) ns)))
+          ≡ filter (is_for s) (map (node_offer g) (cond (not w) (n ∷ filter (λ n. not (has_wildcard n)) ns) (filter (λ n. not (has_wildcard n)) ns)))
+      by_tests true c e f go = go
+      by_tests false c e f go =
+          ap (λ (w : Bool). cond w (cond (b && fits_wildcard s (last_of n.path)) (offer_for s (node_offer g n) ∷ []) []) (cond (is_for s (node_offer g n)) (node_offer g n ∷ []) []) ++ flat_map (picked s b) (plain_offers g ns)) e
+          ∙ by_same c f
+        where
+          by_same : (c : Bool) → is_for s (node_offer g n) ≡ c
+              → cond (is_for s (node_offer g n)) (node_offer g n ∷ []) [] ++ flat_map (picked s b) (plain_offers g ns)
+              ≡ cond (is_for s (node_offer g n)) (node_offer g n ∷ filter (is_for s) (plain_offers g ns)) (filter (is_for s) (plain_offers g ns))
+          by_same true k =
+              ap (λ (c : Bool). cond c (node_offer g n ∷ []) [] ++ flat_map (picked s b) (plain_offers g ns)) k ∙ ap (λ (os : List Offer). node_offer g n ∷ os) go
+              ∙ sym (ap (λ (c : Bool). cond c (node_offer g n ∷ filter (is_for s) (plain_offers g ns)) (filter (is_for s) (plain_offers g ns))) k)
+          by_same false k =
+              ap (λ (c : Bool). cond c (node_offer g n ∷ []) [] ++ flat_map (picked s b) (plain_offers g ns)) k ∙ go
+              ∙ sym (ap (λ (c : Bool). cond c (node_offer g n ∷ filter (is_for s) (plain_offers g ns)) (filter (is_for s) (plain_offers g ns))) k)
+
+  abbrev matched : List ℕ → Step → Bool → Node → List Offer
+  matched g s b n = cond b (cond (fits_wildcard s (last_of n.path)) (group_offer g s n ∷ []) []) []
+
+  wild_picked : (s : Step) (b : Bool) (g : List ℕ) (ns : List Node) → flat_map (picked s b) (wild_offers g ns) ≡ flat_map (matched g s b) ns
+  wild_picked s b g [] = refl
+  wild_picked s b g (n ∷ ns) = by_wild (has_wildcard n) refl (wild_picked s b g ns)
+    where
       no_fit : (a b : Bool) → (a && (false && b)) ≡ false
       no_fit true b = refl
       no_fit false b = refl
 
-      by_live : (a b : Bool) → fits_wildcard s (last_of n.path) ≡ b
-          → map (λ o. group_offer g (last_of o.path) n) (map (λ r. at (p ++ r ∷ [])) (filter (λ r. fits_wildcard r (last_of n.path)) (step_if a s)))
-          ≡ cond a (cond b (group_offer g s n ∷ []) []) []
-      by_live true true e =
-          ap (λ (c : Bool). map (λ o. group_offer g (last_of o.path) n) (map (λ r. at (p ++ r ∷ [])) (cond c (s ∷ []) []))) e
-          ∙ ap (λ (t : Step). group_offer g t n ∷ []) (last_is p s)
-      by_live true false e = ap (λ (c : Bool). map (λ o. group_offer g (last_of o.path) n) (map (λ r. at (p ++ r ∷ [])) (cond c (s ∷ []) []))) e
-      by_live false b e = refl
+      both : (b c : Bool) → cond (b && c) (group_offer g s n ∷ []) [] ≡ cond b (cond c (group_offer g s n ∷ []) []) []
+      both true c = refl
+      both false c = refl
 
-      by_wild : (b : Bool) → has_wildcard n ≡ b
-          → filter (is_for s) (cond b (map (λ o. group_offer g (last_of o.path) n) (filter (λ o. fits_wildcard (last_of o.path) (last_of n.path)) (kids_at look kids row p))) [])
-          ≡ cond (is_live look (p ++ s ∷ [])) (cond (fits_wildcard s (last_of n.path)) (group_offer g s n ∷ []) []) []
-      by_wild true e =
-          ap (λ (ns : List Node). filter (is_for s) (map (λ o. group_offer g (last_of o.path) n) ns)) (matched_kids (live_kids look kids p))
-          ∙ kids_for p s (λ r. fits_wildcard r (last_of n.path)) (λ o. group_offer g (last_of o.path) n) (λ r. last_is p r)
-          ∙ by_live (is_live look (p ++ s ∷ [])) (fits_wildcard s (last_of n.path)) refl
-      by_wild false e = by_none (is_live look (p ++ s ∷ []))
+      none : (b : Bool) → [] ≡ cond b (cond false (group_offer g s n ∷ []) []) []
+      none true = refl
+      none false = refl
+
+      by_wild : (w : Bool) → has_wildcard n ≡ w → flat_map (picked s b) (wild_offers g ns) ≡ flat_map (matched g s b) ns
+          → flat_map (picked s b) (map (node_offer g) (cond w (n ∷ filter has_wildcard ns) (filter has_wildcard ns))) ≡ matched g s b n ++ flat_map (matched g s b) ns
+      by_wild true e go =
+          ap (λ (w : Bool). cond w (cond (b && fits_wildcard s (last_of n.path)) (offer_for s (node_offer g n) ∷ []) []) (cond (is_for s (node_offer g n)) (node_offer g n ∷ []) []) ++ flat_map (picked s b) (wild_offers g ns)) e
+          ∙ ap (λ (os : List Offer). os ++ flat_map (picked s b) (wild_offers g ns)) (both b (fits_wildcard s (last_of n.path)))
+          ∙ ap (λ (os : List Offer). matched g s b n ++ os) go
+      by_wild false e go =
+          go
+          ∙ ap (λ (os : List Offer). os ++ flat_map (matched g s b) ns) (none b ∙ sym (ap (λ (c : Bool). cond b (cond c (group_offer g s n ∷ []) []) []) unfit))
         where
           unfit : fits_wildcard s (last_of n.path) ≡ false
           unfit =
               ap (λ (c : Bool). same_word s.head (last_of n.path).head && (c && glob (inner_of (last_of n.path).name) s.name)) e
               ∙ no_fit (same_word s.head (last_of n.path).head) (glob (inner_of (last_of n.path).name) s.name)
 
-          by_none : (b : Bool) → [] ≡ cond b (cond (fits_wildcard s (last_of n.path)) (group_offer g s n ∷ []) []) []
-          by_none true = sym (ap (λ (c : Bool). cond c (group_offer g s n ∷ []) []) unfit)
-          by_none false = refl
-
   abbrev no_offers : Step → List Offer
   no_offers r = []
 
   wild_for : (g : List ℕ) (p : List Step) (s : Step) (q : List Step)
-      → filter (is_for s) (flat_map (matched_offers (kids_at look kids row p) g) (kids_at look kids row q))
+      → flat_map (picked s (is_live look (p ++ s ∷ []))) (wild_offers g (kids_at look kids row q))
       ≡ map (λ r. group_offer g s (at r)) (live_ones look kids (map (λ other. q ++ other ∷ []) (cond (is_live look (p ++ s ∷ [])) (filter (fits_wildcard s) (kids q)) [])))
   wild_for g p s q =
-      filter_flat (is_for s) (matched_offers (kids_at look kids row p) g) (kids_at look kids row q)
-      ∙ flat_same _ _ (matched_for g p s) (kids_at look kids row q)
-      ∙ flat_map_map (λ n. cond (is_live look (p ++ s ∷ [])) (cond (fits_wildcard s (last_of n.path)) (group_offer g s n ∷ []) []) []) (λ r. at (q ++ r ∷ [])) (live_kids look kids q)
+      wild_picked s (is_live look (p ++ s ∷ [])) g (kids_at look kids row q)
+      ∙ flat_map_map (matched g s (is_live look (p ++ s ∷ []))) (λ r. at (q ++ r ∷ [])) (live_kids look kids q)
       ∙ by_live (is_live look (p ++ s ∷ []))
     where
       none_left : (ss : List Step) → flat_map no_offers ss ≡ []
@@ -243,34 +216,36 @@ module _ (look : Look) (kids : List Step → List Step) (row : List Stated)
       by_live true = each (kids q)
       by_live false = none_left (live_kids look kids q)
 
-  -- all that a source offers for a step
+  -- all that a walk over what a source offers picks for a step
   source_for : (p : List Step) (s : Step) (x : given.Source) → is_wildcard s.name ≡ false → children_of (at x.from) ≡ kids_at look kids row x.from
-      → filter (is_for s) (offers_of (kids_at look kids row p) (placed look row x))
+      → flat_map (picked s (is_live look (p ++ s ∷ []))) (offers_of (placed look row x))
       ≡ map (offer_at look row s) (grown (fitting_below look kids (is_live look (p ++ s ∷ [])) s) x)
   source_for p s x plain below =
-      ap (λ (ns : List Node). filter (is_for s) (plain_offers x.group ns ++ flat_map (matched_offers (kids_at look kids row p) x.group) ns)) below
-      ∙ filter-append (is_for s) (plain_offers x.group (kids_at look kids row x.from)) (flat_map (matched_offers (kids_at look kids row p) x.group) (kids_at look kids row x.from))
-      ∙ ap (λ (os : List Offer). os ++ filter (is_for s) (flat_map (matched_offers (kids_at look kids row p) x.group) (kids_at look kids row x.from))) (plain_for x.group x.from s plain)
+      ap (λ (ns : List Node). flat_map (picked s (is_live look (p ++ s ∷ []))) (plain_offers x.group ns ++ wild_offers x.group ns)) below
+      ∙ flat_append (picked s (is_live look (p ++ s ∷ []))) (plain_offers x.group (kids_at look kids row x.from)) (wild_offers x.group (kids_at look kids row x.from))
+      ∙ ap (λ (os : List Offer). os ++ flat_map (picked s (is_live look (p ++ s ∷ []))) (wild_offers x.group (kids_at look kids row x.from)))
+      (plain_picked s (is_live look (p ++ s ∷ [])) x.group (kids_at look kids row x.from) ∙ plain_for x.group x.from s plain)
       ∙ ap (λ (os : List Offer). map (λ r. group_offer x.group s (at r)) (live_ones look kids ((x.from ++ s ∷ []) ∷ [])) ++ os) (wild_for x.group p s x.from)
       ∙ sym (map_append (λ r. group_offer x.group s (at r)) (live_ones look kids ((x.from ++ s ∷ []) ∷ []))
       (live_ones look kids (map (λ other. x.from ++ other ∷ []) (cond (is_live look (p ++ s ∷ [])) (filter (fits_wildcard s) (kids x.from)) []))))
       ∙ sym (map_map (offer_at look row s) (given.source x.group) (fitting_below look kids (is_live look (p ++ s ∷ [])) s x.from))
 
-  -- the offers of a level for a step
+  -- what a walk over the offers of a level picks for a step
   pub offers_for : (p : List Step) (s : Step) → is_wildcard s.name ≡ false
       → AllByRecursion (λ x. children_of (at x.from) ≡ kids_at look kids row x.from) (front look kids p)
-      → filter (is_for s) (offered (kids_at look kids row p) (map (placed look row) (front look kids p))) ≡ run_at look kids row p s
+      → flat_map (picked s (is_live look (p ++ s ∷ []))) (offered (kids_at look kids row p) (map (placed look row) (front look kids p))) ≡ run_at look kids row p s
   offers_for p s plain below =
-      filter-append (is_for s) (map own_offer (kids_at look kids row p)) (flat_map (offers_of (kids_at look kids row p)) (map (placed look row) (front look kids p)))
-      ∙ ap (λ (os : List Offer). os ++ filter (is_for s) (flat_map (offers_of (kids_at look kids row p)) (map (placed look row) (front look kids p)))) (own_for p s)
+      flat_append (picked s (is_live look (p ++ s ∷ []))) (map own_offer (kids_at look kids row p)) (flat_map offers_of (map (placed look row) (front look kids p)))
+      ∙ ap (λ (os : List Offer). os ++ flat_map (picked s (is_live look (p ++ s ∷ []))) (flat_map offers_of (map (placed look row) (front look kids p))))
+      (own_picked s (is_live look (p ++ s ∷ [])) (kids_at look kids row p) ∙ own_for p s)
       ∙ ap (λ (os : List Offer). cond (is_live look (p ++ s ∷ [])) (own_offer (at (p ++ s ∷ [])) ∷ []) [] ++ os)
-      (filter_flat (is_for s) (offers_of (kids_at look kids row p)) (map (placed look row) (front look kids p))
-      ∙ flat_map_map (λ y. filter (is_for s) (offers_of (kids_at look kids row p) y)) (placed look row) (front look kids p)
+      (flat_flat (picked s (is_live look (p ++ s ∷ []))) offers_of (map (placed look row) (front look kids p))
+      ∙ flat_map_map (λ y. flat_map (picked s (is_live look (p ++ s ∷ []))) (offers_of y)) (placed look row) (front look kids p)
       ∙ flat_same_all _ _ (front look kids p) (each_source (front look kids p) below)
       ∙ sym (map_flat (offer_at look row s) (grown (fitting_below look kids (is_live look (p ++ s ∷ [])) s)) (front look kids p))
       ∙ ap (map (offer_at look row s)) (sym (raw_more look kids p s)))
     where
       each_source : (xs : List given.Source) → AllByRecursion (λ x. children_of (at x.from) ≡ kids_at look kids row x.from) xs
-          → AllByRecursion (λ x. filter (is_for s) (offers_of (kids_at look kids row p) (placed look row x)) ≡ map (offer_at look row s) (grown (fitting_below look kids (is_live look (p ++ s ∷ [])) s) x)) xs
+          → AllByRecursion (λ x. flat_map (picked s (is_live look (p ++ s ∷ []))) (offers_of (placed look row x)) ≡ map (offer_at look row s) (grown (fitting_below look kids (is_live look (p ++ s ∷ [])) s) x)) xs
       each_source [] h = tt
       each_source (x ∷ xs) h = (source_for p s x plain h.0, each_source xs h.1)

@@ -1,4 +1,4 @@
--- The offers of a level, step by step.
+-- The plain offers of a level, step by step.
 use Rattle.std.proofs.Common.{◌≡◌, ◌⊎◌, inl, inr, ℕ, zero, suc, ◌+◌, ◌<◌, ◌≤◌, Bool, true, false, not, cond, List, [], ◌∷◌, length, filter, take, drop, get_or, refl, sym, ap, subst, ◌∙◌, arith, nat_lt, Option, Some, None}
 use Rattle.std.specs.Prelude.{unwrap_or}
 use Rattle.std.specs.List.{AllByRecursion, prefix_len, position}
@@ -10,7 +10,7 @@ use Rattle.std.specs.declared.cmp.Ordering.TheVariants.{Less, Equal, Greater}
 use Rattle.cfg_base.specs.Order.{step_cmp, steps_total}
 use Rattle.cfg_base.specs.declared.path.Step.{Step}
 use Rattle.cfg_tree.proofs.MapLemmas.{same_step}
-use Rattle.group_expand.specs.Offer.{Offer, is_for, comes_before, Climbs}
+use Rattle.group_expand.specs.Level.{Ranked, is_at, comes_before, Climbs}
 use Rattle.group_expand.specs.Runs.{first_step, run_length, with_first, steps_of}
 use Rattle.group_expand.proofs.OfferLemmas.{ranks}
 use Rattle.group_expand.proofs.ListedLemmas.{Among}
@@ -31,30 +31,30 @@ le_cases Equal h = inr refl
 le_cases Greater h = cc
 
 -- a step before the first of the offers is before all
-before_all : (s t : Step) → step_cmp s t ≡ Less → (os : List Offer) → AllByRecursion (λ x. is_le (step_cmp t x.step) ≡ true) os → AllByRecursion (λ x. step_cmp s x.step ≡ Less) os
+before_all : (s t : Step) → step_cmp s t ≡ Less → (os : List Ranked) → AllByRecursion (λ x. is_le (step_cmp t x.offer.step) ≡ true) os → AllByRecursion (λ x. step_cmp s x.offer.step ≡ Less) os
 before_all s t less [] h = tt
 before_all s t less (o ∷ os) h = (
   elim (le_cases _ h.0) [
-    | inl l ↦ steps_total.trans s t o.step less l
-    | inr e ↦ subst (λ (u : Step). step_cmp s u ≡ Less) ((same_step t o.step).0 e) less
+    | inl l ↦ steps_total.trans s t o.offer.step less l
+    | inr e ↦ subst (λ (u : Step). step_cmp s u ≡ Less) ((same_step t o.offer.step).0 e) less
   ],
   before_all s t less os h.1,
 )
 
-none_for : (s : Step) (os : List Offer) → AllByRecursion (λ x. step_cmp s x.step ≡ Less) os → filter (is_for s) os ≡ []
+none_for : (s : Step) (os : List Ranked) → AllByRecursion (λ x. step_cmp s x.offer.step ≡ Less) os → filter (is_at s) os ≡ []
 none_for s [] h = refl
-none_for s (o ∷ os) h = ap (λ (b : Bool). cond b (o ∷ filter (is_for s) os) (filter (is_for s) os)) (less_not_equal _ h.0) ∙ none_for s os h.1
+none_for s (o ∷ os) h = ap (λ (b : Bool). cond b (o ∷ filter (is_at s) os) (filter (is_at s) os)) (less_not_equal _ h.0) ∙ none_for s os h.1
 
-all_other : (s : Step) (os : List Offer) → AllByRecursion (λ x. step_cmp s x.step ≡ Less) os → filter (λ x. not (is_for s x)) os ≡ os
+all_other : (s : Step) (os : List Ranked) → AllByRecursion (λ x. step_cmp s x.offer.step ≡ Less) os → filter (λ x. not (is_at s x)) os ≡ os
 all_other s [] h = refl
 all_other s (o ∷ os) h =
-    ap (λ (b : Bool). cond (not b) (o ∷ filter (λ x. not (is_for s x)) os) (filter (λ x. not (is_for s x)) os)) (less_not_equal _ h.0)
-    ∙ ap (λ (xs : List Offer). o ∷ xs) (all_other s os h.1)
+    ap (λ (b : Bool). cond (not b) (o ∷ filter (λ x. not (is_at s x)) os) (filter (λ x. not (is_at s x)) os)) (less_not_equal _ h.0)
+    ∙ ap (λ (xs : List Ranked). o ∷ xs) (all_other s os h.1)
 
 -- the offers for the first step stand together in front
 module _ (s : Step) where
-  abbrev NotBefore : List Offer → Type 0
-  NotBefore os = AllByRecursion (λ x. is_le (step_cmp s x.step) ≡ true) os
+  abbrev NotBefore : List Ranked → Type 0
+  NotBefore os = AllByRecursion (λ x. is_le (step_cmp s x.offer.step) ≡ true) os
 
   take_one_more : {X : Type 0} (x : X) (xs : List X) (k : ℕ) → take (1 + k) (x ∷ xs) ≡ x ∷ take k xs
   take_one_more x xs k = let e : 1 + k ≡ suc k = omega arith in ap (λ (j : ℕ). take j (x ∷ xs)) e
@@ -62,35 +62,35 @@ module _ (s : Step) where
   drop_one_more : {X : Type 0} (x : X) (xs : List X) (k : ℕ) → drop (1 + k) (x ∷ xs) ≡ drop k xs
   drop_one_more x xs k = let e : 1 + k ≡ suc k = omega arith in ap (λ (j : ℕ). drop j (x ∷ xs)) e
 
-  pub run_front : (os : List Offer) → NotBefore os → Climbs os
-      → (take (prefix_len (is_for s) os) os ≡ filter (is_for s) os) × (drop (prefix_len (is_for s) os) os ≡ filter (λ x. not (is_for s x)) os)
+  pub run_front : (os : List Ranked) → NotBefore os → Climbs os
+      → (take (prefix_len (is_at s) os) os ≡ filter (is_at s) os) × (drop (prefix_len (is_at s) os) os ≡ filter (λ x. not (is_at s x)) os)
   run_front [] h c = (refl, refl)
-  run_front (o ∷ os) h c = by_test (is_for s o) refl (run_front os h.1 c.1)
+  run_front (o ∷ os) h c = by_test (is_at s o) refl (run_front os h.1 c.1)
     where
-      by_test : (b : Bool) → is_for s o ≡ b
-          → (take (prefix_len (is_for s) os) os ≡ filter (is_for s) os) × (drop (prefix_len (is_for s) os) os ≡ filter (λ x. not (is_for s x)) os)
-          → (take (cond b (1 + prefix_len (is_for s) os) 0) (o ∷ os) ≡ cond b (o ∷ filter (is_for s) os) (filter (is_for s) os))
-          × (drop (cond b (1 + prefix_len (is_for s) os) 0) (o ∷ os) ≡ cond (not b) (o ∷ filter (λ x. not (is_for s x)) os) (filter (λ x. not (is_for s x)) os))
+      by_test : (b : Bool) → is_at s o ≡ b
+          → (take (prefix_len (is_at s) os) os ≡ filter (is_at s) os) × (drop (prefix_len (is_at s) os) os ≡ filter (λ x. not (is_at s x)) os)
+          → (take (cond b (1 + prefix_len (is_at s) os) 0) (o ∷ os) ≡ cond b (o ∷ filter (is_at s) os) (filter (is_at s) os))
+          × (drop (cond b (1 + prefix_len (is_at s) os) 0) (o ∷ os) ≡ cond (not b) (o ∷ filter (λ x. not (is_at s x)) os) (filter (λ x. not (is_at s x)) os))
       by_test true e go =
-          (take_one_more o os (prefix_len (is_for s) os) ∙ ap (λ (xs : List Offer). o ∷ xs) go.0, drop_one_more o os (prefix_len (is_for s) os) ∙ go.1)
+          (take_one_more o os (prefix_len (is_at s) os) ∙ ap (λ (xs : List Ranked). o ∷ xs) go.0, drop_one_more o os (prefix_len (is_at s) os) ∙ go.1)
       by_test false e go =
-          let later = before_all s o.step (less_of _ h.0 e) os c.0
-          in (sym (none_for s os later), ap (λ (xs : List Offer). o ∷ xs) (sym (all_other s os later)))
+          let later = before_all s o.offer.step (less_of _ h.0 e) os c.0
+          in (sym (none_for s os later), ap (λ (xs : List Ranked). o ∷ xs) (sym (all_other s os later)))
 
-  climbs_left : (os : List Offer) → Climbs os → Climbs (filter (λ x. not (is_for s x)) os)
+  climbs_left : (os : List Ranked) → Climbs os → Climbs (filter (λ x. not (is_at s x)) os)
   climbs_left [] c = tt
-  climbs_left (o ∷ os) c = by_test (is_for s o) (climbs_left os c.1)
+  climbs_left (o ∷ os) c = by_test (is_at s o) (climbs_left os c.1)
     where
-      kept : (xs : List Offer) → AllByRecursion (λ x. is_le (step_cmp o.step x.step) ≡ true) xs → AllByRecursion (λ x. is_le (step_cmp o.step x.step) ≡ true) (filter (λ x. not (is_for s x)) xs)
+      kept : (xs : List Ranked) → AllByRecursion (λ x. is_le (step_cmp o.offer.step x.offer.step) ≡ true) xs → AllByRecursion (λ x. is_le (step_cmp o.offer.step x.offer.step) ≡ true) (filter (λ x. not (is_at s x)) xs)
       kept [] h = tt
-      kept (x ∷ xs) h = by_x (is_for s x) (kept xs h.1)
+      kept (x ∷ xs) h = by_x (is_at s x) (kept xs h.1)
         where
-          by_x : (b : Bool) → AllByRecursion (λ x. is_le (step_cmp o.step x.step) ≡ true) (filter (λ x. not (is_for s x)) xs)
-              → AllByRecursion (λ x. is_le (step_cmp o.step x.step) ≡ true) (cond (not b) (x ∷ filter (λ x. not (is_for s x)) xs) (filter (λ x. not (is_for s x)) xs))
+          by_x : (b : Bool) → AllByRecursion (λ x. is_le (step_cmp o.offer.step x.offer.step) ≡ true) (filter (λ x. not (is_at s x)) xs)
+              → AllByRecursion (λ x. is_le (step_cmp o.offer.step x.offer.step) ≡ true) (cond (not b) (x ∷ filter (λ x. not (is_at s x)) xs) (filter (λ x. not (is_at s x)) xs))
           by_x true k = k
           by_x false k = (h.0, k)
 
-      by_test : (b : Bool) → Climbs (filter (λ x. not (is_for s x)) os) → Climbs (cond (not b) (o ∷ filter (λ x. not (is_for s x)) os) (filter (λ x. not (is_for s x)) os))
+      by_test : (b : Bool) → Climbs (filter (λ x. not (is_at s x)) os) → Climbs (cond (not b) (o ∷ filter (λ x. not (is_at s x)) os) (filter (λ x. not (is_at s x)) os))
       by_test true k = k
       by_test false k = (kept os c.0, k)
 
@@ -103,29 +103,29 @@ self_le s = by_eq (step_cmp s s) ((same_step s s).1 refl)
     by_eq Equal e = refl
     by_eq Greater e = cc
 
-pub steps_first : (o : Offer) (os : List Offer) → Climbs (o ∷ os) → steps_of (o ∷ os) ≡ o.step ∷ steps_of (filter (λ x. not (is_for o.step x)) os)
+pub steps_first : (o : Ranked) (os : List Ranked) → Climbs (o ∷ os) → steps_of (o ∷ os) ≡ o.offer.step ∷ steps_of (filter (λ x. not (is_at o.offer.step x)) os)
 steps_first o [] c = refl
-steps_first o (x ∷ os) c = by_test (is_for o.step x) refl (steps_first x os c.1)
+steps_first o (x ∷ os) c = by_test (is_at o.offer.step x) refl (steps_first x os c.1)
   where
-    by_test : (b : Bool) → is_for o.step x ≡ b → with_first x.step (steps_of os) ≡ x.step ∷ steps_of (filter (λ y. not (is_for x.step y)) os)
-        → with_first o.step (with_first x.step (steps_of os)) ≡ o.step ∷ steps_of (cond (not b) (x ∷ filter (λ y. not (is_for o.step y)) os) (filter (λ y. not (is_for o.step y)) os))
+    by_test : (b : Bool) → is_at o.offer.step x ≡ b → with_first x.offer.step (steps_of os) ≡ x.offer.step ∷ steps_of (filter (λ y. not (is_at x.offer.step y)) os)
+        → with_first o.offer.step (with_first x.offer.step (steps_of os)) ≡ o.offer.step ∷ steps_of (cond (not b) (x ∷ filter (λ y. not (is_at o.offer.step y)) os) (filter (λ y. not (is_at o.offer.step y)) os))
     by_test true e go =
-        let same : o.step ≡ x.step = (same_step o.step x.step).0 e
-        in ap (with_first o.step) go
-        ∙ ap (λ (b : Bool). cond b (x.step ∷ steps_of (filter (λ y. not (is_for x.step y)) os)) (o.step ∷ x.step ∷ steps_of (filter (λ y. not (is_for x.step y)) os))) e
-        ∙ (λ i. same' i ∷ steps_of (filter (λ y. not (is_for (same' i) y)) os))
+        let same : o.offer.step ≡ x.offer.step = (same_step o.offer.step x.offer.step).0 e
+        in ap (with_first o.offer.step) go
+        ∙ ap (λ (b : Bool). cond b (x.offer.step ∷ steps_of (filter (λ y. not (is_at x.offer.step y)) os)) (o.offer.step ∷ x.offer.step ∷ steps_of (filter (λ y. not (is_at x.offer.step y)) os))) e
+        ∙ (λ i. same' i ∷ steps_of (filter (λ y. not (is_at (same' i) y)) os))
       where
-        same' : x.step ≡ o.step
-        same' = sym ((same_step o.step x.step).0 e)
+        same' : x.offer.step ≡ o.offer.step
+        same' = sym ((same_step o.offer.step x.offer.step).0 e)
     by_test false e go =
-        let others : filter (λ y. not (is_for o.step y)) os ≡ os = all_other o.step os (before_all o.step x.step (less_of _ c.0.0 e) os c.1.0)
-        in ap (with_first o.step) go
-        ∙ ap (λ (b : Bool). cond b (x.step ∷ steps_of (filter (λ y. not (is_for x.step y)) os)) (o.step ∷ x.step ∷ steps_of (filter (λ y. not (is_for x.step y)) os))) e
-        ∙ ap (λ (ss : List Step). o.step ∷ ss) (sym go)
-        ∙ ap (λ (xs : List Offer). o.step ∷ steps_of (x ∷ xs)) (sym others)
+        let others : filter (λ y. not (is_at o.offer.step y)) os ≡ os = all_other o.offer.step os (before_all o.offer.step x.offer.step (less_of _ c.0.0 e) os c.1.0)
+        in ap (with_first o.offer.step) go
+        ∙ ap (λ (b : Bool). cond b (x.offer.step ∷ steps_of (filter (λ y. not (is_at x.offer.step y)) os)) (o.offer.step ∷ x.offer.step ∷ steps_of (filter (λ y. not (is_at x.offer.step y)) os))) e
+        ∙ ap (λ (ss : List Step). o.offer.step ∷ ss) (sym go)
+        ∙ ap (λ (xs : List Ranked). o.offer.step ∷ steps_of (x ∷ xs)) (sym others)
 
 -- the offers' own order
-all_read : (P : Offer → Type 0) (xs : List Offer) → ((i : ℕ) (d : Offer) → i < length xs → P (get_or xs i d)) → AllByRecursion P xs
+all_read : (P : Ranked → Type 0) (xs : List Ranked) → ((i : ℕ) (d : Ranked) → i < length xs → P (get_or xs i d)) → AllByRecursion P xs
 all_read P [] h = tt
 all_read P (x ∷ xs) h = (h zero x (omega arith), all_read P xs (λ i d l. h (suc i) d (omega (arith, l))))
 
@@ -137,14 +137,14 @@ not_behind s t e = by_order (step_cmp t s) (steps_total.antisymm s t) e
     by_order Equal h e = ap is_le h
     by_order Greater h e = ap is_le h
 
-climbs_far : (os : List Offer) → ((i j : ℕ) (d : Offer) → i < j → j < length os → is_lt (step_cmp (get_or os j d).step (get_or os i d).step) ≡ false) → Climbs os
+climbs_far : (os : List Ranked) → ((i j : ℕ) (d : Ranked) → i < j → j < length os → is_lt (step_cmp (get_or os j d).offer.step (get_or os i d).offer.step) ≡ false) → Climbs os
 climbs_far [] h = tt
 climbs_far (o ∷ os) h = (
-  all_read (λ r. is_le (step_cmp o.step r.step) ≡ true) os (λ i d l. not_behind o.step (get_or os i d).step (h zero (suc i) d (omega arith) (omega (arith, l)))),
+  all_read (λ r. is_le (step_cmp o.offer.step r.offer.step) ≡ true) os (λ i d l. not_behind o.offer.step (get_or os i d).offer.step (h zero (suc i) d (omega arith) (omega (arith, l)))),
   climbs_far os (λ i j d l m. h (suc i) (suc j) d (omega (arith, l)) (omega (arith, m))),
 )
 
-pub climbs : (os : List Offer) → IsSortedBy comes_before os → Climbs os
+pub climbs : (os : List Ranked) → IsSortedBy comes_before os → Climbs os
 climbs os up = climbs_far os (λ i j d l m. sorted_far _ ranks os up i j d (omega (arith, l)) m)
 
 -- steps in order that are the same are one list
@@ -187,108 +187,108 @@ prefix_most t (x ∷ xs) = by_test (t x) (prefix_most t xs)
     by_test true h = omega (arith, h)
     by_test false h = omega (arith, h)
 
-prefix_told : (s : Step) (level : List Offer) (o : Option ℕ) → o ≡ position (λ x. not (is_for s x)) level → unwrap_or o (length level) ≡ prefix_len (is_for s) level
-prefix_told s level o e = ap (λ (p : Option ℕ). unwrap_or p (length level)) e ∙ by_order (nat_lt (prefix_len (λ x. not (not (is_for s x))) level) (length level)) refl ∙ ap (λ (t : Offer → Bool). prefix_len t level) twice
+pub prefix_told : {X : Type 0} (t : X → Bool) (xs : List X) (o : Option ℕ) → o ≡ position (λ x. not (t x)) xs → unwrap_or o (length xs) ≡ prefix_len t xs
+prefix_told {X} t xs o e = ap (λ (p : Option ℕ). unwrap_or p (length xs)) e ∙ by_order (nat_lt (prefix_len (λ x. not (not (t x))) xs) (length xs)) refl ∙ ap (λ (u : X → Bool). prefix_len u xs) twice
   where
     not_not : (b : Bool) → not (not b) ≡ b
     not_not true = refl
     not_not false = refl
 
-    twice : (λ (x : Offer). not (not (is_for s x))) ≡ is_for s
-    twice = λ i x. not_not (is_for s x) i
+    twice : (λ (x : X). not (not (t x))) ≡ t
+    twice = λ i x. not_not (t x) i
 
-    by_order : (b : Bool) → nat_lt (prefix_len (λ x. not (not (is_for s x))) level) (length level) ≡ b
-        → unwrap_or (cond b (Some (prefix_len (λ x. not (not (is_for s x))) level)) None) (length level) ≡ prefix_len (λ x. not (not (is_for s x))) level
+    by_order : (b : Bool) → nat_lt (prefix_len (λ x. not (not (t x))) xs) (length xs) ≡ b
+        → unwrap_or (cond b (Some (prefix_len (λ x. not (not (t x))) xs)) None) (length xs) ≡ prefix_len (λ x. not (not (t x))) xs
     by_order true e = refl
-    by_order false e = let k = prefix_most (λ (x : Offer). not (not (is_for s x))) level in grind (arith, k)
+    by_order false e = let k = prefix_most (λ (x : X). not (not (t x))) xs in grind (arith, k)
 
-pub run_told : (level : List Offer) (first : Offer) (s : Step) (o : Option ℕ) → 0 < length level → first ≡ get_or level 0 first → s ≡ first.step
-    → o ≡ position (λ x. not (is_for s x)) level → unwrap_or o (length level) ≡ run_length level
+pub run_told : (level : List Ranked) (first : Ranked) (s : Step) (o : Option ℕ) → 0 < length level → first ≡ get_or level 0 first → s ≡ first.offer.step
+    → o ≡ position (λ x. not (is_at s x)) level → unwrap_or o (length level) ≡ run_length level
 run_told [] first s o some is e f = absurd (omega (arith, some))
-run_told (x ∷ os) first s o some is e f = prefix_told s (x ∷ os) o f ∙ ap (λ (t : Step). prefix_len (is_for t) (x ∷ os)) (e ∙ ap (λ (y : Offer). y.step) is)
+run_told (x ∷ os) first s o some is e f = prefix_told (is_at s) (x ∷ os) o f ∙ ap (λ (t : Step). prefix_len (is_at t) (x ∷ os)) (e ∙ ap (λ (y : Ranked). y.offer.step) is)
 
 -- how far a walk over the runs of a level has come
-pub record IsRunWay (level left : List Offer) : Type 0 where
+pub record IsRunWay (level left : List Ranked) : Type 0 where
   pub climbs_on : Climbs left
-  pub alike : (s : Step) → (filter (is_for s) left ≡ []) ⊎ (filter (is_for s) left ≡ filter (is_for s) level)
+  pub alike : (s : Step) → (filter (is_at s) left ≡ []) ⊎ (filter (is_at s) left ≡ filter (is_at s) level)
 
-pub way_start : (level : List Offer) → Climbs level → IsRunWay level level
+pub way_start : (level : List Ranked) → Climbs level → IsRunWay level level
 way_start level c = record { climbs_on = c; alike = λ s. inr refl }
 
 -- where offers are left, the level has some
-pub way_some : (level left : List Offer) → IsRunWay level left → 0 < length left → 0 < length level
+pub way_some : (level left : List Ranked) → IsRunWay level left → 0 < length left → 0 < length level
 way_some (x ∷ level) left way some = omega arith
 way_some [] [] way some = absurd (omega (arith, some))
-way_some [] (o ∷ os) way some = absurd (elim (way.alike o.step) [ inl e ↦ none e | inr e ↦ none e ])
+way_some [] (o ∷ os) way some = absurd (elim (way.alike o.offer.step) [ inl e ↦ none e | inr e ↦ none e ])
   where
-    clash : {x : Offer} {xs : List Offer} → x ∷ xs ≡ [] → ⊥
+    clash : {x : Ranked} {xs : List Ranked} → x ∷ xs ≡ [] → ⊥
     clash e = cc
 
-    none : filter (is_for o.step) (o ∷ os) ≡ [] → ⊥
-    none e = clash (sym (ap (λ (b : Bool). cond b (o ∷ filter (is_for o.step) os) (filter (is_for o.step) os)) ((same_step o.step o.step).1 refl)) ∙ e)
+    none : filter (is_at o.offer.step) (o ∷ os) ≡ [] → ⊥
+    none e = clash (sym (ap (λ (b : Bool). cond b (o ∷ filter (is_at o.offer.step) os) (filter (is_at o.offer.step) os)) ((same_step o.offer.step o.offer.step).1 refl)) ∙ e)
 
-all_self : (s : Step) (os : List Offer) → filter (is_for s) (filter (λ x. not (is_for s x)) os) ≡ []
+all_self : (s : Step) (os : List Ranked) → filter (is_at s) (filter (λ x. not (is_at s x)) os) ≡ []
 all_self s [] = refl
-all_self s (o ∷ os) = by_test (is_for s o) refl (all_self s os)
+all_self s (o ∷ os) = by_test (is_at s o) refl (all_self s os)
   where
-    by_test : (b : Bool) → is_for s o ≡ b → filter (is_for s) (filter (λ x. not (is_for s x)) os) ≡ []
-        → filter (is_for s) (cond (not b) (o ∷ filter (λ x. not (is_for s x)) os) (filter (λ x. not (is_for s x)) os)) ≡ []
+    by_test : (b : Bool) → is_at s o ≡ b → filter (is_at s) (filter (λ x. not (is_at s x)) os) ≡ []
+        → filter (is_at s) (cond (not b) (o ∷ filter (λ x. not (is_at s x)) os) (filter (λ x. not (is_at s x)) os)) ≡ []
     by_test true e go = go
-    by_test false e go = ap (λ (b : Bool). cond b (o ∷ filter (is_for s) (filter (λ x. not (is_for s x)) os)) (filter (is_for s) (filter (λ x. not (is_for s x)) os))) e ∙ go
+    by_test false e go = ap (λ (b : Bool). cond b (o ∷ filter (is_at s) (filter (λ x. not (is_at s x)) os)) (filter (is_at s) (filter (λ x. not (is_at s x)) os))) e ∙ go
 
-all_others : (s t : Step) → eq_by_cmp step_cmp t s ≡ false → (os : List Offer) → filter (is_for t) (filter (λ x. not (is_for s x)) os) ≡ filter (is_for t) os
+all_others : (s t : Step) → eq_by_cmp step_cmp t s ≡ false → (os : List Ranked) → filter (is_at t) (filter (λ x. not (is_at s x)) os) ≡ filter (is_at t) os
 all_others s t apart [] = refl
-all_others s t apart (o ∷ os) = by_tests (is_for s o) (is_for t o) refl refl (all_others s t apart os)
+all_others s t apart (o ∷ os) = by_tests (is_at s o) (is_at t o) refl refl (all_others s t apart os)
   where
-    by_tests : (a b : Bool) → is_for s o ≡ a → is_for t o ≡ b → filter (is_for t) (filter (λ x. not (is_for s x)) os) ≡ filter (is_for t) os
-        → filter (is_for t) (cond (not a) (o ∷ filter (λ x. not (is_for s x)) os) (filter (λ x. not (is_for s x)) os)) ≡ cond b (o ∷ filter (is_for t) os) (filter (is_for t) os)
+    by_tests : (a b : Bool) → is_at s o ≡ a → is_at t o ≡ b → filter (is_at t) (filter (λ x. not (is_at s x)) os) ≡ filter (is_at t) os
+        → filter (is_at t) (cond (not a) (o ∷ filter (λ x. not (is_at s x)) os) (filter (λ x. not (is_at s x)) os)) ≡ cond b (o ∷ filter (is_at t) os) (filter (is_at t) os)
     by_tests true true e f go =
-        let same : t ≡ s = (same_step t o.step).0 f ∙ sym ((same_step s o.step).0 e)
+        let same : t ≡ s = (same_step t o.offer.step).0 f ∙ sym ((same_step s o.offer.step).0 e)
         in let k : eq_by_cmp step_cmp t s ≡ true = (same_step t s).1 same in let c = sym k ∙ apart in cc
     by_tests true false e f go = go
     by_tests false b e f go =
-        ap (λ (c : Bool). cond c (o ∷ filter (is_for t) (filter (λ x. not (is_for s x)) os)) (filter (is_for t) (filter (λ x. not (is_for s x)) os))) f
-        ∙ ap (λ (xs : List Offer). cond b (o ∷ xs) xs) go
+        ap (λ (c : Bool). cond c (o ∷ filter (is_at t) (filter (λ x. not (is_at s x)) os)) (filter (is_at t) (filter (λ x. not (is_at s x)) os))) f
+        ∙ ap (λ (xs : List Ranked). cond b (o ∷ xs) xs) go
 
 -- one run more: it is all that the level has for its step, and what stands behind goes on
-pub record IsRunStep (level left run rest : List Offer) : Type 0 where
+pub record IsRunStep (level left run rest : List Ranked) : Type 0 where
   pub step : Step
   pub first : (d : Step) → first_step run d ≡ step
   pub ahead : (d : Step) → first_step left d ≡ step
   pub some : 0 < length run
   pub steps : steps_of left ≡ step ∷ steps_of rest
-  pub whole : run ≡ filter (is_for step) level
+  pub whole : run ≡ filter (is_at step) level
   pub on : IsRunWay level rest
   pub shorter : length rest < length left
 
-pub run_step : (level left run rest : List Offer) → IsRunWay level left → 0 < length left → run ≡ take (run_length left) left → rest ≡ drop (run_length left) left
+pub run_step : (level left run rest : List Ranked) → IsRunWay level left → 0 < length left → run ≡ take (run_length left) left → rest ≡ drop (run_length left) left
     → IsRunStep level left run rest
 run_step level [] run rest way some e f = absurd (omega (arith, some))
 run_step level (o ∷ os) run rest way some e f =
     let c = way.climbs_on
-    in let itself : is_for o.step o ≡ true = (same_step o.step o.step).1 refl
-    in let split = run_front o.step (o ∷ os) (self_le o.step, c.0) c
-    in let run_is : run ≡ o ∷ filter (is_for o.step) os = e ∙ split.0 ∙ ap (λ (b : Bool). cond b (o ∷ filter (is_for o.step) os) (filter (is_for o.step) os)) itself
-    in let rest_is : rest ≡ filter (λ x. not (is_for o.step x)) os
-    = f ∙ split.1 ∙ ap (λ (b : Bool). cond (not b) (o ∷ filter (λ x. not (is_for o.step x)) os) (filter (λ x. not (is_for o.step x)) os)) itself
+    in let itself : is_at o.offer.step o ≡ true = (same_step o.offer.step o.offer.step).1 refl
+    in let split = run_front o.offer.step (o ∷ os) (self_le o.offer.step, c.0) c
+    in let run_is : run ≡ o ∷ filter (is_at o.offer.step) os = e ∙ split.0 ∙ ap (λ (b : Bool). cond b (o ∷ filter (is_at o.offer.step) os) (filter (is_at o.offer.step) os)) itself
+    in let rest_is : rest ≡ filter (λ x. not (is_at o.offer.step x)) os
+    = f ∙ split.1 ∙ ap (λ (b : Bool). cond (not b) (o ∷ filter (λ x. not (is_at o.offer.step x)) os) (filter (λ x. not (is_at o.offer.step x)) os)) itself
     in record {
-      step = o.step;
-      first = λ d. ap (λ (xs : List Offer). first_step xs d) run_is;
+      step = o.offer.step;
+      first = λ d. ap (λ (xs : List Ranked). first_step xs d) run_is;
       ahead = λ d. refl;
-      some = subst (λ (xs : List Offer). 0 < length xs) (sym run_is) (omega arith);
-      steps = steps_first o os c ∙ ap (λ (xs : List Offer). o.step ∷ steps_of xs) (sym rest_is);
-      whole = elim (way.alike o.step) [
-        | inl none ↦ absurd (clash (sym (ap (λ (b : Bool). cond b (o ∷ filter (is_for o.step) os) (filter (is_for o.step) os)) itself) ∙ none))
+      some = subst (λ (xs : List Ranked). 0 < length xs) (sym run_is) (omega arith);
+      steps = steps_first o os c ∙ ap (λ (xs : List Ranked). o.offer.step ∷ steps_of xs) (sym rest_is);
+      whole = elim (way.alike o.offer.step) [
+        | inl none ↦ absurd (clash (sym (ap (λ (b : Bool). cond b (o ∷ filter (is_at o.offer.step) os) (filter (is_at o.offer.step) os)) itself) ∙ none))
         | inr same ↦ e ∙ split.0 ∙ same
       ];
-      on = subst (λ (xs : List Offer). IsRunWay level xs) (sym rest_is) (record { climbs_on = climbs_left o.step os c.1; alike = others os c });
-      shorter = subst (λ (xs : List Offer). length xs < length (o ∷ os)) (sym rest_is) (let k = fewer (λ x. not (is_for o.step x)) os in omega (arith, k));
+      on = subst (λ (xs : List Ranked). IsRunWay level xs) (sym rest_is) (record { climbs_on = climbs_left o.offer.step os c.1; alike = others os c });
+      shorter = subst (λ (xs : List Ranked). length xs < length (o ∷ os)) (sym rest_is) (let k = fewer (λ x. not (is_at o.offer.step x)) os in omega (arith, k));
     }
   where
-    clash : {x : Offer} {xs : List Offer} → x ∷ xs ≡ [] → ⊥
+    clash : {x : Ranked} {xs : List Ranked} → x ∷ xs ≡ [] → ⊥
     clash e = cc
 
-    fewer : (t : Offer → Bool) (xs : List Offer) → length (filter t xs) ≤ length xs
+    fewer : (t : Ranked → Bool) (xs : List Ranked) → length (filter t xs) ≤ length xs
     fewer t [] = omega arith
     fewer t (x ∷ xs) = by_test (t x) (fewer t xs)
       where
@@ -296,13 +296,13 @@ run_step level (o ∷ os) run rest way some e f =
         by_test true h = omega (arith, h)
         by_test false h = omega (arith, h)
 
-    others : (xs : List Offer) → Climbs (o ∷ xs) → (t : Step) → (filter (is_for t) (filter (λ x. not (is_for o.step x)) os) ≡ []) ⊎ (filter (is_for t) (filter (λ x. not (is_for o.step x)) os) ≡ filter (is_for t) level)
-    others xs c t = by_test (eq_by_cmp step_cmp t o.step) refl
+    others : (xs : List Ranked) → Climbs (o ∷ xs) → (t : Step) → (filter (is_at t) (filter (λ x. not (is_at o.offer.step x)) os) ≡ []) ⊎ (filter (is_at t) (filter (λ x. not (is_at o.offer.step x)) os) ≡ filter (is_at t) level)
+    others xs c t = by_test (eq_by_cmp step_cmp t o.offer.step) refl
       where
-        by_test : (b : Bool) → eq_by_cmp step_cmp t o.step ≡ b
-            → (filter (is_for t) (filter (λ x. not (is_for o.step x)) os) ≡ []) ⊎ (filter (is_for t) (filter (λ x. not (is_for o.step x)) os) ≡ filter (is_for t) level)
-        by_test true e = inl (ap (λ (u : Step). filter (is_for u) (filter (λ x. not (is_for o.step x)) os)) ((same_step t o.step).0 e) ∙ all_self o.step os)
+        by_test : (b : Bool) → eq_by_cmp step_cmp t o.offer.step ≡ b
+            → (filter (is_at t) (filter (λ x. not (is_at o.offer.step x)) os) ≡ []) ⊎ (filter (is_at t) (filter (λ x. not (is_at o.offer.step x)) os) ≡ filter (is_at t) level)
+        by_test true e = inl (ap (λ (u : Step). filter (is_at u) (filter (λ x. not (is_at o.offer.step x)) os)) ((same_step t o.offer.step).0 e) ∙ all_self o.offer.step os)
         by_test false e =
-            let same : filter (is_for t) (filter (λ x. not (is_for o.step x)) os) ≡ filter (is_for t) (o ∷ os)
-            = all_others o.step t e os ∙ sym (ap (λ (b : Bool). cond b (o ∷ filter (is_for t) os) (filter (is_for t) os)) e)
+            let same : filter (is_at t) (filter (λ x. not (is_at o.offer.step x)) os) ≡ filter (is_at t) (o ∷ os)
+            = all_others o.offer.step t e os ∙ sym (ap (λ (b : Bool). cond b (o ∷ filter (is_at t) os) (filter (is_at t) os)) e)
             in elim (way.alike t) [ inl none ↦ inl (same ∙ none) | inr k ↦ inr (same ∙ k) ]

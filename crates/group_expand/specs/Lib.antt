@@ -9,6 +9,7 @@ pub mod Node
 pub mod Cut
 pub mod Fitting
 pub mod Offer
+pub mod Level
 pub mod Fronts
 pub mod Placed
 pub mod Runs

@@ -13,11 +13,12 @@ use Rattle.cfg_tree.specs.declared.full.Given.{Given}
 use Rattle.group_expand.specs.Sources.{groups_step, is_plain}
 use Rattle.group_expand.specs.Listed.{entry_and, listed}
 use Rattle.group_expand.specs.Made.{given_at}
-use Rattle.group_expand.specs.Runs.{steps_of}
+use Rattle.group_expand.specs.Runs.{steps_of, begins_own, run_in}
 use Rattle.group_expand.specs.Front.{raw, live_kids, steps_at}
 use Rattle.group_expand.specs.Row.{Stated, Counted, Ordered, pairs_of}
 use Rattle.group_expand.specs.Node.{Node, inside_of}
-use Rattle.group_expand.specs.Offer.{Offer, own_offer, group_offer, is_for, Climbs}
+use Rattle.group_expand.specs.Offer.{Offer, own_offer, group_offer}
+use Rattle.group_expand.specs.Level.{Level, is_at, Climbs}
 
 -- the map whose statements stand in a row
 abbrev pub map_of : List Stated → Statements
@@ -46,16 +47,17 @@ run_at look kids row path step =
     (if is_live look (path ++ step ∷ []) then own_offer (node_at look row (path ++ step ∷ [])) ∷ [] else [])
     ++ map (offer_at look row step) (raw look kids (path ++ step ∷ []))
 
--- a level has just the offers for a step of a plain path
+-- a level has just the offers for a step of a plain path, and its own statement first where that is live
 pub record IsRight
-    (look : Look) (kids : List Step → List Step) (row : List Stated) (level : List Offer) (path : List Step) (step : Step) : Type 0 where
-  pub run : filter (is_for step) level ≡ run_at look kids row path step
+    (look : Look) (kids : List Step → List Step) (row : List Stated) (level : Level) (path : List Step) (step : Step) : Type 0 where
+  pub run : run_in step level.wild (filter (is_at step) level.plain) ≡ run_at look kids row path step
+  pub own : begins_own (filter (is_at step) level.plain) ≡ is_live look (path ++ step ∷ [])
   pub plain : is_plain (path ++ step ∷ []) ≡ true
 
 -- a level is that of a path: it has the steps of the path's children, and just the offers for each
-pub record IsLevelAt (look : Look) (kids : List Step → List Step) (row : List Stated) (path : List Step) (level : List Offer) : Type 0 where
-  pub climbs : Climbs level
-  pub steps : steps_of level ≡ steps_at look kids path
+pub record IsLevelAt (look : Look) (kids : List Step → List Step) (row : List Stated) (path : List Step) (level : Level) : Type 0 where
+  pub climbs : Climbs level.plain
+  pub steps : steps_of level.plain ≡ steps_at look kids path
   pub right : AllByRecursion (IsRight look kids row level path) (steps_at look kids path)
 
 -- what is looked up and walked over, of a row

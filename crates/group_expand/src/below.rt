@@ -10,6 +10,8 @@ ghost use Rattle.group_expand.specs.Placed.{run_at, look_of, kids_of, given_belo
 
 use crate::fault::ExpandFault;
 use crate::given::{child, opened, pushed};
+use crate::join::run_in;
+use crate::level::Level;
 use crate::offer::Offer;
 use crate::plan::Plan;
 use crate::run::{behind_run, first_run, first_step, own_of, run_gift};
@@ -93,11 +95,11 @@ pub fn expand_level<'m>(
     levels: usize,
     path: &Path,
     place: &Option<Place>,
-    level: &[Offer<'_>],
+    level: &Level<'_>,
     made: FullMaker<'m>,
 ) -> Result<FullMaker<'m>, ExpandFault>
     requires level { IsLevelAt (look_of plan.now) (kids_of plan.now) plan.now path.now level.now }
-    requires place { 0 < length level.now → place.now ≡ place_of path.now }
+    requires place { 0 < length level.now.plain → place.now ≡ place_of path.now }
     requires deep { MAX_STEPS ≤ levels + length path.now }
     requires row { IsRow plan.now }
     ensures ok { IfOk result (λ maker. maker ≡ made.entry ++ given_below plan.now levels path.now) }
@@ -107,19 +109,11 @@ pub fn expand_level<'m>(
         return Ok(made);
     }
     let mut maker = made;
-    let mut left = level;
+    let mut left = level.plain();
     while !left.is_empty() {
         let step = first_step(left);
-        match expand_run(
-            alloc,
-            plan,
-            levels - 1,
-            path,
-            place,
-            step,
-            first_run(left),
-            maker,
-        ) {
+        let run = run_in(alloc, step, first_run(left), level.wild())?;
+        match expand_run(alloc, plan, levels - 1, path, place, step, &run, maker) {
             Ok(more) => maker = more,
             Err(fault) => return Err(fault),
         }

@@ -12,7 +12,7 @@ ghost use Rattle.group_expand.specs.Placed.{IsRow, IsLevelAt, look_of, kids_of, 
 use crate::below::expand_level;
 use crate::fault::ExpandFault;
 use crate::given::level_below;
-use crate::offer::Offer;
+use crate::level::Level;
 use crate::plan::Plan;
 use crate::row::{Statement, row_of};
 use cfg_base::{MAX_STEPS, NoMemory, Path};
@@ -21,9 +21,9 @@ use cfg_tree::{Full, FullMaker, Tree};
 use std::alloc::Global;
 
 /// The level of the top.
-fn top_level<'a>(alloc: Global, plan: &Plan<'a>, top: &Path) -> Result<Vec<Offer<'a>>, NoMemory>
+fn top_level<'a>(alloc: Global, plan: &Plan<'a>, top: &Path) -> Result<Level<'a>, NoMemory>
     requires { top.now ≡ [] }
-    ensures { IfOk result (λ level. IsLevelAt (look_of plan.now) (kids_of plan.now) plan.now [] level.items) }
+    ensures { IfOk result (λ level. IsLevelAt (look_of plan.now) (kids_of plan.now) plan.now [] level) }
 {
     let own = plan.top(alloc)?;
     level_below(alloc, plan, top, &own, &[])

@@ -8,14 +8,16 @@ ghost use Rattle.cfg_tree.specs.declared.limit.TheConstants.{MAX_EXPANDED};
 ghost use Rattle.group_expand.specs.Sources.{groups_step, is_plain};
 ghost use Rattle.group_expand.specs.Fronts.{front_of};
 ghost use Rattle.group_expand.specs.Made.{with_order, given_at};
-ghost use Rattle.group_expand.specs.Offer.{Climbs, IsLevel, offered};
+ghost use Rattle.group_expand.specs.Offer.{offered};
+ghost use Rattle.group_expand.specs.Level.{Climbs, IsLevel};
 ghost use Rattle.group_expand.specs.Runs.{order_for, own_of, own_nodes, run_gift};
 ghost use Rattle.group_expand.specs.Placed.{kids_at, look_of, kids_of, run_at, IsRow, IsLevelAt};
 
 use crate::fault::ExpandFault;
 use crate::front::front;
+use crate::level::{Level, level_of};
 use crate::node::Node;
-use crate::offer::{Offer, level};
+use crate::offer::Offer;
 use crate::order::order;
 use crate::plan::Plan;
 use crate::run::{Gift, own_of};
@@ -51,12 +53,12 @@ pub fn level_below<'a>(
     path: &Path,
     children: &[Node<'a>],
     run: &[Offer<'a>],
-) -> Result<Vec<Offer<'a>>, NoMemory>
+) -> Result<Level<'a>, NoMemory>
     ensures row { IsRow plan.now }
-    ensures level { IfOk result (λ level. IsLevel (offered children.now (front_of (kids_at (look_of plan.now) (kids_of plan.now) plan.now (groups_step ∷ [])) path.now children.now run.now)) level.items) }
+    ensures level { IfOk result (λ level. IsLevel (offered children.now (front_of (kids_at (look_of plan.now) (kids_of plan.now) plan.now (groups_step ∷ [])) path.now children.now run.now)) level) }
 {
     let front = front(alloc, plan.groups(), path, children, run)?;
-    level(alloc, children, &front)
+    level_of(alloc, children, &front)
 }
 
 /// What is given at a path of this place.
@@ -65,10 +67,10 @@ fn given(
     place: &Option<Place>,
     run: &[Offer<'_>],
     children: &[Node<'_>],
-    level: &[Offer<'_>],
+    level: &Level<'_>,
     gift: Gift,
 ) -> Result<Given, NoMemory>
-    requires { Climbs level.now }
+    requires { Climbs level.now.plain }
     ensures { IfOk result (λ given. given ≡ with_order (order_for (ordered_head place.now) (own_of run.now) children.now level.now) gift) }
 {
     let order = order(alloc, place, own_of(run), children, level)?;
@@ -96,15 +98,15 @@ fn place_below(
     path: &Path,
     step: &Step,
     children: &[Node<'_>],
-    level: &[Offer<'_>],
+    level: &Level<'_>,
 ) -> Option<Place>
     requires long { 0 < length path.now }
     requires step { step.now ≡ last_of path.now }
     requires above { above.now ≡ place_of (parent_of path.now) }
     ensures children { 0 < length children.now → result ≡ place_of path.now }
-    ensures level { 0 < length level.now → result ≡ place_of path.now }
+    ensures level { 0 < length level.now.plain → result ≡ place_of path.now }
 {
-    if children.is_empty() && level.is_empty() {
+    if children.is_empty() && level.plain().is_empty() {
         return None;
     }
     place_after(above, step)
@@ -120,7 +122,7 @@ pub fn opened<'a>(
     step: &Step,
     run: &[Offer<'a>],
     gift: Gift,
-) -> Result<(Given, Vec<Offer<'a>>, Option<Place>), NoMemory>
+) -> Result<(Given, Level<'a>, Option<Place>), NoMemory>
     requires long { 0 < length path.now }
     requires step { step.now ≡ last_of path.now }
     requires above { above.now ≡ place_of (parent_of path.now) }
@@ -128,8 +130,8 @@ pub fn opened<'a>(
     requires plain { is_plain path.now ≡ true }
     requires gift { Some gift ≡ run_gift path.now (last_of path.now) run.now }
     ensures given { IfOk result (λ made. given_at (look_of plan.now) (kids_of plan.now) path.now ≡ Some made.0) }
-    ensures level { IfOk result (λ made. IsLevelAt (look_of plan.now) (kids_of plan.now) plan.now path.now made.1.items) }
-    ensures place { IfOk result (λ made. 0 < length made.1.items → made.2 ≡ place_of path.now) }
+    ensures level { IfOk result (λ made. IsLevelAt (look_of plan.now) (kids_of plan.now) plan.now path.now made.1) }
+    ensures place { IfOk result (λ made. 0 < length made.1.plain → made.2 ≡ place_of path.now) }
 {
     let children = own_children(alloc, run)?;
     let level = level_below(alloc, plan, path, &children, run)?;

@@ -1,11 +1,11 @@
-//! What a level is made of: live statements of the configuration, and what groups offer.
+//! What a level is made of: live statements of the configuration, what groups offer, and their wildcards.
 
 ghost use Rattle.std.specs.Prelude.{◌≡◌, ◌++◌, map, flat_map, IfOk, OnOk};
 ghost use Rattle.std.specs.Option.{option_copied};
-ghost use Rattle.group_expand.specs.Offer.{own_offer, group_offer, plain_offers, matched_offers, offers_of, offered, IsLevel};
+ghost use Rattle.group_expand.specs.Offer.{own_offer, node_offer, offer_for, is_wild, plain_offers, wild_offers, offers_of, offered};
 
 use crate::node::Node;
-use crate::step::{fits_wildcard, is_wildcard};
+use crate::step::is_wildcard;
 use cfg_base::{NoMemory, Step, Word};
 use std::alloc::Global;
 use std::marker::Model;
@@ -46,7 +46,8 @@ impl<'a> Source<'a> {
     }
 }
 
-/// A node that stands for a step: the configuration's own without a group, or one of a group.
+/// A node that stands for a step: the configuration's own without a group, or one of a group. A group's wildcard
+/// stands for its own step until it is matched.
 #[derive(Debug, Drop)]
 pub struct Offer<'a> {
     step: &'a Step,
@@ -81,6 +82,35 @@ impl<'a> Offer<'a> {
     {
         &self.node
     }
+
+    /// Whether it is a group's wildcard.
+    pub fn is_wild(&self) -> bool
+        ensures { result ≡ is_wild self.now }
+    {
+        self.group.is_some() && is_wildcard(&self.step.name)
+    }
+
+    /// The same offer.
+    pub fn same(&self) -> Offer<'a>
+        ensures { result ≡ self.now }
+    {
+        Offer {
+            step: self.step,
+            group: self.group,
+            node: self.node.same(),
+        }
+    }
+
+    /// The same for a step.
+    pub fn for_step(&self, step: &'a Step) -> Offer<'a>
+        ensures { result ≡ offer_for step.now self.now }
+    {
+        Offer {
+            step,
+            group: self.group,
+            node: self.node.same(),
+        }
+    }
 }
 
 fn own_offer<'a>(node: &Node<'a>) -> Offer<'a>
@@ -93,11 +123,11 @@ fn own_offer<'a>(node: &Node<'a>) -> Offer<'a>
     }
 }
 
-fn group_offer<'a>(group: &'a Word, step: &'a Step, node: &Node<'a>) -> Offer<'a>
-    ensures { result ≡ group_offer group.now step.now node.now }
+fn group_offer<'a>(group: &'a Word, node: &Node<'a>) -> Offer<'a>
+    ensures { result ≡ node_offer group.now node.now }
 {
     Offer {
-        step,
+        step: node.step(),
         group: Some(group),
         node: node.same(),
     }
@@ -122,42 +152,24 @@ fn push_plain<'a>(
 {
     for node in nodes {
         if !is_wildcard(&node.step().name) {
-            offers.push(group_offer(group, node.step(), node))?;
+            offers.push(group_offer(group, node))?;
         }
     }
     Ok(())
 }
 
-/// Puts what a node with a wildcard offers for the steps that it matches behind others.
-fn push_matched<'a>(
-    offers: &mut Vec<Offer<'a>>,
-    own: &[Node<'a>],
-    group: &'a Word,
-    node: &Node<'a>,
-) -> Result<(), NoMemory>
-    ensures { OnOk result (offers.new.items ≡ offers.old.items ++ matched_offers own.now group.now node.now) }
-{
-    if !is_wildcard(&node.step().name) {
-        return Ok(());
-    }
-    for other in own {
-        if fits_wildcard(other.step(), node.step()) {
-            offers.push(group_offer(group, other.step(), node))?;
-        }
-    }
-    Ok(())
-}
-
+/// Puts a group's wildcards behind others.
 fn push_wild<'a>(
     offers: &mut Vec<Offer<'a>>,
-    own: &[Node<'a>],
     group: &'a Word,
     nodes: &[Node<'a>],
 ) -> Result<(), NoMemory>
-    ensures { OnOk result (offers.new.items ≡ offers.old.items ++ flat_map (matched_offers own.now group.now) nodes.now) }
+    ensures { OnOk result (offers.new.items ≡ offers.old.items ++ wild_offers group.now nodes.now) }
 {
     for node in nodes {
-        push_matched(offers, own, group, node)?;
+        if is_wildcard(&node.step().name) {
+            offers.push(group_offer(group, node))?;
+        }
     }
     Ok(())
 }
@@ -166,17 +178,17 @@ fn push_wild<'a>(
 fn push_offers<'a>(
     alloc: Global,
     offers: &mut Vec<Offer<'a>>,
-    own: &[Node<'a>],
     source: &Source<'a>,
 ) -> Result<(), NoMemory>
-    ensures { OnOk result (offers.new.items ≡ offers.old.items ++ offers_of own.now source.now) }
+    ensures { OnOk result (offers.new.items ≡ offers.old.items ++ offers_of source.now) }
 {
     let children = source.node().children(alloc)?;
     push_plain(offers, source.group(), &children)?;
-    push_wild(offers, own, source.group(), &children)
+    push_wild(offers, source.group(), &children)
 }
 
-fn offered<'a>(
+/// The configuration's own statements and what groups offer, in the order of the sources.
+pub fn offered<'a>(
     alloc: Global,
     own: &[Node<'a>],
     front: &[Source<'a>],
@@ -186,20 +198,7 @@ fn offered<'a>(
     let mut offers = Vec::new(alloc);
     push_own(&mut offers, own)?;
     for source in front {
-        push_offers(alloc, &mut offers, own, source)?;
+        push_offers(alloc, &mut offers, source)?;
     }
-    Ok(offers)
-}
-
-/// A level: the configuration's own statements and what groups offer, by their steps.
-pub fn level<'a>(
-    alloc: Global,
-    own: &[Node<'a>],
-    front: &[Source<'a>],
-) -> Result<Vec<Offer<'a>>, NoMemory>
-    ensures { IfOk result (λ level. IsLevel (offered own.now front.now) level.items) }
-{
-    let mut offers = offered(alloc, own, front)?;
-    offers.sort_by(|one, other| one.step.cmp(other.step))?;
     Ok(offers)
 }

@@ -6,12 +6,14 @@ ghost use Rattle.std.specs.Option.{option_copied};
 ghost use Rattle.cfg_base.specs.Order.{word_cmp};
 ghost use Rattle.cfg_base.specs.Words.{lists, Knows};
 ghost use Rattle.cfg_tree.specs.Tree.{ordered_head};
-ghost use Rattle.group_expand.specs.Runs.{has_source, is_inherited, inherited_in, names_with, order_if, order_for, name_of};
-ghost use Rattle.group_expand.specs.Offer.{Climbs};
+ghost use Rattle.group_expand.specs.Runs.{has_source, may_be_inherited, is_inherited, inherited_in, names_with, order_if, order_for, name_of};
+ghost use Rattle.group_expand.specs.Level.{Climbs};
 
+use crate::join::{begins_own, run_in};
+use crate::level::{Level, Ranked};
 use crate::node::Node;
 use crate::offer::Offer;
-use crate::run::{behind_run, first_run, own_of};
+use crate::run::{behind_run, first_run, first_step};
 use crate::step::is_apply;
 use cfg_base::{NoMemory, Step, Word, WordList, learn};
 use cfg_schema::{Place, head};
@@ -68,33 +70,63 @@ fn has_source(run: &[Offer<'_>]) -> bool
     run.iter().any(|offer| offer.group().is_some())
 }
 
-/// Whether a step's name stands in the order of its level though the configuration hasn't it itself.
-fn is_inherited(head: &[u8], step: &Step, run: &[Offer<'_>]) -> bool
-    ensures { result ≡ is_inherited head.now step.now run.now }
+/// Whether a step of a level with this head may be one that the configuration hasn't itself.
+fn may_be_inherited(head: &[u8], step: &Step, run: &[Ranked<'_>]) -> bool
+    ensures { result ≡ may_be_inherited head.now step.now run.now }
 {
-    head == step.head.as_bytes() && (is_apply(step) || own_of(run).is_none()) && has_source(run)
+    head == step.head.as_bytes() && (is_apply(step) || !begins_own(run))
+}
+
+/// Whether a step's name stands in the order of its level though the configuration hasn't it itself.
+fn is_inherited(
+    alloc: Global,
+    head: &[u8],
+    step: &Step,
+    run: &[Ranked<'_>],
+    wild: &[Ranked<'_>],
+) -> Result<bool, NoMemory>
+    ensures { IfOk result (λ inherited. inherited ≡ is_inherited head.now step.now wild.now run.now) }
+{
+    // No wildcard is matched again for the configuration's own names.
+    if !may_be_inherited(head, step, run) {
+        return Ok(false);
+    }
+    let made = run_in(alloc, step, run, wild)?;
+    Ok(has_source(&made))
 }
 
 /// Puts the name of a run behind others, where it is inherited.
-fn push_name(order: &mut WordList, head: &[u8], run: &[Offer<'_>]) -> Result<(), NoMemory>
+fn push_name(
+    alloc: Global,
+    order: &mut WordList,
+    head: &[u8],
+    run: &[Ranked<'_>],
+    wild: &[Ranked<'_>],
+) -> Result<(), NoMemory>
     requires { 0 < length run.now }
-    ensures { OnOk result (order.new ≡ order.old ++ name_of head.now run.now) }
+    ensures { OnOk result (order.new ≡ order.old ++ name_of head.now wild.now run.now) }
 {
-    let step = run[0].step();
-    if is_inherited(head, step, run) {
+    let step = first_step(run);
+    let inherited = is_inherited(alloc, head, step, run, wild)?;
+    if inherited {
         order.push(step.name.clone()?)?;
     }
     Ok(())
 }
 
 /// Puts the inherited names of a level behind others.
-fn push_inherited(order: &mut WordList, head: &[u8], level: &[Offer<'_>]) -> Result<(), NoMemory>
-    requires { Climbs level.now }
+fn push_inherited(
+    alloc: Global,
+    order: &mut WordList,
+    head: &[u8],
+    level: &Level<'_>,
+) -> Result<(), NoMemory>
+    requires { Climbs level.now.plain }
     ensures { OnOk result (order.new ≡ order.old ++ inherited_in head.now level.now) }
 {
-    let mut left = level;
+    let mut left = level.plain();
     while !left.is_empty() {
-        push_name(order, head, first_run(left))?;
+        push_name(alloc, order, head, first_run(left), level.wild())?;
         left = behind_run(left);
     }
     Ok(())
@@ -125,14 +157,14 @@ fn order_with(
     head: &[u8],
     own: Option<&Node<'_>>,
     children: &[Node<'_>],
-    level: &[Offer<'_>],
+    level: &Level<'_>,
 ) -> Result<WordList, NoMemory>
-    requires { Climbs level.now }
+    requires { Climbs level.now.plain }
     ensures { IfOk result (λ order. order ≡ order_for (Some head.now) (option_copied own.entry) children.now level.now) }
 {
     let mut order = WordList::new(alloc);
     push_own(alloc, &mut order, head, own, children)?;
-    push_inherited(&mut order, head, level)?;
+    push_inherited(alloc, &mut order, head, level)?;
     Ok(order)
 }
 
@@ -142,9 +174,9 @@ fn order_by_row(
     place: &Option<Place>,
     own: Option<&Node<'_>>,
     children: &[Node<'_>],
-    level: &[Offer<'_>],
+    level: &Level<'_>,
 ) -> Result<WordList, NoMemory>
-    requires { Climbs level.now }
+    requires { Climbs level.now.plain }
     ensures { IfOk result (λ order. order ≡ order_for (ordered_head place.now) (option_copied own.entry) children.now level.now) }
 {
     match ordered_head(place) {
@@ -159,13 +191,13 @@ pub fn order(
     place: &Option<Place>,
     own: Option<&Node<'_>>,
     children: &[Node<'_>],
-    level: &[Offer<'_>],
+    level: &Level<'_>,
 ) -> Result<WordList, NoMemory>
-    requires { Climbs level.now }
+    requires { Climbs level.now.plain }
     ensures { IfOk result (λ order. order ≡ order_for (ordered_head place.now) (option_copied own.entry) children.now level.now) }
 {
     // Where nothing stands below, the row doesn't matter.
-    if children.is_empty() && level.is_empty() {
+    if children.is_empty() && level.plain().is_empty() {
         return Ok(WordList::new(alloc));
     }
     order_by_row(alloc, place, own, children, level)

@@ -1,13 +1,14 @@
-//! The offers of a level, step by step, and what they give.
+//! The plain offers of a level, step by step, and what all offers for a step give.
 
 ghost use Rattle.std.specs.Prelude.{◌≡◌, ◌<◌, ◌≤◌, not, length, take, drop, IfOk};
 ghost use Rattle.std.specs.List.{position};
 ghost use Rattle.std.specs.Option.{option_copied};
 ghost use Rattle.cfg_tree.specs.Statements.{no_step};
 ghost use Rattle.group_expand.specs.Sources.{is_outside};
-ghost use Rattle.group_expand.specs.Offer.{is_for};
+ghost use Rattle.group_expand.specs.Level.{is_at};
 ghost use Rattle.group_expand.specs.Runs.{first_step, run_length, own_of, source_gift, run_gift};
 
+use crate::level::Ranked;
 use crate::node::Node;
 use crate::offer::Offer;
 use crate::step::{groups, is_apply, is_head};
@@ -16,20 +17,20 @@ use std::alloc::Global;
 use std::marker::Model;
 
 /// Whether an offer isn't for a step.
-fn is_other(step: &Step, offer: &Offer<'_>) -> bool
-    ensures { result ≡ not (is_for step.now offer.now) }
+fn is_other(step: &Step, ranked: &Ranked<'_>) -> bool
+    ensures { result ≡ not (is_at step.now ranked.now) }
 {
-    !step.cmp(offer.step()).is_eq()
+    !step.cmp(ranked.step()).is_eq()
 }
 
-fn first_other(step: &Step, level: &[Offer<'_>]) -> Option<usize>
-    ensures { result ≡ position (λ offer. not (is_for step.now offer)) level.now }
+fn first_other(step: &Step, level: &[Ranked<'_>]) -> Option<usize>
+    ensures { result ≡ position (λ ranked. not (is_at step.now ranked)) level.now }
 {
-    level.iter().position(|offer| is_other(step, offer))
+    level.iter().position(|ranked| is_other(step, ranked))
 }
 
 /// How many of the first offers are for the first one's step.
-fn run_length(level: &[Offer<'_>]) -> usize
+fn run_length(level: &[Ranked<'_>]) -> usize
     requires { 0 < length level.now }
     ensures is { result ≡ run_length level.now }
     ensures within { result ≤ length level.now }
@@ -41,7 +42,7 @@ fn run_length(level: &[Offer<'_>]) -> usize
 }
 
 /// The step of the first offer.
-pub fn first_step<'a>(level: &[Offer<'a>]) -> &'a Step
+pub fn first_step<'a>(level: &[Ranked<'a>]) -> &'a Step
     requires { 0 < length level.now }
     ensures { result.now ≡ first_step level.now no_step }
 {
@@ -49,7 +50,7 @@ pub fn first_step<'a>(level: &[Offer<'a>]) -> &'a Step
 }
 
 /// The first run of a level.
-pub fn first_run<'s, 'a>(level: &'s [Offer<'a>]) -> &'s [Offer<'a>]
+pub fn first_run<'s, 'a>(level: &'s [Ranked<'a>]) -> &'s [Ranked<'a>]
     requires { 0 < length level.now }
     ensures { result.now ≡ take (run_length level.now) level.now }
 {
@@ -57,7 +58,7 @@ pub fn first_run<'s, 'a>(level: &'s [Offer<'a>]) -> &'s [Offer<'a>]
 }
 
 /// What stands behind the first run of a level.
-pub fn behind_run<'s, 'a>(level: &'s [Offer<'a>]) -> &'s [Offer<'a>]
+pub fn behind_run<'s, 'a>(level: &'s [Ranked<'a>]) -> &'s [Ranked<'a>]
     requires { 0 < length level.now }
     ensures { result.now ≡ drop (run_length level.now) level.now }
 {

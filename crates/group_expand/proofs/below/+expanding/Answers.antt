@@ -7,7 +7,8 @@ use Rattle.cfg_tree.specs.declared.full.Given.{Given}
 use Rattle.cfg_tree.specs.Statements.{parent_of, last_of}
 use Rattle.cfg_tree.proofs.PathLemmas.{split}
 use Rattle.group_expand.specs.Sources.{is_plain}
-use Rattle.group_expand.specs.Runs.{run_gift}
+use Rattle.group_expand.specs.Level.{Ranked}
+use Rattle.group_expand.specs.Runs.{run_gift, run_in}
 use Rattle.group_expand.specs.Placed.{run_at, look_of, kids_of}
 use Rattle.group_expand.specs.declared.fault.ExpandFault.TheVariants.{TooWide}
 use Rattle.group_expand.proofs.PlaceLemmas.{longer, ends, given_by_ends}
@@ -27,14 +28,15 @@ pub expand_level-expand_run-requires : goal.expand_level-expand_run-requires
 expand_level-expand_run-requires t c = (
   search rules,
   (
-    c.requires.place (way_some c.args.level.now c.loop-left.left.now c.loop-left.invariant.1 (search rules)),
+    c.requires.place (way_some c.args.level.now.plain c.loop-left.left.now c.loop-left.invariant.1 (search rules)),
     (
       run_is_at c.args.plan.now c.args.path.now c.args.levels c.args.level.now c.requires.level c.loop-left.left.now c.first_run.result.now _
-          (run_step c.args.level.now c.loop-left.left.now c.first_run.result.now _ c.loop-left.invariant.1 (search rules) c.first_run.ensures refl)
-          c.first_step-step.result.now c.first_step-step.ensures,
+          (run_step c.args.level.now.plain c.loop-left.left.now c.first_run.result.now _ c.loop-left.invariant.1 (search rules) c.first_run.ensures refl)
+          c.first_step-step.result.now c.deref.result.now c.first_step-step.ensures
+          (c.deref.ensures.value ∙ c.in_ok-run.ensures ∙ ap (λ (ws : List Ranked). run_in c.first_step-step.result.now ws c.first_run.result.now) c.wild.ensures),
       (
         run_plain c.args.plan.now c.args.path.now c.args.levels c.args.level.now c.requires.level c.loop-left.left.now c.first_run.result.now _
-            (run_step c.args.level.now c.loop-left.left.now c.first_run.result.now _ c.loop-left.invariant.1 (search rules) c.first_run.ensures refl)
+            (run_step c.args.level.now.plain c.loop-left.left.now c.first_run.result.now _ c.loop-left.invariant.1 (search rules) c.first_run.ensures refl)
             c.first_step-step.result.now c.first_step-step.ensures,
         (let k = c.if-levels-eq0.false in let d = c.requires.deep in omega (arith, k, d), c.requires.row),
       ),
@@ -45,17 +47,17 @@ expand_level-expand_run-requires t c = (
 pub expand_level-returns-in-Err-clause-wide : goal.expand_level-returns-in-Err-clause-wide
 expand_level-returns-in-Err-clause-wide t c = λ h.
     run_wide c.args.plan.now c.args.path.now c.args.levels c.args.level.now c.requires.level c.loop-left.left.now c.first_run.result.now _ c.loop-left.maker c.args.made MAX_EXPANDED c.first_step-step.result.now
-    (run_step c.args.level.now c.loop-left.left.now c.first_run.result.now _ c.loop-left.invariant.1 (search rules) c.first_run.ensures refl)
+    (run_step c.args.level.now.plain c.loop-left.left.now c.first_run.result.now _ c.loop-left.invariant.1 (search rules) c.first_run.ensures refl)
     (let k = c.if-levels-eq0.false in omega (arith, k)) c.first_step-step.ensures c.loop-left.invariant.0 (c.in-Err.ensures.wide h)
 
 pub expand_level-loop-left-smaller : goal.expand_level-loop-left-smaller
 expand_level-loop-left-smaller t c =
-    (run_step c.args.level.now c.loop-left.left.now c.first_run.result.now c.behind_run-left.result.now c.loop-left.invariant.1 (search rules) c.first_run.ensures c.behind_run-left.ensures).shorter
+    (run_step c.args.level.now.plain c.loop-left.left.now c.first_run.result.now c.behind_run-left.result.now c.loop-left.invariant.1 (search rules) c.first_run.ensures c.behind_run-left.ensures).shorter
 
 pub expand_level-loop-left-preserved : goal.expand_level-loop-left-preserved
 expand_level-loop-left-preserved t c =
-    let step : IsRunStep c.args.level.now c.loop-left.left.now c.first_run.result.now c.behind_run-left.result.now
-    = run_step c.args.level.now c.loop-left.left.now c.first_run.result.now c.behind_run-left.result.now c.loop-left.invariant.1 (search rules) c.first_run.ensures c.behind_run-left.ensures
+    let step : IsRunStep c.args.level.now.plain c.loop-left.left.now c.first_run.result.now c.behind_run-left.result.now
+    = run_step c.args.level.now.plain c.loop-left.left.now c.first_run.result.now c.behind_run-left.result.now c.loop-left.invariant.1 (search rules) c.first_run.ensures c.behind_run-left.ensures
     in (
       run_more c.args.plan.now c.args.path.now c.args.levels c.args.level.now c.requires.level c.loop-left.left.now c.first_run.result.now c.behind_run-left.result.now c.loop-left.maker _ _ c.first_step-step.result.now step
           c.first_step-step.ensures c.loop-left.invariant.0 (search rules),

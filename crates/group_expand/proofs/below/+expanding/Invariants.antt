@@ -16,8 +16,8 @@ decreases-expand_path l = 3 * l.levels + 1
 
 abbrev pub invariant-expand_level-loop-left : goal.invariant-expand_level-loop-left
 invariant-expand_level-loop-left l =
-    (l.maker ++ flat_map (given_for l.plan (l.levels - 1) l.path) (steps_of l.left) ≡ l.fn.made ++ flat_map (given_for l.plan (l.levels - 1) l.path) (steps_of l.level))
-    × IsRunWay l.level l.left
+    (l.maker ++ flat_map (given_for l.plan (l.levels - 1) l.path) (steps_of l.left) ≡ l.fn.made ++ flat_map (given_for l.plan (l.levels - 1) l.path) (steps_of l.level.plain))
+    × IsRunWay l.level.plain l.left
 
 abbrev pub decreases-expand_level-loop-left : goal.decreases-expand_level-loop-left
 decreases-expand_level-loop-left l = length l.left
