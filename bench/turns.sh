@@ -3,7 +3,7 @@
 # Turns are taken one at a time, so several sessions make no more of them than one does: the ratios tell what waiting for one another
 # costs, by the clock and in the processor's time. Behind them stands when the first session had ended, of the time that the last one
 # took: no session that waits is left behind. Then the commits once more beside as many busy processes as there are processors, and by
-# one session beside 64 that are idle.
+# one session beside 63 that are idle, since a run has at most 64.
 set -eu
 # also where what is printed is taken
 shopt -s inherit_errexit
@@ -161,8 +161,8 @@ compare_rates() {
 compare_rates shows shows 128000 1 4 64
 compare_rates commits commits 2560 1 4 64
 alone=$one
-idle=$(best_of_three rate_beside_idle 2560 64)
-print_ratios "commits, one session beside 64 idle ones" "$idle" "$alone"
+idle=$(best_of_three rate_beside_idle 2560 63)
+print_ratios "commits, one session beside 63 idle ones" "$idle" "$alone"
 start_spinning
 compare_rates "commits beside ${#spinning[@]} busy processes" commits 2560 1 64
 print_ratios "the same, one session, by one on free processors" "$one" "$alone"
