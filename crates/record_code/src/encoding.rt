@@ -1,5 +1,6 @@
 ghost use Rattle.std.specs.Prelude.{◌≡◌, ◌≤◌, [], ◌∷◌, length, IfOk};
 ghost use Rattle.record_code.specs.Record.{most_payload};
+ghost use Rattle.record_code.specs.declared.encoding.TheConstants.{MAX_PAYLOAD};
 
 use crate::encoded::Encoded;
 use crate::readers::digest_of;
@@ -8,6 +9,12 @@ use std::alloc::Global;
 
 /// The most bytes that a payload has.
 pub const MAX_PAYLOAD: usize = 1_049_600;
+
+/// The limit of the format is the one that is tested, by its number.
+pub fn limits_are_stated()
+    ensures payload { MAX_PAYLOAD ≡ most_payload }
+    ensures number { most_payload ≡ 1049600 }
+{}
 
 // An open gate.
 const OPEN: u8 = 1;

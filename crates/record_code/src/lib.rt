@@ -12,6 +12,6 @@ mod payloads;
 mod readers;
 
 pub use encoded::Encoded;
-pub use encoding::{MAX_PAYLOAD, encode};
+pub use encoding::{MAX_PAYLOAD, encode, limits_are_stated};
 pub use payloads::{Payloads, Placed};
 pub use readers::{digest_of, kind_of, length_of};
