@@ -8,24 +8,10 @@ use Rattle.commands.specs.declared.command.Op.{Op}
 use Rattle.cfg_tree.specs.Statements.{Statements}
 use Rattle.cfg_tree.specs.Resolve.{IsLevelPath}
 use Rattle.edit_ops.proofs.UniqueLemmas.{one_map}
-use Rattle.candidate.specs.Edits.{Edit, Whole, CandidateView, AreEditsOf, HasEdits, IsEdited, IsCandidateChange, fresh, after_edit, after_edits}
+use Rattle.candidate.specs.Edits.{Edit, CandidateView, AreEditsOf, IsEdited, IsCandidateChange, fresh, after_edit, after_edits}
 
 pub no_edits : (number : ℕ) (base : Statements) → AreEditsOf (fresh number base) []
 no_edits number base = record { made = refl; some = (λ e. cc, λ f. absurd (f refl)) }
-
--- a candidate has edits, where it is its base unless it is modified
-pub has_edits : (candidate : CandidateView) → (candidate.modified ≡ false → candidate.map ≡ candidate.base) → HasEdits candidate
-has_edits candidate kept = by_test candidate.modified refl
-  where
-    never : Whole candidate.map ∷ [] ≡ [] → ⊥
-    never e = cc
-
-    by_test : (b : Bool) → candidate.modified ≡ b → HasEdits candidate
-    by_test true e = record { edits = Whole candidate.map ∷ []; are = record { made = refl; some = (λ _. never, λ _. e) } }
-    by_test false e = record { edits = []; are = record { made = kept e; some = (λ t. absurd (clash _ t e), λ f. absurd (f refl)) } }
-      where
-        clash : (b : Bool) → b ≡ true → b ≡ false → ⊥
-        clash b t f = cc
 
 after-join : (m : Statements) (edits added : List Edit) → after_edits m (edits ++ added) ≡ after_edits (after_edits m edits) added
 after-join m [] added = refl

@@ -39,11 +39,6 @@ pub record AreEditsOf (candidate : CandidateView) (edits : List Edit) : Type 0 w
   pub made : candidate.map ≡ after_edits candidate.base edits
   pub some : Decides candidate.modified (edits ≢ [])
 
--- each candidate has edits
-pub record HasEdits (candidate : CandidateView) : Type 0 where
-  pub edits : List Edit
-  pub are : AreEditsOf candidate edits
-
 -- a candidate of a commit, without edits
 abbrev pub fresh : ℕ → Statements → CandidateView
 fresh number base = record { number = number; base = base; map = base; modified = false }

@@ -1,7 +1,7 @@
-ghost use Rattle.std.specs.Prelude.{◌≡◌, ◌||◌, OnOk, OnErr, IfOk, IfErr};
+ghost use Rattle.std.specs.Prelude.{◌≡◌, ◌||◌, false, OnOk, OnErr, IfOk, IfErr};
 ghost use Rattle.cfg_tree.specs.Resolve.{IsLevelPath};
 ghost use Rattle.edit_ops.specs.Answer.{IsEditFault};
-ghost use Rattle.candidate.specs.Edits.{fresh, HasEdits, IsEdited, IsCandidateChange};
+ghost use Rattle.candidate.specs.Edits.{fresh, IsEdited, IsCandidateChange};
 
 use cfg_base::{NoMemory, Path};
 use cfg_tree::Tree;
@@ -76,10 +76,10 @@ impl Candidate {
         &self.tree
     }
 
-    /// Whether it has edits.
+    /// Whether it has edits. Without them its map is that of the commit.
     pub fn is_modified(&self) -> bool
         ensures modified { result ≡ self.now.modified }
-        ensures edits { HasEdits self.now }
+        ensures base { self.now.modified ≡ false → self.now.map ≡ self.now.base }
     {
         self.modified
     }

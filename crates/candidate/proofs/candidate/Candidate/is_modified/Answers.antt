@@ -1,7 +1,6 @@
-use Rattle.std.proofs.Common.{subst}
-use Rattle.candidate.specs.Edits.{CandidateView, HasEdits}
-use Rattle.candidate.proofs.EditLemmas.{has_edits}
+use Rattle.std.proofs.Common.{◌≡◌, false, subst}
+use Rattle.candidate.specs.Edits.{CandidateView}
 use Rattle.candidate.proofs.candidate.Candidate.is_modified.Goals as goal
 
-pub returns-clause-edits : goal.returns-clause-edits
-returns-clause-edits c = subst (λ (v : CandidateView). HasEdits v) c.self.view_is (has_edits _ c.self.invariant)
+pub returns-clause-base : goal.returns-clause-base
+returns-clause-base c = subst (λ (v : CandidateView). v.modified ≡ false → v.map ≡ v.base) c.self.view_is c.self.invariant
