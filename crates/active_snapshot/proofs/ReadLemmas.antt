@@ -1,12 +1,12 @@
 -- What a read answers.
-use Rattle.std.proofs.Common.{◌≡◌, ℕ, Bool, true, List, Option, Some, None, Result, Ok, Err, refl, ap, sym, subst, ◌∙◌}
-use Rattle.std.specs.Prelude.{IfOk}
+use Rattle.std.proofs.Common.{◌≡◌, ℕ, Bool, true, false, List, Option, Some, None, Result, Ok, Err, refl, ap, sym, subst, ◌∙◌}
+use Rattle.std.specs.Prelude.{IfOk, IsErr}
 use Rattle.std.specs.Option.{option_map}
 use Rattle.commit_ledger.specs.declared.ledger.Pending.{Pending}
 use Rattle.commit_ledger.specs.Kept.{Kept, Unconfirmed, is_revert_due}
 use Rattle.active_snapshot.specs.declared.reader.Read.{Read}
 use Rattle.active_snapshot.specs.declared.reader.Read.TheVariants.{Due}
-use Rattle.active_snapshot.specs.Reads.{IsAnswer, IsReadOf}
+use Rattle.active_snapshot.specs.Reads.{HandsOut, IsAnswer, IsReadOf}
 use Rattle.active_snapshot.specs.Views.{IsLast}
 
 some_inj : {A : Type 0} {x y : A} → Some x ≡ Some y → x ≡ y
@@ -40,3 +40,10 @@ pub IsReadOf-answer : {E : Type 0} (kept list : List Kept) (view : Kept) (moment
 IsReadOf-answer kept list view moment (Ok read) is_last same is_answer =
     (view, subst (λ (l : List Kept). IsLast l view) same is_last, is_answer)
 IsReadOf-answer kept list view moment (Err fault) is_last same is_answer = tt
+
+-- where the answer of the last view isn't there, that one was to be handed out
+pub HandsOut-answer : {E : Type 0} (kept list : List Kept) (view : Kept) (moment : ℕ) (read : Result Read E)
+    → IsLast kept view → kept ≡ list → (IsErr read → is_revert_due view moment ≡ false) → IsErr read → HandsOut list moment
+HandsOut-answer kept list view moment read is_last same not_due failed = λ last is_its_last.
+    let here : IsLast list view = subst (λ (l : List Kept). IsLast l view) same is_last in
+    subst (λ (v : Kept). is_revert_due v moment ≡ false) (some_inj (sym here ∙ is_its_last)) (not_due failed)

@@ -1,9 +1,10 @@
 //! The readers.
 
-ghost use Rattle.std.specs.Prelude.{◌≡◌, ◌⊎◌, ◌++◌, ◌∷◌, [], length, nat_le, true, IfOk, OnOk, IfSome, IsSome, MatchBool, MatchOption};
+ghost use Rattle.std.specs.Prelude.{◌≡◌, ◌≤◌, ◌<◌, ◌⊎◌, ◌++◌, ◌∷◌, [], length, nat_le, true, false, IfOk, IsErr, OnOk, IfSome, IsSome, MatchBool, MatchOption};
 ghost use Rattle.std.specs.Arc.{arc_value};
 ghost use mathlib.Core.List.{IsPrefix};
-ghost use Rattle.active_snapshot.specs.Reads.{IsAnswer, IsReadOf};
+ghost use Rattle.active_snapshot.specs.Reads.{HandsOut, IsAnswer, IsReadOf, MayWant};
+ghost use Rattle.commit_ledger.specs.Kept.{is_revert_due};
 ghost use Rattle.active_snapshot.specs.Views.{IsLast, IsLonger};
 
 use crate::book::{Front, Naming};
@@ -75,7 +76,8 @@ impl<J: Naming> Model for SnapReader<J> {
 
 /// The answer of a view at a moment.
 fn answer_of(shown: &Arc<Shown, Global>, moment: Moment) -> Result<Read, NoMemory>
-    ensures { IfOk result (IsAnswer (arc_value shown.now) moment) }
+    ensures ok { IfOk result (IsAnswer (arc_value shown.now) moment) }
+    ensures err { IsErr result → is_revert_due (arc_value shown.now) moment ≡ false }
 {
     let front = shown.front();
     let due = shown.is_revert_due(moment);
@@ -95,14 +97,16 @@ impl Slot {
     /// Whether it is as long as what was told, or longer.
     fn reaches(&self, told: &Front) -> bool
         requires { told.now.book ≡ self.now.book }
-        ensures { MatchBool result (IsPrefix told.now.list self.now.list) (IsPrefix self.now.list told.now.list) }
+        ensures prefix { MatchBool result (IsPrefix told.now.list self.now.list) (IsPrefix self.now.list told.now.list) }
+        ensures number { MatchBool result (length told.now.list ≤ length self.now.list) (length self.now.list < length told.now.list) }
     {
         told.begins(&self.front)
     }
 
     /// The answer of its view.
     fn answer(&self, moment: Moment) -> Result<Read, NoMemory>
-        ensures { IfOk result (IsReadOf self.now.list moment) }
+        ensures ok { IfOk result (IsReadOf self.now.list moment) }
+        ensures err { IsErr result → HandsOut self.now.list moment }
     {
         answer_of(&self.shown, moment)
     }
@@ -146,36 +150,33 @@ impl<J: Naming> SnapReader<J> {
         self.reader = factory.reader().ok();
     }
 
-    /// Keeps what is published, where it is longer.
-    fn look(&mut self) -> Result<(), NoMemory>
+    /// Keeps what is published, where it is longer and can be counted once more. A refused entry changes nothing.
+    fn look(&mut self)
         ensures later { IsPrefix self.old.list self.new.list }
         ensures told { self.new.told ≡ self.old.told }
     {
         let Some(reader) = self.reader.take() else {
-            return Ok(());
+            return;
         };
         match reader.enter_as::<OfBook<J>>() {
             Ok(reading) => {
-                let done = keep_longer(&mut self.slot, reading.get());
+                let _ = keep_longer(&mut self.slot, reading.get());
                 self.reader = Some(reading.leave());
-                done
             }
-            Err(reader) => {
-                self.reader = Some(reader);
-                Ok(())
-            }
+            Err(reader) => self.reader = Some(reader),
         }
     }
 
-    /// What the longest view says at a moment. It waits for nobody. `NoMemory` may also come where less is published than was
-    /// told.
+    /// What the longest view says at a moment. It waits for nobody, and answers from the view that it keeps where `left_right`
+    /// refuses it. `NoMemory` comes only where less is published than was told, or for a view that is handed out.
     pub fn read(&mut self, moment: Moment) -> Result<Read, NoMemory>
         ensures later { IsPrefix self.old.list self.new.list }
         ensures told { self.new.told ≡ self.old.told }
         ensures reached { IfOk result (λ _. IsPrefix self.new.told self.new.list) }
         ensures ok { IfOk result (IsReadOf self.new.list moment) }
+        ensures cause { IsErr result → MayWant self.new.list self.new.told moment }
     {
-        self.look()?;
+        self.look();
         if !self.slot.reaches(&self.told) {
             return Err(NoMemory);
         }
