@@ -1,13 +1,15 @@
 -- Levels above a level, and the top.
-use Rattle.std.proofs.Common.{◌≡◌, ℕ, zero, suc, ◌-◌, ◌<◌, ◌≤◌, ◌⊎◌, ⊎_elim, List, [], ◌∷◌, length, take, refl, sym, ap, subst, ◌∙◌, arith}
+use Rattle.std.proofs.Common.{◌≡◌, ◌↔◌, ℕ, zero, suc, ◌-◌, ◌<◌, ◌≤◌, ◌⊎◌, ⊎_elim, List, [], ◌∷◌, length, take, true, refl, sym, ap, subst, ◌∙◌, arith}
 use Rattle.std.proofs.lemmas.List.{take_all, length-take-le}
 use Rattle.std.proofs.lemmas.List.Elements.{All-nil}
 use Rattle.std.specs.List.{All}
 use Rattle.cfg_base.specs.declared.path.Step.{Step}
+use Rattle.cfg_schema.specs.Place.{top_place}
 use Rattle.cfg_tree.specs.Resolve.{IsLevelPath}
-use Rattle.cfg_tree.proofs.FollowLemmas.{typed_front, parent_is_level}
+use Rattle.cfg_tree.specs.Typed.{IsTypedPath}
+use Rattle.cfg_tree.proofs.FollowLemmas.{parent_is_level, typed_front, typed_place}
 use Rattle.cfg_tree.proofs.TopLemmas.{top_is_level}
-use Rattle.config_core.specs.Levels.{AreLevels}
+use Rattle.config_core.specs.Levels.{AreLevels, is_level_at, is_level_place}
 
 take_shorter : (path : List Step) (n : ℕ) → take n (take (suc n) path) ≡ take n path
 take_shorter [] zero = refl
@@ -40,3 +42,12 @@ alone level remembered is_level none =
 
 pub top_alone : (level : List Step) (remembered : List (List Step)) → level ≡ [] → remembered ≡ [] → AreLevels (record { level = level; remembered = remembered })
 top_alone level remembered e none = alone level remembered (top_is_level level e) none
+
+-- of a path that follows rows it is told whether it is a level
+pub level_told : (path : List Step) → IsTypedPath path → (is_level_at path ≡ true) ↔ IsLevelPath path
+level_told path typed =
+    let there = typed_place path top_place typed in
+    (
+      λ is. record { typed = typed; opens = λ here led. subst (λ place. is_level_place place ≡ true) led is },
+      λ level. subst (λ place. is_level_place place ≡ true) (sym there.1) (level.opens there.0 there.1),
+    )

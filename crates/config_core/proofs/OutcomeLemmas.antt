@@ -39,7 +39,7 @@ use Rattle.commit_ledger.specs.declared.entry.Commit.{Commit}
 use Rattle.commit_ledger.specs.Kept.{Kept, active_of, nth_last}
 use Rattle.commit_ledger.specs.Listing.{IsListing}
 use Rattle.config_core.specs.State.{State, Made, fresh_of}
-use Rattle.config_core.specs.Showing.{refusal_of, load_refusal_of, merge_refusal_of, NamesNone, NamesOne, path_alone, AsksFor, shown_full, ShowsBelow, ShowsAnswer, IsShow}
+use Rattle.config_core.specs.Showing.{refusal_of, load_refusal_of, merge_refusal_of, NamesNone, NamesOne, path_alone, ShowAsksFor, shown_full, ShowsBelow, ShowsAnswer, IsShow}
 use Rattle.config_core.specs.Access.{bar_to}
 use Rattle.config_core.specs.Callers.{level_of, own_of, candidate_of, with_candidate}
 use Rattle.config_core.specs.Serving.{Turned, answered, refused, edited, Moves, IsLost, Shows, Lists, Changes, IsUnchanged, Loads, IsNotLoaded, Replaces, RollsTo, IsOwnMerge, IsNotMerged, Updates, Checks, ChecksMerged, ChecksWhole, checked, committed, Unless, Does, Serves}
@@ -119,7 +119,7 @@ module _ (level : List Step)
     answer_once one other (inr a) (inr b) = none_once one other a b
 
   -- a show asks for one path
-  path_once : (asked : List (List ℕ)) (one other : Result (List Step) Refusal) → AsksFor level asked one → AsksFor level asked other → one ≡ other
+  path_once : (asked : List (List ℕ)) (one other : Result (List Step) Refusal) → ShowAsksFor level asked one → ShowAsksFor level asked other → one ≡ other
   path_once asked one other =
       both_served (length asked == 0) _ _ _ _ (one ≡ other) (both_are _ one other) (answer_once path_alone Err asked one other)
 

@@ -96,8 +96,8 @@ abbrev pub NamesPath : List Step → List (List ℕ) → Result (List Step) Refu
 NamesPath level asked answer = NamesOne path_alone level asked answer ⊎ NamesNone Err level asked answer
 
 -- a show asks for what its words name from a level on, and without words for the level
-abbrev pub AsksFor : List Step → List (List ℕ) → Result (List Step) Refusal → Type 0
-AsksFor level asked answer = MatchBool (length asked == 0) (answer ≡ Ok level) (NamesPath level asked answer)
+abbrev pub ShowAsksFor : List Step → List (List ℕ) → Result (List Step) Refusal → Type 0
+ShowAsksFor level asked answer = MatchBool (length asked == 0) (answer ≡ Ok level) (NamesPath level asked answer)
 
 -- an expansion is shown as its text below a path; one of more than 65,536 paths is refused
 abbrev pub shown_full : Expansion → List Step → Reply
@@ -123,7 +123,7 @@ ShowsAnswer form m (Err refusal) reply = reply ≡ Refused refusal
 -- what a show of a configuration says from a level on
 pub record IsShow (m : Statements) (level : List Step) (asked : List (List ℕ)) (form : Form) (reply : Reply) : Type 0 where
   pub answer : Result (List Step) Refusal
-  pub names : AsksFor level asked answer
+  pub names : ShowAsksFor level asked answer
   pub shows : ShowsAnswer form m answer reply
 
 -- a command is a show of the active configuration

@@ -1,8 +1,10 @@
 //! A step has one outcome, leaves the active configuration accepted, leaves the other callers where they are, and gives a
-//! session a candidate of its own exactly in private mode.
+//! session a candidate of its own exactly in private mode; and it is told which paths are levels.
 
-ghost use Rattle.std.specs.Prelude.{◌≡◌, ◌≢◌, ◌<◌, ℕ, List, IfSome};
+ghost use Rattle.std.specs.Prelude.{◌≡◌, ◌≢◌, ◌<◌, ◌↔◌, ℕ, true, List, IfSome};
+ghost use Rattle.cfg_base.specs.declared.path.Step.{Step};
 ghost use Rattle.cfg_tree.specs.Resolve.{IsLevelPath};
+ghost use Rattle.cfg_tree.specs.Typed.{IsTypedPath};
 ghost use Rattle.commands.specs.declared.command.Command.{Command};
 ghost use Rattle.commit_ledger.specs.Kept.{Kept, factory};
 ghost use Rattle.config_core.specs.declared.event.Event.{Event};
@@ -10,6 +12,7 @@ ghost use Rattle.config_core.specs.declared.event.Outcome.{Outcome};
 ghost use Rattle.config_core.specs.declared.reply.Reply.{Reply};
 ghost use Rattle.config_core.specs.State.{State, IsActiveAccepted, HasNoneInFlight, fresh_of, opening_of};
 ghost use Rattle.config_core.specs.Callers.{caller_of, candidate_of, level_of, own_of};
+ghost use Rattle.config_core.specs.Levels.{is_level_at};
 ghost use Rattle.config_core.specs.Serving.{Turned};
 ghost use Rattle.config_core.specs.Machine.{Fits, Steps};
 ghost use Rattle.config_core.specs.Soundness.{IsSoundKept, IsSoundMade, IsSoundState, OwnByMode};
@@ -81,4 +84,9 @@ pub fn rollback_0_leaves_nothing_modified()
     ensures { (s : State) (caller moment : ℕ) (turned : Turned)
         → Steps s caller moment (Event.Command (Command.Rollback 0)) Outcome.Done turned → turned.reply ≡ Reply.Loaded
         → candidate_of turned.state caller ≡ fresh_of turned.state.kept.last }
+{}
+
+/// Of a path that follows the profile's rows it is told whether it is a level.
+pub fn levels_are_told()
+    ensures { (path : List Step) → IsTypedPath path → (is_level_at path ≡ true) ↔ IsLevelPath path }
 {}

@@ -34,7 +34,7 @@ pub use core_state::Core;
 pub use effect::{Appending, Effect, Fresh};
 pub use event::{Event, Need, Outcome};
 pub use laws::{
-    active_configuration_stays_accepted, others_stay_where_they_are,
+    active_configuration_stays_accepted, levels_are_told, others_stay_where_they_are,
     private_sessions_edit_their_own, rollback_0_leaves_nothing_modified, steps_have_one_outcome,
 };
 pub use position::Position;

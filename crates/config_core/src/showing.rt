@@ -6,7 +6,7 @@ ghost use Rattle.commands.specs.declared.command.Form.{Form};
 ghost use Rattle.cfg_tree.specs.declared.limit.TheConstants.{MAX_EXPANDED};
 ghost use Rattle.cfg_tree.specs.Resolve.{IsLevelPath};
 ghost use Rattle.group_expand.specs.Expansion.{IsExpansion};
-ghost use Rattle.config_core.specs.Showing.{AsksFor, IsShow, IsShowActive, ShowsBelow, ShowsExpansion, path_alone};
+ghost use Rattle.config_core.specs.Showing.{ShowAsksFor, IsShow, IsShowActive, ShowsBelow, ShowsExpansion, path_alone};
 
 use crate::position::Position;
 use crate::refusing::refusal_of;
@@ -33,7 +33,7 @@ fn path_alone(target: Target) -> Result<Path, Refusal>
 /// The path for which the words of a show ask from a level on, or why they are refused.
 fn asked_path(alloc: Global, level: &Path, words: &Words) -> Result<Result<Path, Refusal>, NoMemory>
     requires { IsLevelPath level.now }
-    ensures { IfOk result (AsksFor level.now words.now) }
+    ensures { IfOk result (ShowAsksFor level.now words.now) }
 {
     if words.as_slice().is_empty() {
         return Ok(Ok(level.clone()?));
