@@ -51,7 +51,8 @@ impl Write for Unsteady {
         self.flushes = self.flushes.saturating_add(1);
         match self.flushes {
             1 => Err(io::Error::from(ErrorKind::Interrupted)),
-            _ => Ok(()),
+            2 => Ok(()),
+            _ => Err(io::Error::from(ErrorKind::Other)),
         }
     }
 }
@@ -67,10 +68,15 @@ fn source_over_a_reader_passes_over_interruptions(rt: HostRuntime) {
 }
 
 #[test]
-fn sink_over_a_writer_fails_where_nothing_is_taken(rt: HostRuntime) {
+fn sink_over_a_writer_fails_where_nothing_is_taken_or_flushed(rt: HostRuntime) {
     let mut sink = StdSink::new(Unsteady::new());
     assert_eq!(rt; sink.write(b"abc"), Put::Took(2));
     assert_eq!(rt; sink.write(b"abc"), Put::Failed);
+    assert_eq!(rt; sink.write(b"abc"), Put::Failed);
+    let mut sink = StdSink::new(Unsteady {
+        turn: 1,
+        flushes: 2,
+    });
     assert_eq!(rt; sink.write(b"abc"), Put::Failed);
 }
 
