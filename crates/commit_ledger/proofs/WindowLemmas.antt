@@ -1,10 +1,10 @@
 -- The commits that are kept of a whole list.
-use Rattle.std.proofs.Common.{◌≡◌, ◌+◌, ◌-◌, ℕ, List, [], ◌∷◌, ◌++◌, length, drop, refl, sym, ◌∙◌, ap, arith, append_assoc, length-append, length-drop}
+use Rattle.std.proofs.Common.{◌≡◌, ◌≤◌, ◌+◌, ◌-◌, ℕ, List, [], ◌∷◌, ◌++◌, length, drop, sym, ◌∙◌, ap, arith, append_assoc, length-append, length-drop}
 use Rattle.std.proofs.lemmas.List.{append-nil, drop-append-le, drop-drop}
 use Rattle.commit_ledger.specs.declared.entry.Commit.{Commit}
 use Rattle.commit_ledger.specs.declared.entry.Entry.{Entry}
 use Rattle.commit_ledger.specs.declared.entry.Entry.TheVariants.{Commit as CommitOf, Confirm as ConfirmOf}
-use Rattle.commit_ledger.specs.Kept.{Kept, factory, factory_commit, newest, append_commit, append_confirm, after_entries, commits_of, commits_in}
+use Rattle.commit_ledger.specs.Kept.{Kept, newest, append_commit, append_confirm, after_entries, commits_of, commits_in, kept_commits}
 
 -- the newest of the newest with one more
 newest_push : (commits : List Commit) (commit : Commit) → newest 49 (newest 49 commits ++ commit ∷ []) ≡ newest 49 (commits ++ commit ∷ [])
@@ -32,7 +32,21 @@ window (CommitOf commit ∷ entries) kept before is =
     (rest.0, rest.1, rest.2 ∙ append_assoc (before ++ kept.last ∷ []) (commit ∷ []) (commits_in entries))
 window (ConfirmOf confirm ∷ entries) kept before is = window entries (append_confirm kept confirm) before is
 
-pub fifty_are_kept : (entries : List Entry) → commits_of (after_entries factory entries) ≡ newest 50 (factory_commit ∷ commits_in entries)
-fifty_are_kept entries =
-    let whole = window entries factory [] refl in
-    ap (λ l. l ++ (after_entries factory entries).last ∷ []) whole.1 ∙ newest_all whole.0 (after_entries factory entries).last ∙ ap (newest 50) whole.2
+module _ (kept : Kept) (entries : List Entry) (few : kept_commits kept ≤ 50) where
+  all_older : kept.older ≡ newest 49 kept.older
+  all_older =
+      let none_gone : length kept.older - 49 ≡ 0 = omega (arith, few) in
+      sym (ap (λ n. drop n kept.older) none_gone)
+
+  -- the last 50 commits of a list are kept
+  pub fifty_are_kept : commits_of (after_entries kept entries) ≡ newest 50 (commits_of kept ++ commits_in entries)
+  fifty_are_kept =
+      let whole = window entries kept kept.older all_older in
+      ap (λ l. l ++ (after_entries kept entries).last ∷ []) whole.1 ∙ newest_all whole.0 (after_entries kept entries).last ∙ ap (newest 50) whole.2
+
+  -- and no more
+  pub fifty_at_most : kept_commits (after_entries kept entries) ≤ 50
+  fifty_at_most =
+      let whole = window entries kept kept.older all_older in
+      let size : length (after_entries kept entries).older ≡ length whole.0 - (length whole.0 - 49) = ap length whole.1 ∙ length-drop (length whole.0 - 49) whole.0 in
+      omega (arith, size)

@@ -1,6 +1,6 @@
 //! What holds of all lists.
 
-ghost use Rattle.std.specs.Prelude.{◌≡◌, ℕ, List, [], ◌∷◌, ◌++◌};
+ghost use Rattle.std.specs.Prelude.{◌≡◌, ◌≤◌, ℕ, List, [], ◌∷◌, ◌++◌};
 ghost use Rattle.record_code.specs.declared.payloads.Placed.{Placed};
 ghost use Rattle.record_code.specs.Listed.{records_of};
 ghost use Rattle.record_code.specs.Record.{Record};
@@ -8,7 +8,7 @@ ghost use Rattle.std.specs.FinMap as map;
 ghost use Rattle.commit_ledger.specs.declared.entry.Commit.{Commit};
 ghost use Rattle.commit_ledger.specs.declared.entry.Entry.{Entry};
 ghost use Rattle.commit_ledger.specs.declared.entry.Entry.TheVariants.{Commit as CommitOf};
-ghost use Rattle.commit_ledger.specs.Kept.{Kept, factory, factory_commit, opened, newest, after_entries, commits_of, commits_in, KeepsMaps, BringsMap, append_entry, target_of};
+ghost use Rattle.commit_ledger.specs.Kept.{Kept, factory_commit, opened, newest, after_entries, commits_of, commits_in, kept_commits, KeepsMaps, BringsMap, append_entry, target_of};
 ghost use Rattle.commit_ledger.specs.Listing.{IsListing};
 ghost use Rattle.commit_ledger.specs.Payload.{entry_record, HasShortText};
 ghost use Rattle.commit_ledger.specs.Reading.{IsRecordOf, ReadsAs, IsUnread};
@@ -16,10 +16,15 @@ ghost use Rattle.commit_ledger.specs.Rules.{IsCommit, IsEntry, Follows};
 
 use cfg_tree::LedgerCheck;
 
-/// Of a list that begins with the factory commit the last 50 commits are kept, in order; confirmations are no commits.
+/// Of a list that begins with a commit, the factory's or another one, the last 50 commits are kept, in order; confirmations are
+/// no commits. Of any list that keeps 50 at most, so they are after further entries.
 pub fn the_last_fifty_commits_are_kept()
-    ensures { (entries : List Entry) → commits_of (after_entries factory entries)
-        ≡ newest 50 (factory_commit ∷ commits_in entries) }
+    ensures begun { (first : Commit) (entries : List Entry) → commits_of (after_entries (opened first) entries)
+        ≡ newest 50 (first ∷ commits_in entries) }
+    ensures further { (kept : Kept) (entries : List Entry) → kept_commits kept ≤ 50
+        → commits_of (after_entries kept entries) ≡ newest 50 (commits_of kept ++ commits_in entries) }
+    ensures most { (kept : Kept) (entries : List Entry) → kept_commits kept ≤ 50
+        → kept_commits (after_entries kept entries) ≤ 50 }
 {}
 
 /// A list of commits is shown as one text.
