@@ -24,7 +24,7 @@ use Rattle.config_core.specs.Access.{bar_to}
 use Rattle.config_core.specs.Callers.{caller_in, caller_of, own_in, own_of, owns_with, position_of, with_caller, with_candidate, with_position, entered, out_of_mode, without_mode}
 use Rattle.config_core.specs.Entries.{commit_of, confirm_of, made_by, fresh_in, own_after, taken}
 use Rattle.config_core.specs.Serving.{Turned, answered, refused, exited, edited, makes, left_if, checked, Replaces, RollsTo, Does, Serves}
-use Rattle.config_core.specs.Machine.{Waiting, InFlight, Missed, Free, waiting_for, waiting_of, is_logout, settled, reverted, Ends, StepsFrom, Steps, later}
+use Rattle.config_core.specs.Machine.{Waiting, InFlight, Missed, Free, waiting_for, waiting_of, is_logout, settled, reverted, Ends, StepsFrom, Steps, IsNotAskedBy, later}
 use Rattle.config_core.proofs.StepLemmas.{by_bar, by_bool, by_check}
 
 get_other : {X : Type 0} (xs : List X) (i j : ℕ) (x : X) → i ≢ j → slice_get (slice_set xs i x) j ≡ slice_get xs j
@@ -205,15 +205,55 @@ flying_when (Some one) missed made is = cc
 flying_when None true made is = absurd (cc)
 flying_when None false made is = absurd (cc)
 
-module _ (s : State) (caller other moment : ℕ) (event : Event) (outcome : Outcome) (turned : Turned) (one : 0 < caller) (two : 0 < other)
-    (apart : other ≢ caller) (steps : Steps s caller moment event outcome turned) where
-  stays_so : Stays (later s moment) caller other (numbers_apart caller other one two apart) turned.state
-  stays_so =
+abbrev is_command : Event → Bool
+is_command (CommandOf command) = true
+is_command (Settle is_kept) = false
+is_command Revert = false
+
+-- a settling and a revert leave the same in whoever's turn they come
+anyones : (waiting : Waiting) (s : State) (caller one : ℕ) (event : Event) (outcome : Outcome) (turned : Turned) → is_command event ≡ false
+    → StepsFrom waiting s caller event outcome turned → StepsFrom waiting s one event outcome turned
+anyones waiting s caller one (CommandOf command) outcome turned none steps = absurd (let e : true ≡ false = none in cc)
+anyones (InFlight made) s caller one (Settle is_kept) Done turned none steps = steps
+anyones (InFlight made) s caller one (Settle is_kept) Fault turned none steps = absurd steps
+anyones (InFlight made) s caller one Revert outcome turned none steps = absurd steps
+anyones Missed s caller one (Settle is_kept) outcome turned none steps = absurd steps
+anyones Missed s caller one Revert outcome turned none steps = steps
+anyones Free s caller one (Settle is_kept) outcome turned none steps = absurd steps
+anyones Free s caller one Revert outcome turned none steps = absurd steps
+
+-- what a step in another caller's turn leaves
+abbrev Leaves : State → ℕ → Turned → Type 0
+Leaves s other turned = (caller_of turned.state other ≡ caller_of s other) × (HasNoneInFlight s other → own_of turned.state other ≡ own_of s other)
+
+module _ (s : State) (other moment : ℕ) (event : Event) (outcome : Outcome) (turned : Turned) (two : 0 < other) where
+  stays_so : (caller : ℕ) → 0 < caller → other ≢ caller → Steps s caller moment event outcome turned → Leaves s other turned
+  stays_so caller one apart steps =
+      let stays =
       from_stays (later s moment) caller other (numbers_apart caller other one two apart) (waiting_of s moment) event outcome turned
-      (flying_when s.flight (is_revert_due s.kept moment)) steps
+      (flying_when s.flight (is_revert_due s.kept moment)) steps in
+      (stays.0, λ none. stays.1 (made_elsewhere s.flight other two none))
 
-  pub steps_leave_others : caller_of turned.state other ≡ caller_of s other
-  steps_leave_others = stays_so.0
+  -- what is nobody's command leaves it as one in the turn of the next caller
+  stays_for : is_command event ≡ false → (caller : ℕ) → Steps s caller moment event outcome turned → Leaves s other turned
+  stays_for none caller steps =
+      stays_so (suc other) (omega arith) (λ same. omega (arith, same))
+      (anyones (waiting_of s moment) (later s moment) caller (suc other) event outcome turned none steps)
 
-  pub steps_leave_candidates : HasNoneInFlight s other → own_of turned.state other ≡ own_of s other
-  steps_leave_candidates none = stays_so.1 (made_elsewhere s.flight other two none)
+leaves_others : (s : State) (caller other moment : ℕ) (event : Event) (outcome : Outcome) (turned : Turned) → 0 < other → IsNotAskedBy other caller event
+    → Steps s caller moment event outcome turned → Leaves s other turned
+leaves_others s caller other moment (CommandOf command) outcome turned two asked steps =
+    stays_so s other moment (CommandOf command) outcome turned two caller asked.0 asked.1 steps
+leaves_others s caller other moment (Settle is_kept) outcome turned two asked steps =
+    stays_for s other moment (Settle is_kept) outcome turned two refl caller steps
+leaves_others s caller other moment Revert outcome turned two asked steps =
+    stays_for s other moment Revert outcome turned two refl caller steps
+
+pub steps_leave_others : (s : State) (caller other moment : ℕ) (event : Event) (outcome : Outcome) (turned : Turned) → 0 < other
+    → IsNotAskedBy other caller event → Steps s caller moment event outcome turned → caller_of turned.state other ≡ caller_of s other
+steps_leave_others s caller other moment event outcome turned two asked steps = (leaves_others s caller other moment event outcome turned two asked steps).0
+
+pub steps_leave_candidates : (s : State) (caller other moment : ℕ) (event : Event) (outcome : Outcome) (turned : Turned) → 0 < other
+    → IsNotAskedBy other caller event → Steps s caller moment event outcome turned → HasNoneInFlight s other → own_of turned.state other ≡ own_of s other
+steps_leave_candidates s caller other moment event outcome turned two asked steps =
+    (leaves_others s caller other moment event outcome turned two asked steps).1

@@ -1,7 +1,7 @@
 -- One step of the machine: what an event makes of the state by its outcome, and the reply to it.
 -- That a command waits for the entry in flight and for a missed deadline, and what a fault leaves, is this project's own;
 -- Junos OS CLI User Guide, on commit confirmed, says what a missed deadline does.
-use Rattle.std.specs.Prelude.{◌≡◌, ℕ, ◌≤◌, Bool, true, false, if◌then◌else◌, Option, None, Some}
+use Rattle.std.specs.Prelude.{◌≡◌, ◌≢◌, ℕ, ◌≤◌, ◌<◌, Bool, true, false, if◌then◌else◌, Option, None, Some}
 use Rattle.commands.specs.Sound.{IsSound}
 use Rattle.commands.specs.declared.command.Command.{Command}
 use Rattle.commands.specs.declared.command.Command.TheVariants.{Logout}
@@ -92,6 +92,13 @@ abbrev pub IsAskable : State → ℕ → Event → Type 0
 IsAskable s caller (CommandOf command) = IsCaller s caller × IsSound command
 IsAskable s caller (Settle is_kept) = Unit {0}
 IsAskable s caller Revert = Unit {0}
+
+-- an event is no command of a caller: it is one of another caller, and they are numbered from 1, or it is a settling or a
+-- revert, in whoever's turn it comes
+abbrev pub IsNotAskedBy : ℕ → ℕ → Event → Type 0
+IsNotAskedBy other caller (CommandOf command) = (0 < caller) × (other ≢ caller)
+IsNotAskedBy other caller (Settle is_kept) = Unit {0}
+IsNotAskedBy other caller Revert = Unit {0}
 
 -- which events fit: at no earlier moment than the last
 pub record Fits (s : State) (caller moment : ℕ) (event : Event) : Type 0 where

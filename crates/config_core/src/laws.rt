@@ -1,7 +1,7 @@
 //! A step has one outcome, leaves the active configuration accepted, leaves the other callers where they are, and gives a
 //! session a candidate of its own exactly in private mode; and it is told which paths are levels.
 
-ghost use Rattle.std.specs.Prelude.{◌≡◌, ◌≢◌, ◌<◌, ◌↔◌, ℕ, true, List, IfSome};
+ghost use Rattle.std.specs.Prelude.{◌≡◌, ◌<◌, ◌↔◌, ℕ, true, List, IfSome};
 ghost use Rattle.cfg_base.specs.declared.path.Step.{Step};
 ghost use Rattle.cfg_tree.specs.Resolve.{IsLevelPath};
 ghost use Rattle.cfg_tree.specs.Typed.{IsTypedPath};
@@ -14,7 +14,7 @@ ghost use Rattle.config_core.specs.State.{State, IsActiveAccepted, HasNoneInFlig
 ghost use Rattle.config_core.specs.Callers.{caller_of, candidate_of, level_of, own_of};
 ghost use Rattle.config_core.specs.Levels.{is_level_at};
 ghost use Rattle.config_core.specs.Serving.{Turned};
-ghost use Rattle.config_core.specs.Machine.{Fits, Steps};
+ghost use Rattle.config_core.specs.Machine.{Fits, IsNotAskedBy, Steps};
 ghost use Rattle.config_core.specs.Soundness.{IsSoundKept, IsSoundMade, IsSoundState, OwnByMode};
 
 use candidate::edits_have_one_answer;
@@ -59,14 +59,15 @@ pub fn active_configuration_stays_accepted()
     nothing_is_accepted();
 }
 
-/// Where a caller stands and how it edits is changed by nobody else, whatever comes of the other's event; nor is a private
-/// session's own candidate, with its base, but where its own commit was in flight and is settled.
+/// Where a caller stands and how it edits is changed by its own commands alone: by no other caller's, and by no settling and no
+/// revert, in whoever's turn they come. Nor is a private session's own candidate, with its base, but where its own commit was in
+/// flight and is settled.
 pub fn others_stay_where_they_are()
     ensures callers { (s : State) (caller other moment : ℕ) (event : Event) (outcome : Outcome) (turned : Turned)
-        → 0 < caller → 0 < other → other ≢ caller → Steps s caller moment event outcome turned
+        → 0 < other → IsNotAskedBy other caller event → Steps s caller moment event outcome turned
         → caller_of turned.state other ≡ caller_of s other }
     ensures candidates { (s : State) (caller other moment : ℕ) (event : Event) (outcome : Outcome) (turned : Turned)
-        → 0 < caller → 0 < other → other ≢ caller → Steps s caller moment event outcome turned
+        → 0 < other → IsNotAskedBy other caller event → Steps s caller moment event outcome turned
         → HasNoneInFlight s other → own_of turned.state other ≡ own_of s other }
 {}
 
