@@ -6,3 +6,6 @@ pub mod CreateLemmas
 pub mod CauseLemmas
 pub mod CallLemmas
 pub mod SideLemmas
+mod FileLemmas
+mod StepLemmas
+mod OpenLemmas

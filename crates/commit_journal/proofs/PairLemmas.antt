@@ -10,7 +10,7 @@ use Rattle.commit_journal.specs.Journal.{gate_behind}
 use Rattle.record_code.specs.Reading.{Agree, Spells, first_gate}
 use Rattle.record_code.proofs.Slices.{slice_same}
 use Rattle.commit_journal.proofs.AppendLemmas.{gate_from}
-use Rattle.commit_journal.specs.Pair.{file_gate, generation, HasHeader, IsPair, b_counts, PairSpells, first_of, second_of, IsChosen, IsQuiet, IsBeforeOrAfter, IsSettled, LeavesPair, Rests, Waits, SpellsEither, Only}
+use Rattle.commit_journal.specs.Pair.{file_gate, generation, HasHeader, b_counts, PairSpells, first_of, second_of, IsChosen, IsQuiet, IsBeforeOrAfter, IsSettled, LeavesPair, Rests, Waits, SpellsEither, Only}
 
 header_same : (f c : List ℕ) → HasHeader f → Agree f c 0 first_gate → first_gate ≤ length c → HasHeader c
 header_same f c header agree long = record {
@@ -154,28 +154,6 @@ pub quiet_only : (a b : History) (rs : List Record) → IsQuiet a → IsQuiet b 
 quiet_only a b rs quiet_a quiet_b spells c d image_c image_d =
     subst (λ (l : List ℕ). PairSpells l d rs) (sym (settled_image (state_of a) c quiet_a image_c))
     (subst (λ (l : List ℕ). PairSpells (contents_of a) l rs) (sym (settled_image (state_of b) d quiet_b image_d)) spells)
-
--- the file that counts by its choice spells the pair's list
-pair_spells : (a b : List ℕ) (choice : Bool) (rs : List Record) (last : ℕ) → IsPair a b → choice ≡ b_counts a b → (choice ≡ false → Spells a rs last)
-    → (choice ≡ true → Spells b rs last) → PairSpells a b rs
-pair_spells a b false rs last pair is spells_a spells_b = record {
-  pair = pair;
-  last = last;
-  spells = subst (λ (v : Bool). Spells (cond v b a) rs last) is (spells_a refl);
-}
-pair_spells a b true rs last pair is spells_a spells_b = record {
-  pair = pair;
-  last = last;
-  spells = subst (λ (v : Bool). Spells (cond v b a) rs last) is (spells_b refl);
-}
-
--- and the file that was read later had the same history
-pub read_spells : (a a' b b' : History) (choice : Bool) (rs : List Record) (last : ℕ) → a' ≡ a → b' ≡ b
-    → IsPair (contents_of a) (contents_of b) × (choice ≡ b_counts (contents_of a) (contents_of b))
-    → (choice ≡ false → Spells (contents_of a') rs last) → (choice ≡ true → Spells (contents_of b') rs last) → PairSpells (contents_of a) (contents_of b) rs
-read_spells a a' b b' choice rs last same_a same_b chosen spells_a spells_b = pair_spells (contents_of a) (contents_of b) choice rs last chosen.0 chosen.1
-    (λ is. subst (λ (h : History). Spells (contents_of h) rs last) same_a (spells_a is))
-    (λ is. subst (λ (h : History). Spells (contents_of h) rs last) same_b (spells_b is))
 
 -- a list of one record
 pub the_one : (l : List Record) → length l ≡ 1 → (r : Record) × (l ≡ r ∷ [])

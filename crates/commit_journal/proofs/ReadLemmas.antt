@@ -36,10 +36,6 @@ pub size_none : (f head : List ℕ) (g n : ℕ) → head ≡ slice f (g + 1) 5 �
 unfolding size_at
 size_none f head g n is value lt = no_size n lt ∙ ap (λ (m : ℕ). cond (nat_le m most_payload) m 0) (value ∙ ap (from_be_bytes w32) (number_is f head g is))
 
-magic_front : (f : List ℕ) → take 8 (slice f 0 17) ≡ slice f 0 8
-unfolding slice
-magic_front f = refl
-
 pub header_is : (file bytes : List ℕ) (len : ℕ) (h : Header) → len ≡ length file → bytes ≡ slice file 0 17
     → (IsTrue h.begins ↔ (take 8 bytes ≡ magic)) → (IsTrue h.is_sound ↔ ((first_gate ≤ len) × (take 8 bytes ≡ magic))) → h.generation ≡ from_be_bytes w64 (take 8 (drop 8 bytes)) → h.is_open ≡ (get_or bytes 16 0 == 1)
     → IsHeaderOf file h

@@ -2,7 +2,7 @@
 use Rattle.std.proofs.Common.{◌≡◌, ◌≢◌, inl, inr, ⊎_elim, ℕ, ◌==◌, Bool, true, false, List, [], ◌∷◌, ◌++◌, refl, sym, ◌∙◌, ap, subst, arith}
 use Rattle.std.proofs.lemmas.Bool.Decides.{nat_tests}
 use Rattle.disk_model.specs.Disk.{Call, Sync, Refused, History, State, settled, step, state_of, contents_of, IsImage, Called, DidNothing, Synced}
-use Rattle.disk_model.proofs.Images.{settled_image, started, goes_on_sync, synced_done, synced_contents, synced_within, contents_image, leaves_now}
+use Rattle.disk_model.proofs.Images.{settled_image, started, goes_on_sync, synced_contents, synced_within, contents_image, leaves_now}
 use Rattle.disk_model.proofs.States.{state_called}
 use Rattle.record_code.specs.Record.{Record}
 use Rattle.record_code.specs.Reading.{byte, Spells}
@@ -32,9 +32,6 @@ sync_settles h h' done synced = record {
   same = synced_contents h h' done synced;
   still_quiet = sync_still_quiet h h' done synced;
 }
-
-pub sync_quiet : (h h' : History) (done : Type 0) → Synced h done h' → done → IsQuiet h'
-sync_quiet h h' done synced is k = ap (λ (s : State). s.pending k) (synced_done h h' done synced is)
 
 pub nothing_settles : (h : History) → FileSettles h h
 nothing_settles h = record { leaves = started h (IsImage (state_of h)) (λ c image. image); same = refl; still_quiet = λ quiet. quiet }

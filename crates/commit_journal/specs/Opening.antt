@@ -1,5 +1,5 @@
 -- What a journal that was just made or opened is, and what its disks did meanwhile. A and B are as 1 and 2 in the call.
-use Rattle.std.specs.Prelude.{◌≡◌, ◌≤◌, ◌⊎◌, Bool, true, IsTrue, ℕ, List, [], ◌∷◌, ◌++◌}
+use Rattle.std.specs.Prelude.{◌≡◌, ◌≤◌, ◌⊎◌, true, IsTrue, ℕ, List, [], ◌∷◌, ◌++◌}
 use Rattle.disk_model.specs.Disk.{DiskView, Call, Write, Sync, Called, GoesOn, MaySync, MadePart, contents_of}
 use Rattle.record_code.specs.declared.payloads.Placed.{Placed}
 use Rattle.record_code.specs.Record.{Record, bodies, gated}

@@ -1,10 +1,10 @@
-ghost use Rattle.std.specs.Prelude.{◌≡◌, ◌≤◌, ◌<◌, ◌+◌, ◌^◌, ◌++◌, ◌∷◌, [], ◌⊎◌, ◌↔◌, false, true, OnOk, List, ℕ, length, IsTrue, IfOk, IfErr, IfSome, IsNone, IsErrOf};
-ghost use Rattle.disk_model.specs.Disk.{contents_of, put, HasCause, Write, Sync, GoesOn, MadePart};
-ghost use Rattle.record_code.specs.Record.{Record, IsSound, body, gated};
-ghost use Rattle.commit_journal.specs.Pair.{IsQuiet, IsSettled, IsChosen, head_a, head_b};
-ghost use Rattle.commit_journal.specs.Journal.{PairCause};
+ghost use Rattle.std.specs.Prelude.{◌≡◌, ◌≤◌, ◌<◌, ◌+◌, ◌^◌, ◌++◌, ◌∷◌, [], ◌⊎◌, ◌↔◌, true, OnOk, List, ℕ, length, IsTrue, IsOk, IfOk, IfErr, IfSome, IsNone, IsErrOf};
+ghost use Rattle.disk_model.specs.Disk.{contents_of, HasCause, Write, Sync, GoesOn};
 ghost use Rattle.commit_journal.specs.Attach.{IsThere, IsHeaderOf};
+ghost use Rattle.commit_journal.specs.Files.{IsReadFile, IsWrittenFile};
+ghost use Rattle.commit_journal.specs.Journal.{PairCause};
 ghost use Rattle.commit_journal.specs.Opening.{IsOpened, IsCreated, IsNotCreated, making, making_b};
+ghost use Rattle.commit_journal.specs.Pair.{head_a, head_b};
 
 use crate::appending::OPEN;
 use crate::flight::Flight;
@@ -18,14 +18,8 @@ use std::alloc::{AllocError, Global};
 /// Writes a piece, and syncs.
 pub(crate) fn write_and_sync<D: Disk>(disk: &mut D, at: u64, piece: &[u8]) -> DiskDone
     requires { IsTrue (D.view disk.old).tells → at ≤ length (contents_of (D.view disk.old).history) }
-    ensures tells { (D.view disk.new).tells ≡ (D.view disk.old).tells }
-    ensures contents { result ≡ DiskDone.Done → IsTrue (D.view disk.old).tells →
-        contents_of (D.view disk.new).history ≡ put at piece.now (contents_of (D.view disk.old).history) }
-    ensures quiet { result ≡ DiskDone.Done → IsTrue (D.view disk.old).tells → IsQuiet (D.view disk.new).history }
-    ensures made { result ≡ DiskDone.Done → IsTrue (D.view disk.old).tells →
-        GoesOn (D.view disk.old).history (Write at piece.now ∷ (Sync true ∷ [])) (D.view disk.new).history }
-    ensures part { IsTrue (D.view disk.old).tells →
-        MadePart (D.view disk.old).history (Write at piece.now ∷ (Sync true ∷ [])) (D.view disk.new).history }
+    ensures file { IsWrittenFile (D.view disk.old) (D.view disk.new) (Write at piece.now ∷ (Sync true ∷ []))
+        (result ≡ DiskDone.Done) }
     ensures bound { result ≡ DiskDone.Done → at + length piece.now ≤ 2 ^ 62 }
     ensures cause { HasCause (D.view disk.old).faults (D.view disk.new).faults (result ≡ DiskDone.Failed) }
 {
@@ -43,10 +37,8 @@ fn is_there(a: &Header, b: &Header) -> bool
 
 /// Whether a journal is there already.
 pub(crate) fn find_journal<D: Disk>(a: &mut D, b: &mut D) -> Option<bool>
-    ensures tells { (D.view a.new).tells ≡ (D.view a.old).tells }
-    ensures other_tells { (D.view b.new).tells ≡ (D.view b.old).tells }
-    ensures history { (D.view a.new).history ≡ (D.view a.old).history }
-    ensures other_history { (D.view b.new).history ≡ (D.view b.old).history }
+    ensures a { IsReadFile (D.view a.old) (D.view a.new) }
+    ensures b { IsReadFile (D.view b.old) (D.view b.new) }
     ensures there { IsTrue (D.view a.old).tells → IsTrue (D.view b.old).tells → IfSome result (λ is_there.
         IsTrue is_there ↔ IsThere (contents_of (D.view a.old).history) (contents_of (D.view b.old).history)) }
     ensures cause { PairCause (D.view a.old).faults (D.view a.new).faults
@@ -78,23 +70,9 @@ fn image_of(alloc: Global, entry: &[u8]) -> Result<Vec<u8>, AllocError>
 
 fn write_files<D: Disk>(a: &mut D, b: &mut D, image: &[u8]) -> DiskDone
     requires { 17 ≤ length image.now }
-    ensures tells { (D.view a.new).tells ≡ (D.view a.old).tells }
-    ensures other_tells { (D.view b.new).tells ≡ (D.view b.old).tells }
-    ensures contents { result ≡ DiskDone.Done → IsTrue (D.view a.old).tells → contents_of (D.view a.new).history
-        ≡ put 16 (1 ∷ []) (put 0 image.now (contents_of (D.view a.old).history)) }
-    ensures other_contents { result ≡ DiskDone.Done → IsTrue (D.view b.old).tells →
-        contents_of (D.view b.new).history ≡ put 0 head_b (contents_of (D.view b.old).history) }
-    ensures quiet { result ≡ DiskDone.Done → IsTrue (D.view a.old).tells → IsQuiet (D.view a.new).history }
-    ensures other_quiet { result ≡ DiskDone.Done → IsTrue (D.view b.old).tells → IsQuiet (D.view b.new).history }
-    ensures made { result ≡ DiskDone.Done → IsTrue (D.view a.old).tells →
-        GoesOn (D.view a.old).history (making image.now) (D.view a.new).history }
-    ensures other_made { result ≡ DiskDone.Done → IsTrue (D.view b.old).tells →
-        GoesOn (D.view b.old).history making_b (D.view b.new).history }
-    ensures part { IsTrue (D.view a.old).tells →
-        MadePart (D.view a.old).history (making image.now) (D.view a.new).history }
-    ensures other_part { IsTrue (D.view b.old).tells →
-        MadePart (D.view b.old).history making_b (D.view b.new).history }
-    ensures other_first { IsTrue (D.view b.old).tells → ((D.view a.new).history ≡ (D.view a.old).history)
+    ensures a { IsWrittenFile (D.view a.old) (D.view a.new) (making image.now) (result ≡ DiskDone.Done) }
+    ensures b { IsWrittenFile (D.view b.old) (D.view b.new) making_b (result ≡ DiskDone.Done) }
+    ensures b_first { IsTrue (D.view b.old).tells → ((D.view a.new).history ≡ (D.view a.old).history)
         ⊎ GoesOn (D.view b.old).history making_b (D.view b.new).history }
     ensures bound { result ≡ DiskDone.Done → length image.now ≤ 2 ^ 62 }
     ensures cause { PairCause (D.view a.old).faults (D.view a.new).faults
@@ -117,26 +95,11 @@ pub(crate) fn make_files<D: Disk>(
     entry: &[u8],
 ) -> Result<(), CreateWhy>
     requires { length entry.now < 2 ^ 62 }
-    ensures tells { (D.view a.new).tells ≡ (D.view a.old).tells }
-    ensures other_tells { (D.view b.new).tells ≡ (D.view b.old).tells }
-    ensures bound { OnOk result (16 + length entry.now < 2 ^ 62) }
-    ensures made { IsTrue (D.view a.old).tells → OnOk result
-        (GoesOn (D.view a.old).history (making (head_a ++ entry.now)) (D.view a.new).history) }
-    ensures other_made { IsTrue (D.view b.old).tells → OnOk result
-        (GoesOn (D.view b.old).history making_b (D.view b.new).history) }
-    ensures part { IsTrue (D.view a.old).tells →
-        MadePart (D.view a.old).history (making (head_a ++ entry.now)) (D.view a.new).history }
-    ensures other_part { IsTrue (D.view b.old).tells →
-        MadePart (D.view b.old).history making_b (D.view b.new).history }
-    ensures other_first { IsTrue (D.view b.old).tells → ((D.view a.new).history ≡ (D.view a.old).history)
+    ensures a { IsWrittenFile (D.view a.old) (D.view a.new) (making (head_a ++ entry.now)) (IsOk result) }
+    ensures b { IsWrittenFile (D.view b.old) (D.view b.new) making_b (IsOk result) }
+    ensures b_first { IsTrue (D.view b.old).tells → ((D.view a.new).history ≡ (D.view a.old).history)
         ⊎ GoesOn (D.view b.old).history making_b (D.view b.new).history }
-    ensures settled { IsTrue (D.view a.old).tells → OnOk result ((r : Record) → IsSound r
-        → entry.now ≡ gated (body 0 r)
-        → IsSettled (D.view a.new).history (r ∷ []) (16 + length entry.now)) }
-    ensures other_quiet { IsTrue (D.view b.old).tells → OnOk result (IsQuiet (D.view b.new).history) }
-    ensures chosen { IsTrue (D.view a.old).tells → IsTrue (D.view b.old).tells → OnOk result ((r : Record)
-        → IsSound r → entry.now ≡ gated (body 0 r)
-        → IsChosen false (contents_of (D.view a.new).history) (contents_of (D.view b.new).history)) }
+    ensures bound { OnOk result (16 + length entry.now < 2 ^ 62) }
     ensures free { IsTrue (D.view a.old).tells → IsTrue (D.view b.old).tells → OnOk result
         (IsThere (contents_of (D.view a.old).history) (contents_of (D.view b.old).history) → ⊥) }
     ensures exists { IsTrue (D.view a.old).tells → IsTrue (D.view b.old).tells

@@ -1,10 +1,10 @@
-ghost use Rattle.std.specs.Prelude.{◌≡◌, ◌<◌, ◌^◌, ◌⊎◌, ◌↔◌, List, ℕ, ◌==◌, false, true, IsTrue, IsOk, IfOk, IfErr, IsErrOf};
-ghost use Rattle.disk_model.specs.Disk.{contents_of, Sync, Called, MaySync};
-ghost use Rattle.record_code.specs.Reading.{Spells};
-ghost use Rattle.commit_journal.specs.Pair.{IsPair, PairSpells, Only, b_counts, IsQuiet, FileSettles};
+ghost use Rattle.std.specs.Prelude.{◌≡◌, ◌⊎◌, ◌↔◌, List, ℕ, IsTrue, IsOk, IfOk, IfErr, IsErrOf};
+ghost use Rattle.disk_model.specs.Disk.{contents_of};
+ghost use Rattle.disk_model.specs.Pair.{BothTell, pair_of};
 ghost use Rattle.commit_journal.specs.Attach.{ExplainsPair, ExplainsFile, IsHeaderOf};
-ghost use Rattle.record_code.specs.Listed.{records_of, PlacedFrom};
+ghost use Rattle.commit_journal.specs.Files.{AreListed, IsListedFile, IsReadFile, IsSyncedFile};
 ghost use Rattle.commit_journal.specs.Journal.{PairCause};
+ghost use Rattle.commit_journal.specs.Pair.{IsPair, b_counts, first_of};
 
 use crate::header::{Header, read_header};
 use crate::reading::{Listed, list_file};
@@ -15,18 +15,8 @@ use std::alloc::Global;
 
 /// Syncs both files, after which a crash leaves what a read gives.
 pub(crate) fn sync_both<D: Disk>(a: &mut D, b: &mut D) -> DiskDone
-    ensures tells { (D.view a.new).tells ≡ (D.view a.old).tells }
-    ensures other_tells { (D.view b.new).tells ≡ (D.view b.old).tells }
-    ensures settles { IsTrue (D.view a.old).tells → FileSettles (D.view a.old).history (D.view a.new).history }
-    ensures other_settles { IsTrue (D.view b.old).tells → FileSettles (D.view b.old).history (D.view b.new).history }
-    ensures synced { result ≡ DiskDone.Done → IsTrue (D.view a.old).tells →
-        Called (D.view a.old).history (Sync true) (D.view a.new).history }
-    ensures other_synced { result ≡ DiskDone.Done → IsTrue (D.view b.old).tells →
-        Called (D.view b.old).history (Sync true) (D.view b.new).history }
-    ensures may { IsTrue (D.view a.old).tells → MaySync (D.view a.old).history (D.view a.new).history }
-    ensures other_may { IsTrue (D.view b.old).tells → MaySync (D.view b.old).history (D.view b.new).history }
-    ensures quiet { result ≡ DiskDone.Done → IsTrue (D.view a.old).tells → IsQuiet (D.view a.new).history }
-    ensures other_quiet { result ≡ DiskDone.Done → IsTrue (D.view b.old).tells → IsQuiet (D.view b.new).history }
+    ensures a { IsSyncedFile (D.view a.old) (D.view a.new) (result ≡ DiskDone.Done) }
+    ensures b { IsSyncedFile (D.view b.old) (D.view b.new) (result ≡ DiskDone.Done) }
     ensures cause { PairCause (D.view a.old).faults (D.view a.new).faults
         (D.view b.old).faults (D.view b.new).faults (result ≡ DiskDone.Failed) }
 {
@@ -54,10 +44,8 @@ fn counts_b(a: &Header, b: &Header) -> bool
 
 /// Whether B counts, where these are a journal's files.
 pub(crate) fn choose<D: Disk>(a: &mut D, b: &mut D) -> Result<bool, AttachWhy>
-    ensures tells { (D.view a.new).tells ≡ (D.view a.old).tells }
-    ensures other_tells { (D.view b.new).tells ≡ (D.view b.old).tells }
-    ensures history { (D.view a.new).history ≡ (D.view a.old).history }
-    ensures other_history { (D.view b.new).history ≡ (D.view b.old).history }
+    ensures a { IsReadFile (D.view a.old) (D.view a.new) }
+    ensures b { IsReadFile (D.view b.old) (D.view b.new) }
     ensures ok { IsTrue (D.view a.old).tells → IsTrue (D.view b.old).tells → IfOk result (λ choice.
         IsPair (contents_of (D.view a.old).history) (contents_of (D.view b.old).history)
         × (choice ≡ b_counts (contents_of (D.view a.old).history) (contents_of (D.view b.old).history))) }
@@ -88,20 +76,12 @@ fn list_counting<D: Disk>(
     b: &mut D,
     choice: bool,
 ) -> Result<Listed, AttachWhy>
-    ensures tells { (D.view a.new).tells ≡ (D.view a.old).tells }
-    ensures other_tells { (D.view b.new).tells ≡ (D.view b.old).tells }
-    ensures history { (D.view a.new).history ≡ (D.view a.old).history }
-    ensures other_history { (D.view b.new).history ≡ (D.view b.old).history }
-    ensures bound { IfOk result (λ listed. listed.gate < 2 ^ 62) }
-    ensures places { IfOk result (λ listed. PlacedFrom 17 listed.payloads listed.gate) }
-    ensures ok_a { choice ≡ false → IsTrue (D.view a.old).tells → IfOk result (λ listed.
-        Spells (contents_of (D.view a.old).history) (records_of listed.payloads) listed.gate) }
-    ensures ok_b { choice ≡ true → IsTrue (D.view b.old).tells → IfOk result (λ listed.
-        Spells (contents_of (D.view b.old).history) (records_of listed.payloads) listed.gate) }
-    ensures err_a { choice ≡ false → IsTrue (D.view a.old).tells → IfErr result (λ why.
-        ExplainsFile (contents_of (D.view a.old).history) why) }
-    ensures err_b { choice ≡ true → IsTrue (D.view b.old).tells → IfErr result (λ why.
-        ExplainsFile (contents_of (D.view b.old).history) why) }
+    ensures a { IsReadFile (D.view a.old) (D.view a.new) }
+    ensures b { IsReadFile (D.view b.old) (D.view b.new) }
+    ensures ok { IfOk result (λ listed.
+        IsListedFile (first_of choice (D.view a.old) (D.view b.old)) listed.payloads listed.gate) }
+    ensures err { IsTrue (first_of choice (D.view a.old) (D.view b.old)).tells → IfErr result (λ why.
+        ExplainsFile (contents_of (first_of choice (D.view a.old) (D.view b.old)).history) why) }
     ensures cause { PairCause (D.view a.old).faults (D.view a.new).faults
         (D.view b.old).faults (D.view b.new).faults (IsErrOf result AttachWhy.DiskFault) }
 {
@@ -114,34 +94,11 @@ fn list_counting<D: Disk>(
 
 /// Syncs both files, chooses the one that counts, and reads its records.
 pub(crate) fn open_files<D: Disk>(alloc: Global, a: &mut D, b: &mut D) -> Result<Opened, AttachWhy>
-    ensures tells { (D.view a.new).tells ≡ (D.view a.old).tells }
-    ensures other_tells { (D.view b.new).tells ≡ (D.view b.old).tells }
-    ensures settles { IsTrue (D.view a.old).tells → FileSettles (D.view a.old).history (D.view a.new).history }
-    ensures other_settles { IsTrue (D.view b.old).tells → FileSettles (D.view b.old).history (D.view b.new).history }
-    ensures synced { IsTrue (D.view a.old).tells → IsOk result →
-        Called (D.view a.old).history (Sync true) (D.view a.new).history }
-    ensures other_synced { IsTrue (D.view b.old).tells → IsOk result →
-        Called (D.view b.old).history (Sync true) (D.view b.new).history }
-    ensures may { IsTrue (D.view a.old).tells → MaySync (D.view a.old).history (D.view a.new).history }
-    ensures other_may { IsTrue (D.view b.old).tells → MaySync (D.view b.old).history (D.view b.new).history }
-    ensures bound { IfOk result (λ opened. opened.listed.gate < 2 ^ 62) }
-    ensures places { IfOk result (λ opened.
-        PlacedFrom 17 opened.listed.payloads opened.listed.gate) }
-    ensures spells_a { IsTrue (D.view a.old).tells → IfOk result (λ opened. opened.b_counts ≡ false →
-        Spells (contents_of (D.view a.new).history) (records_of opened.listed.payloads) opened.listed.gate) }
-    ensures spells_b { IsTrue (D.view b.old).tells → IfOk result (λ opened. opened.b_counts ≡ true →
-        Spells (contents_of (D.view b.new).history) (records_of opened.listed.payloads) opened.listed.gate) }
-    ensures quiet { IsTrue (D.view a.old).tells → IsOk result → IsQuiet (D.view a.new).history }
-    ensures other_quiet { IsTrue (D.view b.old).tells → IsOk result → IsQuiet (D.view b.new).history }
-    ensures choice { IsTrue (D.view a.old).tells → IsTrue (D.view b.old).tells → IfOk result (λ opened.
-        IsPair (contents_of (D.view a.new).history) (contents_of (D.view b.new).history)
-        × (opened.b_counts ≡ b_counts (contents_of (D.view a.new).history) (contents_of (D.view b.new).history))) }
-    ensures spelled { IsTrue (D.view a.old).tells → IsTrue (D.view b.old).tells → IfOk result (λ opened.
-        PairSpells (contents_of (D.view a.old).history) (contents_of (D.view b.old).history)
-        (records_of opened.listed.payloads)) }
-    ensures only { IsTrue (D.view a.old).tells → IsTrue (D.view b.old).tells → IfOk result (λ opened.
-        Only (D.view a.new).history (D.view b.new).history (records_of opened.listed.payloads)) }
-    ensures err { IsTrue (D.view a.old).tells → IsTrue (D.view b.old).tells → IfErr result (λ why.
+    ensures a { IsSyncedFile (D.view a.old) (D.view a.new) (IsOk result) }
+    ensures b { IsSyncedFile (D.view b.old) (D.view b.new) (IsOk result) }
+    ensures ok { IfOk result (λ opened.
+        AreListed (pair_of D.view a.new b.new) opened.b_counts opened.listed.payloads opened.listed.gate) }
+    ensures err { BothTell (pair_of D.view a.old b.old) → IfErr result (λ why.
         ExplainsPair (contents_of (D.view a.new).history) (contents_of (D.view b.new).history) why) }
     ensures cause { PairCause (D.view a.old).faults (D.view a.new).faults
         (D.view b.old).faults (D.view b.new).faults (IsErrOf result AttachWhy.DiskFault) }

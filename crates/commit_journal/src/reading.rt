@@ -4,6 +4,7 @@ ghost use Rattle.sha2.specs.Sha256.{sha256};
 ghost use Rattle.disk_model.specs.Disk.{contents_of, HasCause};
 ghost use Rattle.record_code.specs.Reading.{byte, slice, size_at, next_gate, IsRecordAt, Spells};
 ghost use Rattle.commit_journal.specs.Attach.{ExplainsRecord, ExplainsFile};
+ghost use Rattle.commit_journal.specs.Files.{IsListedFile, IsReadFile};
 ghost use Rattle.record_code.specs.Listed.{record_of, records_of, PlacedFrom};
 
 use crate::header::FIRST_GATE;
@@ -186,12 +187,8 @@ fn read_records<D: Disk>(alloc: Global, disk: &mut D, len: u64) -> Result<Listed
 
 /// The records of a file up to its first closed gate.
 pub(crate) fn list_file<D: Disk>(alloc: Global, disk: &mut D) -> Result<Listed, AttachWhy>
-    ensures tells { (D.view disk.new).tells ≡ (D.view disk.old).tells }
-    ensures history { (D.view disk.new).history ≡ (D.view disk.old).history }
-    ensures bound { IfOk result (λ listed. listed.gate < 2 ^ 62) }
-    ensures places { IfOk result (λ listed. PlacedFrom 17 listed.payloads listed.gate) }
-    ensures ok { IsTrue (D.view disk.old).tells → IfOk result (λ listed.
-        Spells (contents_of (D.view disk.old).history) (records_of listed.payloads) listed.gate) }
+    ensures file { IsReadFile (D.view disk.old) (D.view disk.new) }
+    ensures ok { IfOk result (λ listed. IsListedFile (D.view disk.old) listed.payloads listed.gate) }
     ensures err { IsTrue (D.view disk.old).tells → IfErr result (λ why.
         ExplainsFile (contents_of (D.view disk.old).history) why) }
     ensures cause { HasCause (D.view disk.old).faults (D.view disk.new).faults

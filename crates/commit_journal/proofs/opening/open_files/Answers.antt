@@ -1,33 +1,40 @@
-use Rattle.std.proofs.Common.{◌∙◌, List, ℕ, IsTrue, subst, sym}
-use Rattle.disk_model.specs.Disk.{History, contents_of}
-use Rattle.commit_journal.specs.Pair.{PairSpells, Only}
-use Rattle.record_code.specs.Listed.{records_of}
-use Rattle.commit_journal.proofs.PairLemmas.{read_spells, quiet_only}
+use Rattle.std.proofs.Common.{IsTrue, sym, subst}
+use Rattle.commit_journal.proofs.OpenLemmas.{are_listed, explained_by, first_tells, read_on, synced_read}
 use Rattle.commit_journal.proofs.opening.open_files.Goals as goal
 
-pub returns-in-Ok-list_counting-clause-spelled : goal.returns-in-Ok-list_counting-clause-spelled
-returns-in-Ok-list_counting-clause-spelled g c = λ t u.
-    let view = g.D.Disk.view in
-    let t1 = subst IsTrue (sym c.sync_both.ensures.tells) t in
-    let u1 = subst IsTrue (sym c.sync_both.ensures.other_tells) u in
-    let t2 = subst IsTrue (sym c.choose.ensures.tells) t1 in
-    let u2 = subst IsTrue (sym c.choose.ensures.other_tells) u1 in
-    let rs = records_of c.in-Ok-list_counting.listed.payloads in
-    subst (λ (l : List ℕ). PairSpells l (contents_of (view c.args.b.now).history) rs) (c.sync_both.ensures.settles t).same
-    (subst (λ (l : List ℕ). PairSpells (contents_of (view c.sync_both.new.a).history) l rs) (c.sync_both.ensures.other_settles u).same
-    (read_spells _ (view c.choose.new.a).history _ (view c.choose.new.b).history c.in-Ok.choice rs c.in-Ok-list_counting.listed.gate c.choose.ensures.history c.choose.ensures.other_history
-    (c.in-Ok.ensures.ok t1 u1) (λ is. c.in-Ok-list_counting.ensures.ok_a is t2) (λ is. c.in-Ok-list_counting.ensures.ok_b is u2)))
+pub returns-in-Err-clause-a : goal.returns-in-Err-clause-a
+returns-in-Err-clause-a g c = synced_read _ _ _ _ _ (λ ok. absurd (cc)) c.sync_both.ensures.a c.choose.ensures.a
 
-pub returns-in-Ok-list_counting-clause-only : goal.returns-in-Ok-list_counting-clause-only
-returns-in-Ok-list_counting-clause-only g c = λ t u.
+pub returns-in-Err-clause-b : goal.returns-in-Err-clause-b
+returns-in-Err-clause-b g c = synced_read _ _ _ _ _ (λ ok. absurd (cc)) c.sync_both.ensures.b c.choose.ensures.b
+
+pub returns-in-Err-list_counting-clause-a : goal.returns-in-Err-list_counting-clause-a
+returns-in-Err-list_counting-clause-a g c =
+    synced_read _ _ _ _ _ (λ ok. absurd (cc)) c.sync_both.ensures.a (read_on _ _ _ c.choose.ensures.a c.list_counting.ensures.a)
+
+pub returns-in-Err-list_counting-clause-b : goal.returns-in-Err-list_counting-clause-b
+returns-in-Err-list_counting-clause-b g c =
+    synced_read _ _ _ _ _ (λ ok. absurd (cc)) c.sync_both.ensures.b (read_on _ _ _ c.choose.ensures.b c.list_counting.ensures.b)
+
+pub returns-in-Err-list_counting-clause-err : goal.returns-in-Err-list_counting-clause-err
+returns-in-Err-list_counting-clause-err g c = λ tell.
     let view = g.D.Disk.view in
-    let t1 = subst IsTrue (sym c.sync_both.ensures.tells) t in
-    let u1 = subst IsTrue (sym c.sync_both.ensures.other_tells) u in
-    let t2 = subst IsTrue (sym c.choose.ensures.tells) t1 in
-    let u2 = subst IsTrue (sym c.choose.ensures.other_tells) u1 in
-    let rs = records_of c.in-Ok-list_counting.listed.payloads in
-    subst (λ (x : History). Only x (view c.list_counting.new.b).history rs) (sym (c.list_counting.ensures.history ∙ c.choose.ensures.history))
-    (subst (λ (y : History). Only (view c.sync_both.new.a).history y rs) (sym (c.list_counting.ensures.other_history ∙ c.choose.ensures.other_history))
-    (quiet_only _ _ rs (c.sync_both.ensures.quiet c.in_default.is t) (c.sync_both.ensures.other_quiet c.in_default.is u)
-    (read_spells _ (view c.choose.new.a).history _ (view c.choose.new.b).history c.in-Ok.choice rs c.in-Ok-list_counting.listed.gate c.choose.ensures.history c.choose.ensures.other_history
-    (c.in-Ok.ensures.ok t1 u1) (λ is. c.in-Ok-list_counting.ensures.ok_a is t2) (λ is. c.in-Ok-list_counting.ensures.ok_b is u2))))
+    let t1 = subst IsTrue (sym c.sync_both.ensures.a.tells) tell.0 in
+    let u1 = subst IsTrue (sym c.sync_both.ensures.b.tells) tell.1 in
+    let t2 = subst IsTrue (sym c.choose.ensures.a.tells) t1 in
+    let u2 = subst IsTrue (sym c.choose.ensures.b.tells) u1 in
+    explained_by _ _ _ _ _ _ c.in-Ok.choice c.in-Err-list_counting.why c.choose.ensures.a c.list_counting.ensures.a c.choose.ensures.b c.list_counting.ensures.b
+    (c.in-Ok.ensures.ok t1 u1) (c.in-Err-list_counting.ensures.err (first_tells c.in-Ok.choice (view c.choose.new.a) (view c.choose.new.b) t2 u2))
+
+pub returns-in-Ok-list_counting-clause-a : goal.returns-in-Ok-list_counting-clause-a
+returns-in-Ok-list_counting-clause-a g c =
+    synced_read _ _ _ _ _ (λ ok. c.in_default.is) c.sync_both.ensures.a (read_on _ _ _ c.choose.ensures.a c.list_counting.ensures.a)
+
+pub returns-in-Ok-list_counting-clause-b : goal.returns-in-Ok-list_counting-clause-b
+returns-in-Ok-list_counting-clause-b g c =
+    synced_read _ _ _ _ _ (λ ok. c.in_default.is) c.sync_both.ensures.b (read_on _ _ _ c.choose.ensures.b c.list_counting.ensures.b)
+
+pub returns-in-Ok-list_counting-clause-ok : goal.returns-in-Ok-list_counting-clause-ok
+returns-in-Ok-list_counting-clause-ok g c =
+    are_listed _ _ _ _ _ _ c.in-Ok.choice _ _ c.choose.ensures.a c.list_counting.ensures.a c.choose.ensures.b c.list_counting.ensures.b
+    c.in-Ok-list_counting.ensures.ok c.in-Ok.ensures.ok

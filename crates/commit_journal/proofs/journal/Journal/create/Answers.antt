@@ -4,7 +4,8 @@ use Rattle.commit_journal.specs.Opening.{making}
 use Rattle.record_code.specs.Record.{Record, bodies, gated}
 use Rattle.record_code.proofs.ReadingLemmas.{length-body}
 use Rattle.commit_journal.specs.Pair.{head_a}
-use Rattle.commit_journal.proofs.PairLemmas.{the_one, sound_one, quiet_only, chosen_spells}
+use Rattle.commit_journal.proofs.CreateLemmas.{made_rests, made_settled}
+use Rattle.commit_journal.proofs.PairLemmas.{the_one, sound_one, rests_only}
 use Rattle.commit_journal.proofs.journal.Journal.create.Goals as goal
 
 pub make_files-requires : goal.make_files-requires
@@ -19,31 +20,24 @@ invariant_of-result g c =
     let one = the_one _ c.requires in
     let is = c.with_gate-entry.ensures.bytes ∙ ap (λ (l : List Record). gated (bodies l)) one.1 in
     let sound = sound_one _ one.0 c.with_gate-entry.ensures.sound one.1 in
-    (c.in-Ok.ensures.bound, λ t. (one.0 ∷ [], c.in-Ok.ensures.settled (subst IsTrue c.make_files.ensures.tells t) one.0 sound is))
+    (c.in-Ok.ensures.bound, λ t. (one.0 ∷ [], made_settled _ _ _ one.0 sound is (c.in-Ok.ensures.a.made refl (subst IsTrue c.make_files.ensures.a.tells t))))
 
 pub returns-in-Ok-clause-made : goal.returns-in-Ok-clause-made
 returns-in-Ok-clause-made g c =
-    let view = g.D.Disk.view in record {
-      none_there = λ t u. c.in-Ok.ensures.free t u;
-      has = λ t u r one.
-          let is = c.with_gate-entry.ensures.bytes ∙ ap (λ (l : List Record). gated (bodies l)) one in
-          let sound = sound_one _ r c.with_gate-entry.ensures.sound one in
-          record {
-            idle = refl;
-            rests = record {
-              settled = c.in-Ok.ensures.settled t r sound is;
-              other_quiet = c.in-Ok.ensures.other_quiet u;
-              chosen = c.in-Ok.ensures.chosen t u r sound is;
-            };
-          };
-      only = λ t u r one.
-          let is = c.with_gate-entry.ensures.bytes ∙ ap (λ (l : List Record). gated (bodies l)) one in
-          let sound = sound_one _ r c.with_gate-entry.ensures.sound one in
-          let settled = c.in-Ok.ensures.settled t r sound is in
-          let chosen = c.in-Ok.ensures.chosen t u r sound is in
-          quiet_only _ _ (r ∷ []) settled.quiet (c.in-Ok.ensures.other_quiet u) (chosen_spells false _ _ (r ∷ []) _ chosen settled.spells);
-      made_a = λ t. subst (λ (l : List ℕ). GoesOn (view c.args.a).history (making (head_a ++ l)) (view c.make_files.new.a).history) c.with_gate-entry.ensures.bytes (c.in-Ok.ensures.made t);
-      made_b = λ u. c.in-Ok.ensures.other_made u;
+    let view = g.D.Disk.view in
+    let made = c.in-Ok.ensures in
+    let bytes = c.with_gate-entry.ensures.bytes in
+    let all_sound = c.with_gate-entry.ensures.sound in
+    record {
+      none_there = λ t u. made.free t u;
+      has = λ t u r one. record {
+        idle = refl;
+        rests = made_rests _ _ _ r (sound_one _ r all_sound one) (bytes ∙ ap (λ (l : List Record). gated (bodies l)) one) (made.a.made refl t) _ _ (made.b.made refl u);
+      };
+      only = λ t u r one. rests_only false _ _ _ (r ∷ [])
+          (made_rests _ _ _ r (sound_one _ r all_sound one) (bytes ∙ ap (λ (l : List Record). gated (bodies l)) one) (made.a.made refl t) _ _ (made.b.made refl u));
+      made_a = λ t. subst (λ (l : List ℕ). GoesOn (view c.args.a).history (making (head_a ++ l)) (view c.make_files.new.a).history) bytes (made.a.made refl t);
+      made_b = λ u. made.b.made refl u;
     }
 
 pub returns-in-Err-clause-err : goal.returns-in-Err-clause-err
@@ -52,10 +46,10 @@ returns-in-Err-clause-err g c =
       exists = search rules;
       spared = search rules;
       unchanged = search rules;
-      part_a = λ t. subst (λ (l : List ℕ). MadePart (view c.args.a).history (making (head_a ++ l)) (view c.make_files.new.a).history) c.with_gate-entry.ensures.bytes (c.make_files.ensures.part t);
-      part_b = λ u. c.make_files.ensures.other_part u;
-      b_first = λ u. c.make_files.ensures.other_first u;
-      tells_a = search rules;
-      tells_b = search rules;
+      part_a = λ t. subst (λ (l : List ℕ). MadePart (view c.args.a).history (making (head_a ++ l)) (view c.make_files.new.a).history) c.with_gate-entry.ensures.bytes (c.make_files.ensures.a.part t);
+      part_b = λ u. c.make_files.ensures.b.part u;
+      b_first = λ u. c.make_files.ensures.b_first u;
+      tells_a = c.make_files.ensures.a.tells;
+      tells_b = c.make_files.ensures.b.tells;
       cause = search rules;
     }
