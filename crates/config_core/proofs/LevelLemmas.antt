@@ -46,8 +46,7 @@ top_alone level remembered e none = alone level remembered (top_is_level level e
 -- of a path that follows rows it is told whether it is a level
 pub level_told : (path : List Step) → IsTypedPath path → (is_level_at path ≡ true) ↔ IsLevelPath path
 level_told path typed =
-    let there = typed_place path top_place typed in
-    (
+    let there = typed_place path top_place typed in (
       λ is. record { typed = typed; opens = λ here led. subst (λ place. is_level_place place ≡ true) led is },
       λ level. subst (λ place. is_level_place place ≡ true) (sym there.1) (level.opens there.0 there.1),
     )
