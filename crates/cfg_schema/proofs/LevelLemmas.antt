@@ -104,11 +104,16 @@ bare_heads : (lines : List Line) (line : Line) → is_sound lines line ≡ true
     → (not (is_bare line.shape) || same_word (spelled line.head) []) ≡ true
 bare_heads lines line h = (both _ (not (is_bare line.shape) || same_word (spelled line.head) []) (both _ _ h).0).1
 
+-- a row that is a bare name has no head
+pub bare_head : (id : ℕ) → id < length profile
+    → (not (is_bare (line_at profile id).shape) || same_word (spelled (line_at profile id).head) []) ≡ true
+bare_head id below = bare_heads profile (line_at profile id) (sound_at id below)
+
 -- a row that a step follows has the step's head
 pub head_is : (level : Level) (step : Step) (id : ℕ) → id < length profile → fits level step (line_at profile id) ≡ true
     → spelled (line_at profile id).head ≡ step.head
 head_is level step id below h =
-    head_of_words _ _ (spelled (line_at profile id).name) step (bare_heads profile (line_at profile id) (sound_at id below))
+    head_of_words _ _ (spelled (line_at profile id).name) step (bare_head id below)
     (both (stands level (line_at profile id)) _ h).1
 
 not_before : (level : Level) (step : Step) (i j : ℕ) → i < length profile → j < length profile

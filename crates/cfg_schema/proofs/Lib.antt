@@ -5,3 +5,4 @@ pub mod PlaceLemmas
 pub mod LevelLemmas
 pub mod BegunLemmas
 pub mod SearchLemmas
+pub mod WordsLemmas

@@ -3,6 +3,7 @@
 use Rattle.std.specs.Prelude.{ℕ, ◌<◌, ◌==◌, Bool, true, false, not, ◌&&◌, ◌||◌, List, length, map, filter, IsTrue, slice_index_or}
 use Rattle.std.specs.List.{list_any}
 pub use Rattle.cfg_base.specs.Words.{same_word}
+use Rattle.cfg_base.specs.declared.path.Step.{Step}
 use Rattle.cfg_base.specs.declared.kind.Shape.{Shape}
 use Rattle.cfg_base.specs.declared.kind.Shape.TheVariants.{Container, Fixed, Keyed, Bare}
 use Rattle.cfg_base.specs.declared.kind.Kind.TheVariants.{Name}
@@ -114,6 +115,14 @@ head_of id = spelled (line_at profile id).head
 
 abbrev pub name_of : ℕ → List ℕ
 name_of id = spelled (line_at profile id).name
+
+-- a step has these words of a row: its head, and its one name where it has one; without one any name does
+abbrev pub has_row_words : List ℕ → List ℕ → Step → Bool
+has_row_words head name step = same_word head step.head && (length name == 0 || same_word name step.name)
+
+-- a step is one of a row, told by the row's words
+abbrev pub is_step_of : ℕ → Step → Bool
+is_step_of id step = has_row_words (head_of id) (name_of id) step
 
 -- the level that a row opens
 abbrev pub level_of : ℕ → Bool → Level

@@ -18,6 +18,7 @@ mod query;
 mod rows;
 mod search;
 mod table;
+mod words;
 
 pub use answer::Child;
 pub use laws::rows_are_sound;
@@ -25,3 +26,4 @@ pub use list::rows_below;
 pub use lookup::{child, fixed_name, head, row};
 pub use place::Place;
 pub use rows::{Row, RowId};
+pub use words::RowWords;
