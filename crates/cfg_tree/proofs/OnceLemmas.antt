@@ -15,11 +15,12 @@ use Rattle.cfg_base.specs.declared.path.Step.{Step}
 use Rattle.cfg_base.specs.declared.value.Value.{Value}
 use Rattle.cfg_schema.specs.declared.place.Place.{Place}
 use Rattle.cfg_schema.specs.declared.table.Line.{Line}
-use Rattle.cfg_schema.specs.Profile.{profile, line_at, no_line, row_of, head_of, same_word, stands, level_of, rows_below}
+use Rattle.cfg_schema.specs.Profile.{profile, line_at, no_line, row_of, head_of, is_step_of, same_word, stands, level_of, rows_below}
 use Rattle.cfg_schema.specs.Place.{top_place, place_after, place_of, ordered_row}
 use Rattle.cfg_schema.proofs.TestLemmas.{both, both_true, same, same_is}
 use Rattle.cfg_schema.proofs.RowFacts.{number_at, top_unordered}
-use Rattle.cfg_schema.proofs.LevelLemmas.{all_at, led_to, head_is, path_most}
+use Rattle.cfg_schema.proofs.LevelLemmas.{all_at, led_to, path_most}
+use Rattle.cfg_schema.proofs.WordsLemmas.{told, ordered_told, words_differ, told_apart}
 use Rattle.cfg_tree.specs.Statements.{Statements, parent_of, last_of, is_below}
 use Rattle.cfg_tree.specs.Typed.{IsTypedPath}
 use Rattle.cfg_tree.specs.Tree.{ordered_head, step_of, IsOrderBy, IsOrderOf, IsStatementMap, IsTree}
@@ -167,31 +168,31 @@ steps_once m path s =
     ∙ ap (λ (b : Bool). each last_of (cond b ((path ++ s ∷ []) ∷ []) [])) (sym (map.contains_key-keys m (path ++ s ∷ [])))
     ∙ last_if path s (is_some (map.get m (path ++ s ∷ [])))
 
--- of the steps with a head
-headed_once : (h : List ℕ) (s : Step) (b : Bool) → same_word h s.head ≡ b → (steps : List Step)
-    → filter (eq_by_cmp step_cmp s) (filter (λ (t : Step). same_word h t.head) steps) ≡ cond b (filter (eq_by_cmp step_cmp s) steps) []
-headed_once h s true e [] = refl
-headed_once h s false e [] = refl
-headed_once h s b e (t ∷ steps) = by_tests b (same_word h t.head) (eq_by_cmp step_cmp s t) e refl refl (headed_once h s b e steps)
+-- of the steps that pass a test
+kept_once : (test : Step → Bool) (s : Step) (b : Bool) → test s ≡ b → (steps : List Step)
+    → filter (eq_by_cmp step_cmp s) (filter test steps) ≡ cond b (filter (eq_by_cmp step_cmp s) steps) []
+kept_once test s true e [] = refl
+kept_once test s false e [] = refl
+kept_once test s b e (t ∷ steps) = by_tests b (test t) (eq_by_cmp step_cmp s t) e refl refl (kept_once test s b e steps)
   where
-    head_same : eq_by_cmp step_cmp s t ≡ true → same_word h s.head ≡ same_word h t.head
-    head_same f = ap (λ (x : Step). same_word h x.head) ((same_step s t).0 f)
+    test_same : eq_by_cmp step_cmp s t ≡ true → test s ≡ test t
+    test_same f = ap test ((same_step s t).0 f)
 
-    by_tests : (b a c : Bool) → same_word h s.head ≡ b → same_word h t.head ≡ a → eq_by_cmp step_cmp s t ≡ c
-        → filter (eq_by_cmp step_cmp s) (filter (λ (x : Step). same_word h x.head) steps) ≡ cond b (filter (eq_by_cmp step_cmp s) steps) []
-        → filter (eq_by_cmp step_cmp s) (cond a (t ∷ filter (λ (x : Step). same_word h x.head) steps) (filter (λ (x : Step). same_word h x.head) steps))
+    by_tests : (b a c : Bool) → test s ≡ b → test t ≡ a → eq_by_cmp step_cmp s t ≡ c
+        → filter (eq_by_cmp step_cmp s) (filter test steps) ≡ cond b (filter (eq_by_cmp step_cmp s) steps) []
+        → filter (eq_by_cmp step_cmp s) (cond a (t ∷ filter test steps) (filter test steps))
         ≡ cond b (cond c (t ∷ filter (eq_by_cmp step_cmp s) steps) (filter (eq_by_cmp step_cmp s) steps)) []
     by_tests true true true e f g go =
-        ap (λ (x : Bool). cond x (t ∷ filter (eq_by_cmp step_cmp s) (filter (λ (x : Step). same_word h x.head) steps)) (filter (eq_by_cmp step_cmp s) (filter (λ (x : Step). same_word h x.head) steps))) g
+        ap (λ (x : Bool). cond x (t ∷ filter (eq_by_cmp step_cmp s) (filter test steps)) (filter (eq_by_cmp step_cmp s) (filter test steps))) g
         ∙ ap (λ (xs : List Step). t ∷ xs) go
     by_tests true true false e f g go =
-        ap (λ (x : Bool). cond x (t ∷ filter (eq_by_cmp step_cmp s) (filter (λ (x : Step). same_word h x.head) steps)) (filter (eq_by_cmp step_cmp s) (filter (λ (x : Step). same_word h x.head) steps))) g
+        ap (λ (x : Bool). cond x (t ∷ filter (eq_by_cmp step_cmp s) (filter test steps)) (filter (eq_by_cmp step_cmp s) (filter test steps))) g
         ∙ go
-    by_tests true false true e f g go = let d = head_same g in cc
+    by_tests true false true e f g go = let d = test_same g in cc
     by_tests true false false e f g go = go
-    by_tests false true true e f g go = let d = head_same g in cc
+    by_tests false true true e f g go = let d = test_same g in cc
     by_tests false true false e f g go =
-        ap (λ (x : Bool). cond x (t ∷ filter (eq_by_cmp step_cmp s) (filter (λ (x : Step). same_word h x.head) steps)) (filter (eq_by_cmp step_cmp s) (filter (λ (x : Step). same_word h x.head) steps))) g
+        ap (λ (x : Bool). cond x (t ∷ filter (eq_by_cmp step_cmp s) (filter test steps)) (filter (eq_by_cmp step_cmp s) (filter test steps))) g
         ∙ go
     by_tests false false c e f g go = go
 
@@ -222,7 +223,7 @@ named_once h s b e (n ∷ names) =
     by_tests true false go = go
     by_tests false c go = go
 
--- of the rows of a level no two have one head, and an ordered one is the ordered row that the level has
+-- of the rows of a level no two have the same words, and an ordered one is the ordered row that the level has
 abbrev pub is_row : ℕ → Option ℕ → Bool
 is_row id None = false
 is_row id (Some other) = id == other
@@ -230,13 +231,13 @@ is_row id (Some other) = id == other
 abbrev ordered_found : Option ℕ → ℕ → Bool
 ordered_found found id = not (row_of id).ordered || is_row id found
 
-abbrev heads_differ : List ℕ → Bool
-heads_differ [] = true
-heads_differ (id ∷ ids) = list_all (λ other. not (same_word (head_of id) (head_of other))) ids && heads_differ ids
+abbrev all_differ : List ℕ → Bool
+all_differ [] = true
+all_differ (id ∷ ids) = list_all (words_differ id) ids && all_differ ids
 
 abbrev level_apart : Bool → Line → Bool
 level_apart in_group line =
-    heads_differ (rows_below line.number in_group)
+    all_differ (rows_below line.number in_group)
     && list_all (ordered_found (ordered_row (record { row = line.number; in_group = in_group }))) (rows_below line.number in_group)
 
 profile_levels : list_all (level_apart false) profile ≡ true
@@ -252,12 +253,12 @@ apart_at true id within = all_at (level_apart true) profile id no_line profile_l
 apart_at false id within = all_at (level_apart false) profile id no_line profile_levels within
 
 level_here : (here : Place) → here.row < length profile
-    → (heads_differ (rows_below here.row here.in_group) ≡ true) × (list_all (ordered_found (ordered_row here)) (rows_below here.row here.in_group) ≡ true)
+    → (all_differ (rows_below here.row here.in_group) ≡ true) × (list_all (ordered_found (ordered_row here)) (rows_below here.row here.in_group) ≡ true)
 level_here here within =
-    subst (λ (n : ℕ). (heads_differ (rows_below n here.in_group) ≡ true)
+    subst (λ (n : ℕ). (all_differ (rows_below n here.in_group) ≡ true)
     × (list_all (ordered_found (ordered_row (record { row = n; in_group = here.in_group }))) (rows_below n here.in_group) ≡ true))
     (number_at here.row within)
-    (both (heads_differ (rows_below (line_at profile here.row).number here.in_group)) _ (apart_at here.in_group here.row within))
+    (both (all_differ (rows_below (line_at profile here.row).number here.in_group)) _ (apart_at here.in_group here.row within))
 
 -- a row that stands at a level is among its rows
 found_in : (level_test : Line → Bool) (f : ℕ → Bool) (lines : List Line) (k : ℕ) → k < length lines → level_test (get_or lines k no_line) ≡ true
@@ -279,43 +280,43 @@ found_in p f (line ∷ lines) (suc k) within h e = by_test (p line) (found_in p 
 
 module _ (s : Step) (there : Bool) (names : List (List ℕ)) (steps : List Step) (found : Option ℕ)
     (each_row : (id : ℕ) → ordered_found found id ≡ true
-    → filter (eq_by_cmp step_cmp s) (row_steps id names steps) ≡ cond (same_word (head_of id) s.head) (step_if there s) []) where
-  -- of the rows of another head
-  no_row : (id : ℕ) (ids : List ℕ) → same_word (head_of id) s.head ≡ true → list_all (λ (other : ℕ). not (same_word (head_of id) (head_of other))) ids ≡ true
+    → filter (eq_by_cmp step_cmp s) (row_steps id names steps) ≡ cond (is_step_of id s) (step_if there s) []) where
+  -- of the rows with other words
+  no_row : (id : ℕ) (ids : List ℕ) → is_step_of id s ≡ true → list_all (words_differ id) ids ≡ true
       → list_all (ordered_found found) ids ≡ true → filter (eq_by_cmp step_cmp s) (flat_map (λ (i : ℕ). row_steps i names steps) ids) ≡ []
   no_row id [] e apart ordered = refl
   no_row id (other ∷ ids) e apart ordered =
-      let parts = both (not (same_word (head_of id) (head_of other))) _ apart
+      let parts = both (words_differ id other) _ apart
       in let orders = both (ordered_found found other) _ ordered
       in filter-append (eq_by_cmp step_cmp s) (row_steps other names steps) (flat_map (λ (i : ℕ). row_steps i names steps) ids)
       ∙ ap (λ (xs : List Step). xs ++ filter (eq_by_cmp step_cmp s) (flat_map (λ (i : ℕ). row_steps i names steps) ids))
       (each_row other orders.0 ∙ ap (λ (b : Bool). cond b (step_if there s) []) (differs _ refl parts.0))
       ∙ no_row id ids e parts.1 orders.1
     where
-      differs : (b : Bool) → same_word (head_of other) s.head ≡ b → not (same_word (head_of id) (head_of other)) ≡ true → b ≡ false
-      differs true f g = let d = same_is (head_of id) (head_of other) (same _ _ e ∙ sym (same _ _ f)) in cc
+      differs : (b : Bool) → is_step_of other s ≡ b → words_differ id other ≡ true → b ≡ false
+      differs true f g = absurd (told_apart id other s g e f)
       differs false f g = refl
 
-  -- of all rows the one with the step's head
-  flat_once : (ids : List ℕ) → heads_differ ids ≡ true → list_all (ordered_found found) ids ≡ true
+  -- of all rows the one of which the step is
+  flat_once : (ids : List ℕ) → all_differ ids ≡ true → list_all (ordered_found found) ids ≡ true
       → filter (eq_by_cmp step_cmp s) (flat_map (λ (i : ℕ). row_steps i names steps) ids)
-      ≡ cond (list_any (λ (id : ℕ). same_word (head_of id) s.head) ids) (step_if there s) []
+      ≡ cond (list_any (λ (id : ℕ). is_step_of id s) ids) (step_if there s) []
   flat_once [] apart ordered = refl
   flat_once (id ∷ ids) apart ordered =
-      let parts = both (list_all (λ (other : ℕ). not (same_word (head_of id) (head_of other))) ids) _ apart
+      let parts = both (list_all (words_differ id) ids) _ apart
       in let orders = both (ordered_found found id) _ ordered
       in filter-append (eq_by_cmp step_cmp s) (row_steps id names steps) (flat_map (λ (i : ℕ). row_steps i names steps) ids)
       ∙ ap (λ (xs : List Step). xs ++ filter (eq_by_cmp step_cmp s) (flat_map (λ (i : ℕ). row_steps i names steps) ids)) (each_row id orders.0)
-      ∙ by_head (same_word (head_of id) s.head) refl (λ e. no_row id ids e parts.0 orders.1) (flat_once ids parts.1 orders.1)
+      ∙ by_own (is_step_of id s) refl (λ e. no_row id ids e parts.0 orders.1) (flat_once ids parts.1 orders.1)
     where
-      by_head : (b : Bool) → same_word (head_of id) s.head ≡ b
-          → (same_word (head_of id) s.head ≡ true → filter (eq_by_cmp step_cmp s) (flat_map (λ (i : ℕ). row_steps i names steps) ids) ≡ [])
+      by_own : (b : Bool) → is_step_of id s ≡ b
+          → (is_step_of id s ≡ true → filter (eq_by_cmp step_cmp s) (flat_map (λ (i : ℕ). row_steps i names steps) ids) ≡ [])
           → filter (eq_by_cmp step_cmp s) (flat_map (λ (i : ℕ). row_steps i names steps) ids)
-          ≡ cond (list_any (λ (i : ℕ). same_word (head_of i) s.head) ids) (step_if there s) []
+          ≡ cond (list_any (λ (i : ℕ). is_step_of i s) ids) (step_if there s) []
           → cond b (step_if there s) [] ++ filter (eq_by_cmp step_cmp s) (flat_map (λ (i : ℕ). row_steps i names steps) ids)
-          ≡ cond (b || list_any (λ (i : ℕ). same_word (head_of i) s.head) ids) (step_if there s) []
-      by_head true e none go = ap (λ (xs : List Step). step_if there s ++ xs) (none e) ∙ append-nil (step_if there s)
-      by_head false e none go = go
+          ≡ cond (b || list_any (λ (i : ℕ). is_step_of i s) ids) (step_if there s) []
+      by_own true e none go = ap (λ (xs : List Step). step_if there s ++ xs) (none e) ∙ append-nil (step_if there s)
+      by_own false e none go = go
 
 -- the order at a path, of the top as of a statement
 order_any : (m : Statements) (path : List Step) → IsStatementMap m → IsOrderOf m path (order_in (map.get m path))
@@ -365,28 +366,29 @@ module _ (m : Statements) (path : List Step) (here : Place) (s : Step) (tree : I
   -- of the steps of a row those that are this step
   row_once : (id : ℕ) → ordered_found (ordered_row here) id ≡ true
       → filter (eq_by_cmp step_cmp s) (row_steps id (order_in (map.get m path)) (steps_below m path))
-      ≡ cond (same_word (head_of id) s.head) (step_if (is_some (map.get m (path ++ s ∷ []))) s) []
+      ≡ cond (is_step_of id s) (step_if (is_some (map.get m (path ++ s ∷ []))) s) []
   row_once id found = by_order (row_of id).ordered refl
     where
       by_order : (b : Bool) → (row_of id).ordered ≡ b
-          → filter (eq_by_cmp step_cmp s) (if b then each (step_of (head_of id)) (order_in (map.get m path)) else filter (λ (t : Step). same_word (head_of id) t.head) (steps_below m path))
-          ≡ cond (same_word (head_of id) s.head) (step_if (is_some (map.get m (path ++ s ∷ []))) s) []
-      by_order true e = ordered_steps (head_of id) _ refl (ordered_is id e found)
+          → filter (eq_by_cmp step_cmp s) (if b then each (step_of (head_of id)) (order_in (map.get m path)) else filter (is_step_of id) (steps_below m path))
+          ≡ cond (is_step_of id s) (step_if (is_some (map.get m (path ++ s ∷ []))) s) []
+      by_order true e =
+          ordered_steps (head_of id) _ refl (ordered_is id e found)
+          ∙ ap (λ (b : Bool). cond b (step_if (is_some (map.get m (path ++ s ∷ []))) s) []) (sym (ordered_told id s e))
       by_order false e =
-          headed_once (head_of id) s _ refl (steps_below m path)
-          ∙ ap (λ (xs : List Step). cond (same_word (head_of id) s.head) xs []) (steps_once m path s)
+          kept_once (is_step_of id) s _ refl (steps_below m path)
+          ∙ ap (λ (xs : List Step). cond (is_step_of id s) xs []) (steps_once m path s)
 
-  -- where the child is there, a row of the level has its head
-  row_there : is_some (map.get m (path ++ s ∷ [])) ≡ true → list_any (λ (id : ℕ). same_word (head_of id) s.head) (rows_below here.row here.in_group) ≡ true
+  -- where the child is there, it is one of a row of the level
+  row_there : is_some (map.get m (path ++ s ∷ [])) ≡ true → list_any (λ (id : ℕ). is_step_of id s) (rows_below here.row here.in_group) ≡ true
   row_there is_there =
       let whole = tree.typed.paths (path ++ s ∷ []) is_there
       in let ends = same_ends (parent_of (path ++ s ∷ [])) path (last_of (path ++ s ∷ [])) s (sym (split (path ++ s ∷ []) (omega (arith, child_longer path s))))
       in let last = typed_last (path ++ s ∷ []) (omega (arith, child_longer path s)) whole here (ap (λ (p : List Step). place_of p) ends.0 ∙ placed)
       in let led = led_to here last.0 s (ap (λ (t : Step). place_after here t) (sym ends.1) ∙ last.1)
       in let number = number_at last.0.row led.stood.0
-      in let head = head_is (level_of here.row here.in_group) s last.0.row led.stood.0 (both_true _ _ led.stood.1 led.words)
-      in found_in (stands (level_of here.row here.in_group)) (λ (id : ℕ). same_word (head_of id) s.head) profile last.0.row led.stood.0 led.stood.1
-      (subst (λ (n : ℕ). same_word (head_of n) s.head ≡ true) (sym number) (same_is _ _ head))
+      in found_in (stands (level_of here.row here.in_group)) (λ (id : ℕ). is_step_of id s) profile last.0.row led.stood.0 led.stood.1
+      (subst (λ (n : ℕ). is_step_of n s ≡ true) (sym number) (told last.0.row s led.stood.0 led.words))
 
   placed_once : here.row < length profile → filter (eq_by_cmp step_cmp s) (children_at m path (Some here)) ≡ step_if (is_some (map.get m (path ++ s ∷ []))) s
   placed_once within =
@@ -396,9 +398,9 @@ module _ (m : Statements) (path : List Step) (here : Place) (s : Step) (tree : I
       ∙ by_there _ refl
     where
       by_there : (b : Bool) → is_some (map.get m (path ++ s ∷ [])) ≡ b
-          → cond (list_any (λ (id : ℕ). same_word (head_of id) s.head) (rows_below here.row here.in_group)) (step_if b s) [] ≡ step_if b s
+          → cond (list_any (λ (id : ℕ). is_step_of id s) (rows_below here.row here.in_group)) (step_if b s) [] ≡ step_if b s
       by_there true e = ap (λ (c : Bool). cond c (s ∷ []) []) (row_there e)
-      by_there false e = none (list_any (λ (id : ℕ). same_word (head_of id) s.head) (rows_below here.row here.in_group))
+      by_there false e = none (list_any (λ (id : ℕ). is_step_of id s) (rows_below here.row here.in_group))
         where
           none : (c : Bool) → cond c (step_if false s) [] ≡ []
           none true = refl

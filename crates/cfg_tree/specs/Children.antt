@@ -1,16 +1,20 @@
 -- The children of a path in the order in which they are printed: by their rows, and within a row by
 -- the bytes of their names, or in the user's order.
-use Rattle.std.specs.Prelude.{ℕ, ◌≡◌, ◌<◌, ◌+◌, ◌==◌, Bool, ◌&&◌, List, [], ◌∷◌, ◌++◌, length, take, map, filter, Option, Some, None, if◌then◌else◌}
+use Rattle.std.specs.Prelude.{ℕ, ◌≡◌, ◌<◌, ◌+◌, ◌==◌, nat_lt, Bool, ◌&&◌, List, [], ◌∷◌, ◌++◌, length, take, map, filter, Option, Some, None, if◌then◌else◌}
 use Rattle.std.specs.List.{flat_map}
 use Rattle.std.specs.FinMap as finite
 use Rattle.cfg_base.specs.declared.path.Step.{Step}
 use Rattle.cfg_base.specs.declared.value.Value.{Value}
 use Rattle.cfg_entries.specs.EntryMap.{past}
 use Rattle.cfg_schema.specs.declared.place.Place.{Place}
-use Rattle.cfg_schema.specs.Profile.{row_of, head_of, rows_below, same_word}
+use Rattle.cfg_schema.specs.Profile.{row_of, head_of, is_step_of, rows_below}
 use Rattle.cfg_schema.specs.Place.{place_of}
 use Rattle.cfg_tree.specs.Statements.{Statements, last_of, is_below}
 use Rattle.cfg_tree.specs.Tree.{step_of}
+
+-- a path stands below another one, and isn't it
+abbrev pub is_inside : List Step → List Step → Bool
+is_inside above path = is_below above path && nat_lt (length above) (length path)
 
 -- a path is a child of another one
 abbrev pub is_child : List Step → List Step → Bool
@@ -29,11 +33,11 @@ abbrev pub order_in : Option Value → List (List ℕ)
 order_in None = []
 order_in (Some value) = value.order
 
--- the steps of a row: in the user's order where it is ordered, else those with its head
+-- the steps of a row: in the user's order where it is ordered, else those that its words tell
 abbrev pub row_steps : ℕ → List (List ℕ) → List Step → List Step
 row_steps id names steps =
     (if (row_of id).ordered then map (step_of (head_of id)) names
-    else filter (λ step. same_word (head_of id) step.head) steps)
+    else filter (is_step_of id) steps)
 
 abbrev pub children_at : Statements → List Step → Option Place → List Step
 children_at m path None = []

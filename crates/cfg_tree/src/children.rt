@@ -3,7 +3,7 @@
 ghost use Rattle.std.specs.Prelude.{◌≡◌, ◌++◌, map, filter, IfOk, OnOk};
 ghost use Rattle.std.specs.List.{flat_map};
 ghost use Rattle.std.specs.FinMap as finite;
-ghost use Rattle.cfg_schema.specs.Profile.{head_of, same_word};
+ghost use Rattle.cfg_schema.specs.Profile.{is_step_of};
 ghost use Rattle.cfg_tree.specs.Shown.{shown};
 ghost use Rattle.cfg_tree.specs.Tree.{step_of};
 ghost use Rattle.cfg_tree.specs.Children.{order_in, row_steps, children_of};
@@ -12,7 +12,7 @@ use crate::below::steps_below;
 use crate::reading::copied;
 use crate::store::Entries;
 use cfg_base::{NoMemory, Path, Step, Word, WordList};
-use cfg_schema::{Place, RowId, head, row, rows_below};
+use cfg_schema::{Place, RowId, RowWords, head, row, rows_below};
 use std::alloc::Global;
 
 fn order_at(alloc: Global, entries: &Entries, path: &Path) -> Result<WordList, NoMemory>
@@ -48,11 +48,11 @@ fn push_named(
     Ok(())
 }
 
-fn push_headed(steps: &mut Vec<Step>, head: &[u8], below: &[Step]) -> Result<(), NoMemory>
-    ensures { OnOk result (steps.new.items ≡ steps.old.items ++ filter (λ step. same_word head.now step.head) below.now) }
+fn push_own(steps: &mut Vec<Step>, words: &RowWords, below: &[Step]) -> Result<(), NoMemory>
+    ensures { OnOk result (steps.new.items ≡ steps.old.items ++ filter (is_step_of words.now) below.now) }
 {
     for step in below {
-        if head == step.head.as_bytes() {
+        if words.tell(step) {
             steps.push(step.clone()?)?;
         }
     }
@@ -71,7 +71,7 @@ fn push_row(
     if row(id).ordered {
         push_named(alloc, steps, head(id), names)
     } else {
-        push_headed(steps, head(id), below)
+        push_own(steps, &RowWords::of(id), below)
     }
 }
 

@@ -9,18 +9,17 @@ use Rattle.std.specs.Ordering.{is_le}
 use Rattle.std.specs.declared.cmp.Ordering.TheVariants.{Less}
 use Rattle.cfg_base.specs.Order.{path_cmp}
 use Rattle.cfg_base.specs.declared.path.Step.{Step}
-use Rattle.cfg_schema.specs.Profile.{same_word, head_of as head_word, row_of}
+use Rattle.cfg_schema.specs.Profile.{is_step_of, row_of}
 use Rattle.cfg_schema.proofs.TestLemmas.{both}
 use Rattle.cfg_tree.specs.Statements.{is_below, last_of}
-use Rattle.cfg_tree.specs.Children.{is_child}
+use Rattle.cfg_tree.specs.Children.{is_inside, is_child}
 use Rattle.cfg_tree.specs.Full.{Expansion}
 use Rattle.cfg_tree.proofs.BelowLemmas.{none_later}
-use Rattle.printing_order.specs.Inside.{is_inside}
 use Rattle.printing_order.proofs.EntriesLemmas.{head_of, tail_of, later, inside_part, none_passes, child_inside}
 use Rattle.printing_order.proofs.FollowedLemmas.{back_sorted}
 use Rattle.printing_order.proofs.StatementsLemmas.{twice, inside_inside, behind_inside, only_behind}
-use Rattle.curly_print.specs.Inheriting.{FullEntry, HasInside, entry_if, entry_text, front_longer, given_entries, given_inside, headed_text, row_text}
-use Rattle.curly_print.proofs.InheritedLemmas.{row_headed}
+use Rattle.curly_print.specs.Inheriting.{FullEntry, HasInside, entry_if, entry_text, front_longer, given_entries, given_inside, row_entries_text, row_text}
+use Rattle.curly_print.proofs.InheritedLemmas.{row_unordered}
 
 -- those right below a path are among those below it
 pub children_are : (full : Expansion) (path : List Step) (entries : List FullEntry) → HasInside full path entries
@@ -138,26 +137,26 @@ pub none_below : (full : Expansion) (path : List Step) (entries : List FullEntry
 none_below full path entries has none =
     sym (children_are full path entries has) ∙ ap (λ (es : List FullEntry). filter (λ (e : FullEntry). is_child path e.0) es) none
 
-module _ (path : List Step) (head : List ℕ) (levels : ℕ) (full : Expansion) (indent : ℕ) where
+module _ (path : List Step) (id : ℕ) (levels : ℕ) (full : Expansion) (indent : ℕ) where
   -- of entries are printed those right below a path
-  children_printed : (es : List FullEntry) → flat_map (entry_if path head levels full indent) es
-      ≡ headed_text head levels full indent (filter (λ e. is_child path e.0) es)
+  children_printed : (es : List FullEntry) → flat_map (entry_if path id levels full indent) es
+      ≡ row_entries_text id levels full indent (filter (λ e. is_child path e.0) es)
   children_printed [] = refl
   children_printed (e ∷ es) = by_test (is_child path e.0) refl (children_printed es)
     where
       printed : FullEntry → List ℕ
-      printed x = (if same_word head (last_of x.0).head then entry_text levels full indent x else [])
+      printed x = (if is_step_of id (last_of x.0) then entry_text levels full indent x else [])
 
       by_test : (b : Bool) → is_child path e.0 ≡ b
-          → flat_map (entry_if path head levels full indent) es ≡ headed_text head levels full indent (filter (λ x. is_child path x.0) es)
-          → cond b (printed e) [] ++ flat_map (entry_if path head levels full indent) es
-          ≡ headed_text head levels full indent (cond b (e ∷ filter (λ x. is_child path x.0) es) (filter (λ x. is_child path x.0) es))
+          → flat_map (entry_if path id levels full indent) es ≡ row_entries_text id levels full indent (filter (λ x. is_child path x.0) es)
+          → cond b (printed e) [] ++ flat_map (entry_if path id levels full indent) es
+          ≡ row_entries_text id levels full indent (cond b (e ∷ filter (λ x. is_child path x.0) es) (filter (λ x. is_child path x.0) es))
       by_test true f go = ap (λ (t : List ℕ). printed e ++ t) go
       by_test false f go = go
 
 -- so they are what a row without an order prints
 pub row_printed : (levels : ℕ) (full : Expansion) (path : List Step) (indent id : ℕ) (entries : List FullEntry) → HasInside full path entries
-    → (row_of id).ordered ≡ false → flat_map (entry_if path (head_word id) levels full indent) entries ≡ row_text levels full path indent id
+    → (row_of id).ordered ≡ false → flat_map (entry_if path id levels full indent) entries ≡ row_text levels full path indent id
 row_printed levels full path indent id entries has unordered =
-    children_printed path (head_word id) levels full indent entries
-    ∙ row_headed levels full path indent id _ (children_are full path entries has) unordered
+    children_printed path id levels full indent entries
+    ∙ row_unordered levels full path indent id _ (children_are full path entries has) unordered

@@ -5,7 +5,7 @@ use Rattle.std.specs.FinMap as finite
 use Rattle.std.specs.Map.{keys_of}
 use Rattle.cfg_base.specs.declared.path.Step.{Step}
 use Rattle.cfg_schema.specs.declared.place.Place.{Place}
-use Rattle.cfg_schema.specs.Profile.{profile, row_of, head_of, rows_below, is_level, same_word}
+use Rattle.cfg_schema.specs.Profile.{profile, row_of, head_of, rows_below, is_level, is_step_of}
 use Rattle.cfg_schema.specs.Place.{place_of}
 use Rattle.cfg_tree.specs.declared.full.Given.{Given}
 use Rattle.cfg_tree.specs.Statements.{last_of}
@@ -13,7 +13,7 @@ use Rattle.cfg_tree.specs.Children.{is_child, row_steps}
 use Rattle.cfg_tree.specs.Full.{Expansion}
 use Rattle.cfg_tree.specs.Tree.{step_of}
 use Rattle.curly_print.specs.Inherited.{given_below, given_children, given_children_at, given_order, given_steps, given_text, note_lines, note_of, noted_word}
-use Rattle.curly_print.specs.Inheriting.{FullEntry, entry_text, given_child_text, given_entries, headed_text, row_text}
+use Rattle.curly_print.specs.Inheriting.{FullEntry, entry_text, given_child_text, given_entries, row_entries_text, row_text}
 use Rattle.printing_order.proofs.EntriesLemmas.{child_is, found_all, none_given, right_below}
 use Rattle.printing_order.proofs.PutLemmas.{rows_flat}
 
@@ -71,42 +71,42 @@ module _ (levels : ℕ) (full : Expansion) (path : List Step) (indent : ℕ) whe
       ap (λ (o : Option Given). given_text indent (last_of e.0) o (given_below levels full e.0 (indent + 4))) (sym found)
       ∙ ap (λ (k : List Step). given_text indent (last_of e.0) (finite.get full k) (given_below levels full k (indent + 4))) (child_is path e.0 child)
 
-  -- the steps right below the path with a head, among entries
-  abbrev steps_with : List ℕ → List (List Step) → List Step
-  steps_with head ks = filter (λ (s : Step). same_word head s.head) (map last_of ks)
+  -- the steps right below the path that are of a row, among entries
+  abbrev steps_with : ℕ → List (List Step) → List Step
+  steps_with id ks = filter (is_step_of id) (map last_of ks)
 
-  headed_in : (head : List ℕ) (es : List FullEntry) → AllByRecursion (λ x. finite.get full x.0 ≡ Some x.1) es
-      → headed_text head levels full indent (filter (λ e. is_child path e.0) es)
-      ≡ flat_map (given_child_text levels full path indent) (steps_with head (filter (is_child path) (keys_of es)))
-  headed_in head [] found = refl
-  headed_in head (e ∷ es) found =
-      by_tests (filter (λ x. is_child path x.0) es) (filter (is_child path) (keys_of es)) (is_child path e.0) (same_word head (last_of e.0).head) refl refl
-      (headed_in head es found.1)
+  entries_in : (id : ℕ) (es : List FullEntry) → AllByRecursion (λ x. finite.get full x.0 ≡ Some x.1) es
+      → row_entries_text id levels full indent (filter (λ e. is_child path e.0) es)
+      ≡ flat_map (given_child_text levels full path indent) (steps_with id (filter (is_child path) (keys_of es)))
+  entries_in id [] found = refl
+  entries_in id (e ∷ es) found =
+      by_tests (filter (λ x. is_child path x.0) es) (filter (is_child path) (keys_of es)) (is_child path e.0) (is_step_of id (last_of e.0)) refl refl
+      (entries_in id es found.1)
     where
-      by_tests : (xs : List FullEntry) (ks : List (List Step)) (c h : Bool) → is_child path e.0 ≡ c → same_word head (last_of e.0).head ≡ h
-          → headed_text head levels full indent xs ≡ flat_map (given_child_text levels full path indent) (steps_with head ks)
-          → headed_text head levels full indent (cond c (e ∷ xs) xs)
-          ≡ flat_map (given_child_text levels full path indent) (steps_with head (cond c (e.0 ∷ ks) ks))
+      by_tests : (xs : List FullEntry) (ks : List (List Step)) (c h : Bool) → is_child path e.0 ≡ c → is_step_of id (last_of e.0) ≡ h
+          → row_entries_text id levels full indent xs ≡ flat_map (given_child_text levels full path indent) (steps_with id ks)
+          → row_entries_text id levels full indent (cond c (e ∷ xs) xs)
+          ≡ flat_map (given_child_text levels full path indent) (steps_with id (cond c (e.0 ∷ ks) ks))
       by_tests xs ks true true child same go =
-          ap (λ (b : Bool). (if b then entry_text levels full indent e else []) ++ headed_text head levels full indent xs) same
-          ∙ ap (λ (t : List ℕ). t ++ headed_text head levels full indent xs) (entry_child e child found.0)
+          ap (λ (b : Bool). (if b then entry_text levels full indent e else []) ++ row_entries_text id levels full indent xs) same
+          ∙ ap (λ (t : List ℕ). t ++ row_entries_text id levels full indent xs) (entry_child e child found.0)
           ∙ ap (λ (t : List ℕ). given_child_text levels full path indent (last_of e.0) ++ t) go
-          ∙ ap (λ (b : Bool). flat_map (given_child_text levels full path indent) (cond b (last_of e.0 ∷ steps_with head ks) (steps_with head ks))) (sym same)
+          ∙ ap (λ (b : Bool). flat_map (given_child_text levels full path indent) (cond b (last_of e.0 ∷ steps_with id ks) (steps_with id ks))) (sym same)
       by_tests xs ks true false child same go =
-          ap (λ (b : Bool). (if b then entry_text levels full indent e else []) ++ headed_text head levels full indent xs) same
+          ap (λ (b : Bool). (if b then entry_text levels full indent e else []) ++ row_entries_text id levels full indent xs) same
           ∙ go
-          ∙ ap (λ (b : Bool). flat_map (given_child_text levels full path indent) (cond b (last_of e.0 ∷ steps_with head ks) (steps_with head ks))) (sym same)
+          ∙ ap (λ (b : Bool). flat_map (given_child_text levels full path indent) (cond b (last_of e.0 ∷ steps_with id ks) (steps_with id ks))) (sym same)
       by_tests xs ks false h child same go = go
 
--- the entries with a head are what its row prints, where the row has no order
-pub row_headed : (levels : ℕ) (full : Expansion) (path : List Step) (indent id : ℕ) (entries : List FullEntry) → entries ≡ given_entries full path
-    → (row_of id).ordered ≡ false → headed_text (head_of id) levels full indent entries ≡ row_text levels full path indent id
-row_headed levels full path indent id entries e unordered =
-    ap (headed_text (head_of id) levels full indent) e
-    ∙ headed_in levels full path indent (head_of id) (finite.entries full) (found_all full)
+-- the entries of a row are what it prints, where it has no order
+pub row_unordered : (levels : ℕ) (full : Expansion) (path : List Step) (indent id : ℕ) (entries : List FullEntry) → entries ≡ given_entries full path
+    → (row_of id).ordered ≡ false → row_entries_text id levels full indent entries ≡ row_text levels full path indent id
+row_unordered levels full path indent id entries e unordered =
+    ap (row_entries_text id levels full indent) e
+    ∙ entries_in levels full path indent id (finite.entries full) (found_all full)
     ∙ ap
     (λ (b : Bool). flat_map (given_child_text levels full path indent)
-    (if b then map (step_of (head_of id)) (given_order (finite.get full path)) else filter (λ (s : Step). same_word (head_of id) s.head) (given_steps full path)))
+    (if b then map (step_of (head_of id)) (given_order (finite.get full path)) else filter (is_step_of id) (given_steps full path)))
     (sym unordered)
 
 -- what isn't a level isn't the top

@@ -18,14 +18,13 @@ use Rattle.cfg_schema.proofs.TestLemmas.{both, both_true}
 use Rattle.cfg_schema.proofs.LevelLemmas.{path_most}
 use Rattle.cfg_tree.specs.Statements.{Statements, is_below}
 use Rattle.cfg_tree.specs.Tree.{IsTree}
-use Rattle.cfg_tree.specs.Children.{step_if, children_of}
+use Rattle.cfg_tree.specs.Children.{is_inside, step_if, children_of}
 use Rattle.cfg_tree.proofs.MapLemmas.{same_step, same_path}
 use Rattle.cfg_tree.proofs.PathLemmas.{child_longer}
 use Rattle.cfg_tree.proofs.BelowLemmas.{below_self, parent_apart}
 use Rattle.cfg_tree.proofs.FollowLemmas.{typed_place}
 use Rattle.cfg_tree.proofs.OnceLemmas.{same_test, below_rest, below_apart, children_once}
 use Rattle.curly_print.specs.Printed.{line_of, spaces, ended, statement_text, text_below, printed}
-use Rattle.printing_order.specs.Inside.{is_inside}
 use Rattle.curly_print.specs.Printing.{child_text}
 use Rattle.curly_print.specs.Length.{holds, indent_of, own_len, entry_len}
 use Rattle.curly_print.proofs.PrintingLemmas.{some_printed}

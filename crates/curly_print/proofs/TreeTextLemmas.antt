@@ -6,14 +6,14 @@ use Rattle.cfg_base.specs.declared.path.Step.{Step}
 use Rattle.cfg_base.specs.declared.value.Value.{Value}
 use Rattle.cfg_entries.specs.EntryMap.{Pair}
 use Rattle.cfg_schema.specs.declared.place.Place.{Place}
-use Rattle.cfg_schema.specs.Profile.{row_of, head_of, rows_below}
+use Rattle.cfg_schema.specs.Profile.{row_of, rows_below}
 use Rattle.cfg_schema.specs.Place.{place_of}
 use Rattle.cfg_tree.specs.Statements.{Statements, last_of, size_of}
 use Rattle.cfg_tree.specs.Children.{children_of}
 use Rattle.printing_order.specs.Inside.{statements_inside}
 use Rattle.printing_order.proofs.RowsLemmas as rows
 use Rattle.curly_print.specs.Printed.{statement_text, text_below}
-use Rattle.curly_print.specs.Printing.{child_text, own_headed, own_row, own_text}
+use Rattle.curly_print.specs.Printing.{child_text, own_if_of_row, own_row, own_text}
 
 -- no level is left
 pub no_levels : (levels : ℕ) (m : Statements) (path : List Step) (indent : ℕ) → levels ≡ 0 → text_below levels m path indent ≡ []
@@ -51,12 +51,12 @@ by_rows (suc levels) m path indent here h e =
     back : levels ≡ suc levels - 1
     back = omega arith
 
--- the statements with a head are what its row prints, where the row has no order
-pub row_headed : (levels : ℕ) (m : Statements) (path : List Step) (indent id : ℕ) (inside : List (Pair Value)) → inside ≡ statements_inside m path
+-- the statements of a row are what it prints, where it has no order
+pub row_unordered : (levels : ℕ) (m : Statements) (path : List Step) (indent id : ℕ) (inside : List (Pair Value)) → inside ≡ statements_inside m path
     → (row_of id).ordered ≡ false
-    → flat_map (own_headed (head_of id) (length path + 1) levels m indent) inside ≡ own_row levels m path indent id
-row_headed levels m path indent id inside e unordered =
-    rows.row_headed m path (child_text levels m path indent) (own_text levels m indent)
+    → flat_map (own_if_of_row id (length path + 1) levels m indent) inside ≡ own_row levels m path indent id
+row_unordered levels m path indent id inside e unordered =
+    rows.row_unordered m path (child_text levels m path indent) (own_text levels m indent)
     (λ x at found.
     ap (λ (o : Option Value). statement_text indent (last_of x.0) o (text_below levels m x.0 (indent + 4))) (sym found)
     ∙ ap (λ (k : List Step). statement_text indent (last_of x.0) (map.get m k) (text_below levels m k (indent + 4))) at)

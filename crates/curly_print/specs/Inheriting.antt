@@ -5,12 +5,11 @@ use Rattle.std.specs.FinMap as finite
 use Rattle.std.specs.FinMap.Entries.{is_sorted}
 use Rattle.cfg_base.specs.Order.{path_cmp}
 use Rattle.cfg_base.specs.declared.path.Step.{Step}
-use Rattle.cfg_schema.specs.Profile.{same_word}
+use Rattle.cfg_schema.specs.Profile.{is_step_of}
 use Rattle.cfg_tree.specs.declared.full.Given.{Given}
 use Rattle.cfg_tree.specs.Statements.{last_of}
-use Rattle.cfg_tree.specs.Children.{is_child, row_steps}
+use Rattle.cfg_tree.specs.Children.{is_inside, is_child, row_steps}
 use Rattle.cfg_tree.specs.Full.{Expansion}
-use Rattle.printing_order.specs.Inside.{is_inside}
 use Rattle.curly_print.specs.Inherited.{given_below, given_order, given_steps, given_text}
 
 -- a path of an expansion, and what is given there
@@ -38,15 +37,15 @@ pub record HasInside (full : Expansion) (path : List Step) (entries : List FullE
 abbrev pub entry_text : ℕ → Expansion → ℕ → FullEntry → List ℕ
 entry_text levels full indent e = given_text indent (last_of e.0) (Some e.1) (given_below levels full e.0 (indent + 4))
 
--- of these what has a head
-abbrev pub headed_text : List ℕ → ℕ → Expansion → ℕ → List FullEntry → List ℕ
-headed_text head levels full indent es =
-    flat_map (λ e. if same_word head (last_of e.0).head then entry_text levels full indent e else []) es
+-- of these what is of a row
+abbrev pub row_entries_text : ℕ → ℕ → Expansion → ℕ → List FullEntry → List ℕ
+row_entries_text id levels full indent es =
+    flat_map (λ e. if is_step_of id (last_of e.0) then entry_text levels full indent e else []) es
 
--- of an entry, where it is right below a path and has a head
-abbrev pub entry_if : List Step → List ℕ → ℕ → Expansion → ℕ → FullEntry → List ℕ
-entry_if path head levels full indent e =
-    if is_child path e.0 then (if same_word head (last_of e.0).head then entry_text levels full indent e else []) else []
+-- of an entry, where it is right below a path and of a row
+abbrev pub entry_if : List Step → ℕ → ℕ → Expansion → ℕ → FullEntry → List ℕ
+entry_if path id levels full indent e =
+    if is_child path e.0 then (if is_step_of id (last_of e.0) then entry_text levels full indent e else []) else []
 
 -- what is given at a step below a path, where something is
 abbrev pub given_child_text : ℕ → Expansion → List Step → ℕ → Step → List ℕ

@@ -6,7 +6,7 @@ use Rattle.cfg_base.specs.declared.path.Step.{Step}
 use Rattle.cfg_base.specs.declared.value.Value.{Value}
 use Rattle.cfg_entries.specs.EntryMap.{Pair}
 use Rattle.cfg_lex.specs.Printed.{printed_word}
-use Rattle.cfg_schema.specs.Profile.{same_word}
+use Rattle.cfg_schema.specs.Profile.{is_step_of}
 use Rattle.cfg_tree.specs.Statements.{Statements, last_of}
 use Rattle.cfg_tree.specs.Children.{order_in, row_steps, steps_below}
 use Rattle.curly_print.specs.Printed.{statement_text, text_below}
@@ -24,10 +24,10 @@ child_text levels m path indent step =
 abbrev pub own_text : ℕ → Statements → ℕ → Pair Value → List ℕ
 own_text levels m indent e = statement_text indent (last_of e.0) (Some e.1) (text_below levels m e.0 (indent + 4))
 
--- the same of one whose path has so many steps, and this head
-abbrev pub own_headed : List ℕ → ℕ → ℕ → Statements → ℕ → Pair Value → List ℕ
-own_headed head count levels m indent e =
-    if length e.0 == count && same_word head (last_of e.0).head then own_text levels m indent e else []
+-- the same of one whose path has so many steps, and the last of them is one of this row
+abbrev pub own_if_of_row : ℕ → ℕ → ℕ → Statements → ℕ → Pair Value → List ℕ
+own_if_of_row id count levels m indent e =
+    if length e.0 == count && is_step_of id (last_of e.0) then own_text levels m indent e else []
 
 -- the statements below a path by a row
 abbrev pub own_row : ℕ → Statements → List Step → ℕ → ℕ → List ℕ

@@ -2,12 +2,13 @@
 
 ghost use Rattle.std.specs.Prelude.{◌≡◌, ◌<◌, ◌≤◌, ◌++◌, ◌∷◌, [], ◌+◌, ◌&&◌, length, take, nat_lt, IfOk, OnOk, if◌then◌else◌};
 ghost use Rattle.std.specs.List.{prefix_len};
-ghost use Rattle.cfg_schema.specs.Profile.{same_word};
+ghost use Rattle.cfg_schema.specs.Profile.{is_step_of};
 ghost use Rattle.cfg_tree.specs.Children.{is_child};
 ghost use Rattle.cfg_tree.specs.Statements.{last_of};
 ghost use Rattle.curly_print.specs.Inheriting.{front_longer, given_inside};
 
 use cfg_base::{NoMemory, Path, Step};
+use cfg_schema::RowWords;
 use cfg_tree::{Full, Given};
 use std::alloc::Global;
 use std::marker::Model;
@@ -63,13 +64,13 @@ impl<'a> Entry<'a> {
         self.given
     }
 
-    /// Whether its path is right below another one, of so many steps less one, and its last step has a head.
-    pub fn is_headed(&self, path: &Path, count: usize, head: &[u8]) -> bool
+    /// Whether its path is right below another one, of so many steps less one, and its last step is one of a row.
+    pub fn is_of_row(&self, path: &Path, count: usize, words: &RowWords) -> bool
         requires { count ≡ length path.now + 1 }
-        ensures { result ≡ (is_child path.now self.now.0 && same_word head.now (last_of self.now.0).head) }
+        ensures { result ≡ (is_child path.now self.now.0 && is_step_of words.now (last_of self.now.0)) }
     {
         // Most are told apart by how many steps they have, and their paths aren't read.
-        self.depth == count && head == self.step().head.as_bytes() && self.path.is_below(path)
+        self.depth == count && words.tell(self.step()) && self.path.is_below(path)
     }
 
     /// Whether its path has more steps than that of another one.

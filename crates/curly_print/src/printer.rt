@@ -16,7 +16,7 @@ use crate::line::{push_bytes, push_spaces, push_unmarked_line};
 use crate::note::push_note;
 use crate::printing::INDENT;
 use cfg_base::{NoMemory, Path, Word};
-use cfg_schema::{Place, RowId, head, row, rows_below};
+use cfg_schema::{Place, RowId, RowWords, head, row, rows_below};
 use cfg_tree::Full;
 use printing_order::named_child;
 use std::alloc::Global;
@@ -120,7 +120,7 @@ impl<'a> Printer<'a> {
         if row(id).ordered {
             self.push_named(text, path, head(id), levels, indent)
         } else {
-            self.push_headed(text, path, inside, head(id), levels, indent)
+            self.push_unordered(text, path, inside, &RowWords::of(id), levels, indent)
         }
     }
 
@@ -175,49 +175,58 @@ impl<'a> Printer<'a> {
         }
     }
 
-    /// Puts the children with a head at the end of a text, in the order of paths.
+    /// Puts the children of a row without an order at the end of a text, in the order of paths.
     #[cycle(inherited)]
-    fn push_headed(
+    fn push_unordered(
         &self,
         text: &mut Vec<u8>,
         path: &Path,
         inside: &[Entry<'a>],
-        head: &[u8],
+        words: &RowWords,
         levels: usize,
         indent: usize,
     ) -> Result<(), NoMemory>
         requires inside { HasInside self.now.full.now path.now inside.now }
         requires near { indent + 4 * levels ≤ 60 }
         ensures { OnOk result (text.new.items
-            ≡ text.old.items ++ flat_map (entry_if path.now head.now levels self.now.full.now indent) inside.now) }
+            ≡ text.old.items ++ flat_map (entry_if path.now words.now levels self.now.full.now indent) inside.now) }
     {
         let count = path.steps().len() + 1;
         for at in 0..inside.len() {
             let (_, behind) = inside.split_at(at + 1);
-            self.push_if_headed(text, path, &inside[at], behind, count, head, levels, indent)?;
+            self.push_if_of_row(
+                text,
+                path,
+                &inside[at],
+                behind,
+                count,
+                words,
+                levels,
+                indent,
+            )?;
         }
         Ok(())
     }
 
-    /// Puts an entry at the end of a text, where it is right below a path and has this head.
+    /// Puts an entry at the end of a text, where it is right below a path and of a row.
     #[cycle(inherited)]
-    fn push_if_headed(
+    fn push_if_of_row(
         &self,
         text: &mut Vec<u8>,
         path: &Path,
         entry: &Entry<'a>,
         behind: &[Entry<'a>],
         count: usize,
-        head: &[u8],
+        words: &RowWords,
         levels: usize,
         indent: usize,
     ) -> Result<(), NoMemory>
         requires inside { is_child path.now entry.now.0 ≡ true → HasInside self.now.full.now entry.now.0 (front_longer entry.now.0 behind.now) }
         requires count { count ≡ length path.now + 1 }
         requires near { indent + 4 * levels ≤ 60 }
-        ensures { OnOk result (text.new.items ≡ text.old.items ++ entry_if path.now head.now levels self.now.full.now indent entry.now) }
+        ensures { OnOk result (text.new.items ≡ text.old.items ++ entry_if path.now words.now levels self.now.full.now indent entry.now) }
     {
-        if !entry.is_headed(path, count, head) {
+        if !entry.is_of_row(path, count, words) {
             return Ok(());
         }
         self.push_entry(text, entry, front_longer(entry, behind), levels, indent)

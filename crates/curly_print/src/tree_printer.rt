@@ -8,12 +8,12 @@ ghost use Rattle.cfg_tree.specs.Children.{order_in};
 ghost use Rattle.cfg_tree.specs.Tree.{step_of, IsTree};
 ghost use Rattle.printing_order.specs.Inside.{front_inside, statements_inside};
 ghost use Rattle.curly_print.specs.Printed.{ended, text_below};
-ghost use Rattle.curly_print.specs.Printing.{child_text, own_headed, own_row, own_text};
+ghost use Rattle.curly_print.specs.Printing.{child_text, own_if_of_row, own_row, own_text};
 
 use crate::line::{push_bytes, push_line, push_spaces};
 use crate::printing::INDENT;
 use cfg_base::{NoMemory, Path, Word};
-use cfg_schema::{Place, RowId, head, row, rows_below};
+use cfg_schema::{Place, RowId, RowWords, head, row, rows_below};
 use cfg_tree::Tree;
 use printing_order::{Statement, front_inside, named_child, statements_below};
 use std::alloc::Global;
@@ -103,7 +103,7 @@ impl<'a> TreePrinter<'a> {
         if row(id).ordered {
             self.push_named(text, path, head(id), levels, indent)
         } else {
-            self.push_headed(text, path, inside, head(id), levels, indent)
+            self.push_unordered(text, path, inside, &RowWords::of(id), levels, indent)
         }
     }
 
@@ -160,14 +160,14 @@ impl<'a> TreePrinter<'a> {
         }
     }
 
-    /// Puts the children with a head at the end of a text, in the order of paths.
+    /// Puts the children of a row without an order at the end of a text, in the order of paths.
     #[cycle(printing)]
-    fn push_headed(
+    fn push_unordered(
         &self,
         text: &mut Vec<u8>,
         path: &Path,
         inside: &[Statement<'a>],
-        head: &[u8],
+        words: &RowWords,
         levels: usize,
         indent: usize,
     ) -> Result<(), NoMemory>
@@ -175,34 +175,34 @@ impl<'a> TreePrinter<'a> {
         requires tree { IsTree self.now.tree.now }
         requires near { indent + 4 * levels ≤ 60 }
         ensures { OnOk result (text.new.items
-            ≡ text.old.items ++ flat_map (own_headed head.now (length path.now + 1) levels self.now.tree.now indent) inside.now) }
+            ≡ text.old.items ++ flat_map (own_if_of_row words.now (length path.now + 1) levels self.now.tree.now indent) inside.now) }
     {
         let count = path.steps().len() + 1;
         for at in 0..inside.len() {
             let (_, behind) = inside.split_at(at + 1);
-            self.push_if_headed(text, &inside[at], behind, count, head, levels, indent)?;
+            self.push_if_of_row(text, &inside[at], behind, count, words, levels, indent)?;
         }
         Ok(())
     }
 
-    /// Puts a statement at the end of a text, where its path has so many steps, and this head.
+    /// Puts a statement at the end of a text, where its path has so many steps, and the last of them is one of a row.
     #[cycle(printing)]
-    fn push_if_headed(
+    fn push_if_of_row(
         &self,
         text: &mut Vec<u8>,
         statement: &Statement<'a>,
         behind: &[Statement<'a>],
         count: usize,
-        head: &[u8],
+        words: &RowWords,
         levels: usize,
         indent: usize,
     ) -> Result<(), NoMemory>
         requires inside { front_inside statement.now.0 behind.now ≡ statements_inside self.now.tree.now statement.now.0 }
         requires tree { IsTree self.now.tree.now }
         requires near { indent + 4 * levels ≤ 60 }
-        ensures { OnOk result (text.new.items ≡ text.old.items ++ own_headed head.now count levels self.now.tree.now indent statement.now) }
+        ensures { OnOk result (text.new.items ≡ text.old.items ++ own_if_of_row words.now count levels self.now.tree.now indent statement.now) }
     {
-        if !statement.is_headed(count, head) {
+        if !statement.is_of_row(count, words) {
             return Ok(());
         }
         self.push_statement(

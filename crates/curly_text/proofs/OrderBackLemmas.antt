@@ -7,7 +7,7 @@ use Rattle.cfg_base.specs.declared.path.Step.{Step}
 use Rattle.cfg_base.specs.declared.value.Value.{Value}
 use Rattle.cfg_schema.specs.declared.table.Line.{Line}
 use Rattle.cfg_schema.specs.declared.place.Place.{Place}
-use Rattle.cfg_schema.specs.Profile.{profile, line_at, no_line, row_of, head_of, same_word, rows_below}
+use Rattle.cfg_schema.specs.Profile.{profile, line_at, no_line, row_of, head_of, is_step_of, same_word, rows_below}
 use Rattle.cfg_schema.specs.Place.{place_of, ordered_row}
 use Rattle.cfg_schema.proofs.TestLemmas.{both, same}
 use Rattle.cfg_schema.proofs.RowFacts.{number_at}
@@ -77,21 +77,22 @@ module _ (head : List ℕ) where
   named_all h [] = tt
   named_all h (n ∷ names) = (refl, named_all h names)
 
-  headed_all : (h : List ℕ) (steps : List Step) → AllByRecursion (λ s. heads s ≡ same_word head h) (filter (λ s. same_word h s.head) steps)
-  headed_all h [] = tt
-  headed_all h (s ∷ steps) = by_test _ refl (headed_all h steps)
+  told_all : (id : ℕ) (steps : List Step) → AllByRecursion (λ s. heads s ≡ same_word head (head_of id)) (filter (is_step_of id) steps)
+  told_all id [] = tt
+  told_all id (s ∷ steps) = by_test _ refl (told_all id steps)
     where
-      by_test : (b : Bool) → same_word h s.head ≡ b → AllByRecursion (λ s. heads s ≡ same_word head h) (filter (λ s. same_word h s.head) steps)
-          → AllByRecursion (λ s. heads s ≡ same_word head h) (cond b (s ∷ filter (λ s. same_word h s.head) steps) (filter (λ s. same_word h s.head) steps))
-      by_test true e go = (ap (λ (w : List ℕ). same_word head w) (sym (same h s.head e)), go)
+      by_test : (b : Bool) → is_step_of id s ≡ b → AllByRecursion (λ s. heads s ≡ same_word head (head_of id)) (filter (is_step_of id) steps)
+          → AllByRecursion (λ s. heads s ≡ same_word head (head_of id)) (cond b (s ∷ filter (is_step_of id) steps) (filter (is_step_of id) steps))
+      by_test true e go =
+          (ap (λ (w : List ℕ). same_word head w) (sym (same (head_of id) s.head (both (same_word (head_of id) s.head) _ e).0)), go)
       by_test false e go = go
 
   row_all : (id : ℕ) (names : List (List ℕ)) (steps : List Step) → AllByRecursion (λ s. heads s ≡ same_word head (head_of id)) (row_steps id names steps)
   row_all id names steps = by_order (row_of id).ordered
     where
-      by_order : (b : Bool) → AllByRecursion (λ s. heads s ≡ same_word head (head_of id)) (if b then each (step_of (head_of id)) names else filter (λ s. same_word (head_of id) s.head) steps)
+      by_order : (b : Bool) → AllByRecursion (λ s. heads s ≡ same_word head (head_of id)) (if b then each (step_of (head_of id)) names else filter (is_step_of id) steps)
       by_order true = named_all (head_of id) names
-      by_order false = headed_all (head_of id) steps
+      by_order false = told_all id steps
 
   rows_filtered : (names : List (List ℕ)) (steps : List Step) (ids : List ℕ)
       → filter heads (flat_map (λ (id : ℕ). row_steps id names steps) ids)
@@ -120,7 +121,7 @@ none_headed (s ∷ steps) = none_headed steps
 -- the ordered row's steps are those of the names
 row_named : (id : ℕ) (names : List (List ℕ)) (steps : List Step) → (row_of id).ordered ≡ true → row_steps id names steps ≡ each (step_of (head_of id)) names
 row_named id names steps e =
-    ap (λ (b : Bool). if b then each (step_of (head_of id)) names else filter (λ s. same_word (head_of id) s.head) steps) e
+    ap (λ (b : Bool). if b then each (step_of (head_of id)) names else filter (is_step_of id) steps) e
 
 named_placed : (m : Statements) (path : List Step) (here : Place) (row : Option ℕ) (names : List (List ℕ)) → stands_alone (rows_below here.row here.in_group) row ≡ true
     → IsOrderBy m path (option_map head_of row) names

@@ -12,12 +12,11 @@ use Rattle.cfg_base.specs.declared.path.Step.{Step}
 use Rattle.cfg_entries.specs.EntryMap.{Pair}
 use Rattle.cfg_schema.proofs.TestLemmas.{both, both_true}
 use Rattle.cfg_tree.specs.Statements.{is_below, last_of, parent_of}
-use Rattle.cfg_tree.specs.Children.{is_child}
+use Rattle.cfg_tree.specs.Children.{is_inside, is_child}
 use Rattle.cfg_tree.proofs.BelowLemmas.{front_of, none_later, below_le, below_more, below_self}
 use Rattle.cfg_tree.proofs.MapLemmas.{same_path}
 use Rattle.cfg_tree.proofs.OnceLemmas.{below_rest}
 use Rattle.cfg_tree.proofs.PathLemmas.{split, same_ends, child_longer}
-use Rattle.printing_order.specs.Inside.{is_inside}
 use Rattle.printing_order.proofs.NumberLemmas.{lt_is}
 
 -- what passes a test stands below a path

@@ -8,13 +8,13 @@ use Rattle.cfg_base.specs.declared.path.Step.{Step}
 use Rattle.cfg_base.specs.declared.value.Value.{Value}
 use Rattle.cfg_entries.specs.EntryMap.{Pair}
 use Rattle.cfg_schema.specs.declared.place.Place.{Place}
-use Rattle.cfg_schema.specs.Profile.{row_of, head_of, rows_below}
+use Rattle.cfg_schema.specs.Profile.{row_of, rows_below}
 use Rattle.cfg_schema.specs.Place.{place_of}
 use Rattle.cfg_tree.specs.Statements.{Statements, size_of}
 use Rattle.cfg_tree.specs.Children.{children_of}
 use Rattle.printing_order.specs.Inside.{statements_inside}
 use Rattle.printing_order.specs.Listed.{Item, item_with, items_below}
-use Rattle.printing_order.specs.Listing.{child_items, headed_items, own_items, row_items}
+use Rattle.printing_order.specs.Listing.{child_items, items_if_of_row, own_items, row_items}
 use Rattle.printing_order.proofs.RowsLemmas as rows
 
 -- no level is left
@@ -53,11 +53,11 @@ by_rows (suc levels) m path here h e =
     back : levels ≡ suc levels - 1
     back = omega arith
 
--- the statements with a head are what its row lists, where the row has no order
-pub row_headed : (levels : ℕ) (m : Statements) (path : List Step) (id : ℕ) (inside : List (Pair Value)) → inside ≡ statements_inside m path
-    → (row_of id).ordered ≡ false → flat_map (headed_items (head_of id) (length path + 1) levels m) inside ≡ row_items levels m path id
-row_headed levels m path id inside e unordered =
-    rows.row_headed m path (child_items levels m path) (own_items levels m)
+-- the statements of a row are what it lists, where it has no order
+pub row_unordered : (levels : ℕ) (m : Statements) (path : List Step) (id : ℕ) (inside : List (Pair Value)) → inside ≡ statements_inside m path
+    → (row_of id).ordered ≡ false → flat_map (items_if_of_row id (length path + 1) levels m) inside ≡ row_items levels m path id
+row_unordered levels m path id inside e unordered =
+    rows.row_unordered m path (child_items levels m path) (own_items levels m)
     (λ x at found.
     ap (λ (o : Option Value). item_with x.0 o (items_below levels m x.0)) (sym found)
     ∙ ap (λ (k : List Step). item_with k (map.get m k) (items_below levels m k)) at)

@@ -7,13 +7,13 @@ use Rattle.cfg_base.specs.declared.path.Step.{Step}
 use Rattle.cfg_base.specs.declared.value.Value.{Value}
 use Rattle.cfg_entries.specs.EntryMap.{Pair}
 use Rattle.cfg_schema.specs.declared.place.Place.{Place}
-use Rattle.cfg_schema.specs.Profile.{row_of, head_of, rows_below, same_word}
+use Rattle.cfg_schema.specs.Profile.{row_of, head_of, rows_below, is_step_of}
 use Rattle.cfg_schema.specs.Place.{place_of}
 use Rattle.cfg_schema.proofs.TestLemmas.{both}
 use Rattle.cfg_tree.specs.Statements.{Statements, is_below, last_of, size_of}
-use Rattle.cfg_tree.specs.Children.{is_child, order_in, row_steps, steps_below, children_at, children_of}
+use Rattle.cfg_tree.specs.Children.{is_inside, is_child, order_in, row_steps, steps_below, children_at, children_of}
 use Rattle.cfg_tree.specs.Tree.{step_of}
-use Rattle.printing_order.specs.Inside.{is_inside, statements_inside}
+use Rattle.printing_order.specs.Inside.{statements_inside}
 use Rattle.printing_order.proofs.EntriesLemmas.{child_inside, child_is, found_all, long_child, none_given, right_inside}
 use Rattle.printing_order.proofs.NumberLemmas.{no_length}
 use Rattle.printing_order.proofs.PutLemmas.{rows_flat}
@@ -43,49 +43,49 @@ module _ {X : Type 0} (m : Statements) (path : List Step) (child : Step → List
       ∙ rows_flat child (λ id. row_steps id (order_in (map.get m path)) (steps_below m path)) (rows_below here.row here.in_group)
 
   module _ (own : Pair Value → List X) (same : (e : Pair Value) → e.0 ≡ path ++ last_of e.0 ∷ [] → map.get m e.0 ≡ Some e.1 → own e ≡ child (last_of e.0)) where
-    abbrev steps_with : List ℕ → List (List Step) → List Step
-    steps_with head ks = filter (λ (s : Step). same_word head s.head) (each last_of ks)
+    abbrev steps_with : ℕ → List (List Step) → List Step
+    steps_with id ks = filter (is_step_of id) (each last_of ks)
 
     abbrev made : List Step → List X
     made steps = flat_map child steps
 
-    abbrev headed : List ℕ → List (Pair Value) → List X
-    headed head es = flat_map (λ e. if length e.0 == length path + 1 && same_word head (last_of e.0).head then own e else []) es
+    abbrev made_of : ℕ → List (Pair Value) → List X
+    made_of id es = flat_map (λ e. if length e.0 == length path + 1 && is_step_of id (last_of e.0) then own e else []) es
 
-    headed_in : (head : List ℕ) (es : List (Pair Value)) → AllByRecursion (λ x. map.get m x.0 ≡ Some x.1) es
-        → headed head (filter (λ e. is_inside path e.0) es) ≡ made (steps_with head (filter (is_child path) (keys_of es)))
-    headed_in head [] found = refl
-    headed_in head (e ∷ es) found =
-        by_inside (filter (λ x. is_inside path x.0) es) (filter (is_child path) (keys_of es)) (is_inside path e.0) (is_child path e.0) refl refl (headed_in head es found.1)
+    made_in : (id : ℕ) (es : List (Pair Value)) → AllByRecursion (λ x. map.get m x.0 ≡ Some x.1) es
+        → made_of id (filter (λ e. is_inside path e.0) es) ≡ made (steps_with id (filter (is_child path) (keys_of es)))
+    made_in id [] found = refl
+    made_in id (e ∷ es) found =
+        by_inside (filter (λ x. is_inside path x.0) es) (filter (is_child path) (keys_of es)) (is_inside path e.0) (is_child path e.0) refl refl (made_in id es found.1)
       where
         by_tests : (xs : List (Pair Value)) (ks : List (List Step)) (c h : Bool) → is_child path e.0 ≡ c → (length e.0 == length path + 1) ≡ c
-            → same_word head (last_of e.0).head ≡ h → headed head xs ≡ made (steps_with head ks)
-            → (if c && h then own e else []) ++ headed head xs ≡ made (steps_with head (cond c (e.0 ∷ ks) ks))
+            → is_step_of id (last_of e.0) ≡ h → made_of id xs ≡ made (steps_with id ks)
+            → (if c && h then own e else []) ++ made_of id xs ≡ made (steps_with id (cond c (e.0 ∷ ks) ks))
         by_tests xs ks true true is_one long like go =
-            ap (λ (t : List X). t ++ headed head xs) (same e (child_is path e.0 is_one) found.0)
+            ap (λ (t : List X). t ++ made_of id xs) (same e (child_is path e.0 is_one) found.0)
             ∙ ap (λ (t : List X). child (last_of e.0) ++ t) go
-            ∙ ap (λ (b : Bool). made (cond b (last_of e.0 ∷ steps_with head ks) (steps_with head ks))) (sym like)
+            ∙ ap (λ (b : Bool). made (cond b (last_of e.0 ∷ steps_with id ks) (steps_with id ks))) (sym like)
         by_tests xs ks true false is_one long like go =
-            go ∙ ap (λ (b : Bool). made (cond b (last_of e.0 ∷ steps_with head ks) (steps_with head ks))) (sym like)
+            go ∙ ap (λ (b : Bool). made (cond b (last_of e.0 ∷ steps_with id ks) (steps_with id ks))) (sym like)
         by_tests xs ks false h is_one long like go = go
 
         by_inside : (xs : List (Pair Value)) (ks : List (List Step)) (i c : Bool) → is_inside path e.0 ≡ i → is_child path e.0 ≡ c
-            → headed head xs ≡ made (steps_with head ks) → headed head (cond i (e ∷ xs) xs) ≡ made (steps_with head (cond c (e.0 ∷ ks) ks))
+            → made_of id xs ≡ made (steps_with id ks) → made_of id (cond i (e ∷ xs) xs) ≡ made (steps_with id (cond c (e.0 ∷ ks) ks))
         by_inside xs ks true c inside is_one go =
             let below = both (is_below path e.0) _ inside
             in let long : (length e.0 == length path + 1) ≡ c = sym (long_child path e.0 (length path + 1) refl below.0) ∙ is_one
-            in ap (λ (b : Bool). (if b && same_word head (last_of e.0).head then own e else []) ++ headed head xs) long
-            ∙ by_tests xs ks c (same_word head (last_of e.0).head) is_one long refl go
+            in ap (λ (b : Bool). (if b && is_step_of id (last_of e.0) then own e else []) ++ made_of id xs) long
+            ∙ by_tests xs ks c (is_step_of id (last_of e.0)) is_one long refl go
         by_inside xs ks false true apart is_one go = let inside = child_inside path e.0 is_one in cc
         by_inside xs ks false false apart is_one go = go
 
-    -- of the statements inside the path those with a head are what its row has, where the row has no order
-    pub row_headed : (id : ℕ) (inside : List (Pair Value)) → inside ≡ statements_inside m path → (row_of id).ordered ≡ false
-        → headed (head_of id) inside ≡ flat_map child (row_steps id (order_in (map.get m path)) (steps_below m path))
-    row_headed id inside e unordered =
-        ap (λ (es : List (Pair Value)). headed (head_of id) es) e
-        ∙ headed_in (head_of id) (map.entries m) (found_all m)
+    -- of the statements inside the path those of a row are what it has, where it has no order
+    pub row_unordered : (id : ℕ) (inside : List (Pair Value)) → inside ≡ statements_inside m path → (row_of id).ordered ≡ false
+        → made_of id inside ≡ flat_map child (row_steps id (order_in (map.get m path)) (steps_below m path))
+    row_unordered id inside e unordered =
+        ap (λ (es : List (Pair Value)). made_of id es) e
+        ∙ made_in id (map.entries m) (found_all m)
         ∙ ap
         (λ (b : Bool). flat_map child
-        (if b then each (step_of (head_of id)) (order_in (map.get m path)) else filter (λ (s : Step). same_word (head_of id) s.head) (steps_below m path)))
+        (if b then each (step_of (head_of id)) (order_in (map.get m path)) else filter (is_step_of id) (steps_below m path)))
         (sym unordered)

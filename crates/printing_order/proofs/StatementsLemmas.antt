@@ -20,7 +20,8 @@ use Rattle.cfg_tree.proofs.BelowLemmas.{none_later, below_between, below_first, 
 use Rattle.cfg_tree.proofs.MapLemmas.{same_path, same_step}
 use Rattle.cfg_tree.proofs.OnceLemmas.{below_rest}
 use Rattle.cfg_tree.proofs.PathLemmas.{child_longer, split}
-use Rattle.printing_order.specs.Inside.{is_inside, front_inside, statements_inside}
+use Rattle.cfg_tree.specs.Children.{is_inside}
+use Rattle.printing_order.specs.Inside.{front_inside, statements_inside}
 use Rattle.printing_order.proofs.EntriesLemmas.{head_of, tail_of, later, found_all, inside_part, none_passes}
 use Rattle.printing_order.proofs.FollowedLemmas.{itself, not_both, all_in, by_first, back_sorted, found_behind, later_found}
 use Rattle.printing_order.proofs.FollowedLemmas.{child_after}

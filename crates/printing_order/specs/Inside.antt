@@ -1,15 +1,12 @@
 -- The statements inside a path, in the order of paths.
-use Rattle.std.specs.Prelude.{nat_lt, Bool, ◌&&◌, List, length, filter, take}
+use Rattle.std.specs.Prelude.{nat_lt, List, length, filter, take}
 use Rattle.std.specs.List.{prefix_len}
 use Rattle.std.specs.FinMap as map
 use Rattle.cfg_base.specs.declared.path.Step.{Step}
 use Rattle.cfg_base.specs.declared.value.Value.{Value}
 use Rattle.cfg_entries.specs.EntryMap.{Pair}
-use Rattle.cfg_tree.specs.Statements.{Statements, is_below}
-
--- a path stands below another one, and isn't it
-abbrev pub is_inside : List Step → List Step → Bool
-is_inside path other = is_below path other && nat_lt (length path) (length other)
+use Rattle.cfg_tree.specs.Statements.{Statements}
+use Rattle.cfg_tree.specs.Children.{is_inside}
 
 -- the statements below a path, in the order of paths
 abbrev pub statements_inside : Statements → List Step → List (Pair Value)

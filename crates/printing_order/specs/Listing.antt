@@ -5,7 +5,7 @@ use Rattle.std.specs.FinMap as map
 use Rattle.cfg_base.specs.declared.path.Step.{Step}
 use Rattle.cfg_base.specs.declared.value.Value.{Value}
 use Rattle.cfg_entries.specs.EntryMap.{Pair}
-use Rattle.cfg_schema.specs.Profile.{same_word}
+use Rattle.cfg_schema.specs.Profile.{is_step_of}
 use Rattle.cfg_tree.specs.Statements.{Statements, last_of}
 use Rattle.cfg_tree.specs.Children.{order_in, row_steps, steps_below}
 use Rattle.printing_order.specs.Listed.{Item, item_with, items_below}
@@ -18,10 +18,10 @@ child_items levels m path step = item_with (path ++ step ∷ []) (map.get m (pat
 abbrev pub own_items : ℕ → Statements → Pair Value → List Item
 own_items levels m e = item_with e.0 (Some e.1) (items_below levels m e.0)
 
--- the same of one whose path has so many steps, and this head
-abbrev pub headed_items : List ℕ → ℕ → ℕ → Statements → Pair Value → List Item
-headed_items head count levels m e =
-    if length e.0 == count && same_word head (last_of e.0).head then own_items levels m e else []
+-- the same of one whose path has so many steps, and the last of them is one of this row
+abbrev pub items_if_of_row : ℕ → ℕ → ℕ → Statements → Pair Value → List Item
+items_if_of_row id count levels m e =
+    if length e.0 == count && is_step_of id (last_of e.0) then own_items levels m e else []
 
 -- the statements below a path by a row
 abbrev pub row_items : ℕ → Statements → List Step → ℕ → List Item

@@ -8,13 +8,13 @@ ghost use Rattle.cfg_tree.specs.Children.{order_in};
 ghost use Rattle.cfg_tree.specs.Tree.{step_of, IsTree};
 ghost use Rattle.printing_order.specs.Inside.{front_inside, statements_inside};
 ghost use Rattle.printing_order.specs.Listed.{items_below};
-ghost use Rattle.printing_order.specs.Listing.{child_items, headed_items, own_items, row_items};
+ghost use Rattle.printing_order.specs.Listing.{child_items, items_if_of_row, own_items, row_items};
 
 use crate::item::Item;
 use crate::named::named_child;
 use crate::statements::{Statement, front_inside, statement_at, statements_below};
 use cfg_base::{NoMemory, Path, Word};
-use cfg_schema::{Place, RowId, head, row, rows_below};
+use cfg_schema::{Place, RowId, RowWords, head, row, rows_below};
 use cfg_tree::Tree;
 use std::alloc::Global;
 
@@ -91,7 +91,7 @@ impl<'a> Lister<'a> {
         if row(id).ordered {
             self.push_named(items, path, head(id), levels)
         } else {
-            self.push_headed(items, path, inside, head(id), levels)
+            self.push_unordered(items, path, inside, &RowWords::of(id), levels)
         }
     }
 
@@ -144,45 +144,45 @@ impl<'a> Lister<'a> {
         }
     }
 
-    /// Puts the children with a head at the end of a list, in the order of paths.
+    /// Puts the children of a row without an order at the end of a list, in the order of paths.
     #[cycle(listing)]
-    fn push_headed(
+    fn push_unordered(
         &self,
         items: &mut Vec<Item<'a>>,
         path: &Path,
         inside: &[Statement<'a>],
-        head: &[u8],
+        words: &RowWords,
         levels: usize,
     ) -> Result<(), NoMemory>
         requires inside { inside.now ≡ statements_inside self.now.tree.now path.now }
         requires tree { IsTree self.now.tree.now }
         ensures { OnOk result (items.new.items
-            ≡ items.old.items ++ flat_map (headed_items head.now (length path.now + 1) levels self.now.tree.now) inside.now) }
+            ≡ items.old.items ++ flat_map (items_if_of_row words.now (length path.now + 1) levels self.now.tree.now) inside.now) }
     {
         let count = path.steps().len() + 1;
         for at in 0..inside.len() {
             let (_, behind) = inside.split_at(at + 1);
-            self.push_if_headed(items, &inside[at], behind, count, head, levels)?;
+            self.push_if_of_row(items, &inside[at], behind, count, words, levels)?;
         }
         Ok(())
     }
 
-    /// Puts a statement at the end of a list, where its path has so many steps, and this head.
+    /// Puts a statement at the end of a list, where its path has so many steps, and the last of them is one of a row.
     #[cycle(listing)]
-    fn push_if_headed(
+    fn push_if_of_row(
         &self,
         items: &mut Vec<Item<'a>>,
         statement: &Statement<'a>,
         behind: &[Statement<'a>],
         count: usize,
-        head: &[u8],
+        words: &RowWords,
         levels: usize,
     ) -> Result<(), NoMemory>
         requires inside { front_inside statement.now.0 behind.now ≡ statements_inside self.now.tree.now statement.now.0 }
         requires tree { IsTree self.now.tree.now }
-        ensures { OnOk result (items.new.items ≡ items.old.items ++ headed_items head.now count levels self.now.tree.now statement.now) }
+        ensures { OnOk result (items.new.items ≡ items.old.items ++ items_if_of_row words.now count levels self.now.tree.now statement.now) }
     {
-        if !statement.is_headed(count, head) {
+        if !statement.is_of_row(count, words) {
             return Ok(());
         }
         self.push_statement(items, statement, front_inside(statement, behind), levels)

@@ -3,11 +3,12 @@
 ghost use Rattle.std.specs.Prelude.{◌≡◌, ◌<◌, ◌≤◌, ◌==◌, ◌&&◌, nat_lt, [], ◌∷◌, ◌++◌, length, None, Some, MatchOption, if◌then◌else◌, IfOk, OnOk};
 ghost use Rattle.std.specs.FinMap as finite;
 ghost use Rattle.std.specs.List.{prefix_len};
-ghost use Rattle.cfg_schema.specs.Profile.{same_word};
+ghost use Rattle.cfg_schema.specs.Profile.{is_step_of};
 ghost use Rattle.cfg_tree.specs.Statements.{last_of};
 ghost use Rattle.printing_order.specs.Inside.{front_inside, statements_inside};
 
 use cfg_base::{NoMemory, Path, Step, Value};
+use cfg_schema::RowWords;
 use cfg_tree::Tree;
 use std::alloc::Global;
 use std::marker::Model;
@@ -66,11 +67,11 @@ impl<'a> Statement<'a> {
         self.value
     }
 
-    /// Whether its path has so many steps, and this head.
-    pub fn is_headed(&self, count: usize, head: &[u8]) -> bool
-        ensures { result ≡ ((length self.now.0 == count) && same_word head.now (last_of self.now.0).head) }
+    /// Whether its path has so many steps, and the last of them is one of a row.
+    pub fn is_of_row(&self, count: usize, words: &RowWords) -> bool
+        ensures { result ≡ ((length self.now.0 == count) && is_step_of words.now (last_of self.now.0)) }
     {
-        self.steps.len() == count && head == self.step().head.as_bytes()
+        self.steps.len() == count && words.tell(self.step())
     }
 
     /// Whether its path is longer than another one's.

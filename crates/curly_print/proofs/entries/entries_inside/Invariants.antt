@@ -1,5 +1,5 @@
 use Rattle.std.proofs.Common.{◌≡◌, ◌++◌, length}
-use Rattle.printing_order.specs.Inside.{is_inside}
+use Rattle.cfg_tree.specs.Children.{is_inside}
 use Rattle.curly_print.specs.Inheriting.{given_inside}
 use Rattle.printing_order.proofs.EntriesLemmas.{ahead}
 use Rattle.curly_print.proofs.entries.entries_inside.Given as goal

@@ -1,6 +1,6 @@
 use Rattle.std.proofs.Common.{List, length, sym, ap}
 use Rattle.cfg_base.specs.declared.path.Step.{Step}
-use Rattle.printing_order.specs.Inside.{is_inside}
+use Rattle.cfg_tree.specs.Children.{is_inside}
 use Rattle.printing_order.proofs.EntriesLemmas.{inside_part, long_inside, ahead_start, ahead_taken, ahead_end, ahead_other, ahead_less}
 use Rattle.printing_order.proofs.statements.statements_below.Goals as goal
 use Rattle.printing_order.proofs.statements.statements_below.Goals.{in-Some+then-not-is_below, in_default}

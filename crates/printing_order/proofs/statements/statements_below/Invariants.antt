@@ -1,5 +1,6 @@
 use Rattle.std.proofs.Common.{◌≡◌, ◌++◌, length}
-use Rattle.printing_order.specs.Inside.{is_inside, statements_inside}
+use Rattle.cfg_tree.specs.Children.{is_inside}
+use Rattle.printing_order.specs.Inside.{statements_inside}
 use Rattle.printing_order.proofs.EntriesLemmas.{ahead}
 use Rattle.printing_order.proofs.statements.statements_below.Given as goal
 

@@ -44,13 +44,13 @@ push_below-returns t c =
 
 pub push_row-returns-else-row : goal.push_row-returns-else-row
 push_row-returns-else-row t c =
-    put_same c.push_headed.result c.args.text.now.items c.push_headed.new.text.items _ _ c.push_headed.ensures
-    (ap (λ head. flat_map (entry_if c.args.path.now head c.args.levels c.args.self.now.full.now c.args.indent) c.args.inside.now) c.head-else-row.ensures
+    put_same c.push_unordered.result c.args.text.now.items c.push_unordered.new.text.items _ _ c.push_unordered.ensures
+    (ap (λ id. flat_map (entry_if c.args.path.now id c.args.levels c.args.self.now.full.now c.args.indent) c.args.inside.now) c.of.ensures
     ∙ row_printed c.args.levels c.args.self.now.full.now c.args.path.now c.args.indent c.args.id c.args.inside.now c.requires.inside
     (ap (λ r. r.ordered) (sym c.row.ensures) ∙ c.if-row.false))
 
-pub push_headed-push_if_headed-requires : goal.push_headed-push_if_headed-requires
-push_headed-push_if_headed-requires t c =
+pub push_unordered-push_if_of_row-requires : goal.push_unordered-push_if_of_row-requires
+push_unordered-push_if_of_row-requires t c =
     let fewer : 8 * c.args.levels + 4 < t = omega (arith, c.decreases)
     in let each = at_place c.args.self.now.full.now c.args.path.now c.args.inside.now c.split_at.result.1.now c.loop-at.at c.index-inside-at.result
     c.requires.inside c.loop-at-test.true c.index-inside-at.is c.split_at.ensures.back

@@ -18,11 +18,11 @@ decreases-push_named l = 8 * l.levels + 5
 abbrev pub decreases-push_child : goal.decreases-push_child
 decreases-push_child l = 8 * l.levels + 4
 
-abbrev pub decreases-push_headed : goal.decreases-push_headed
-decreases-push_headed l = 8 * l.levels + 5
+abbrev pub decreases-push_unordered : goal.decreases-push_unordered
+decreases-push_unordered l = 8 * l.levels + 5
 
-abbrev pub decreases-push_if_headed : goal.decreases-push_if_headed
-decreases-push_if_headed l = 8 * l.levels + 4
+abbrev pub decreases-push_if_of_row : goal.decreases-push_if_of_row
+decreases-push_if_of_row l = 8 * l.levels + 4
 
 abbrev pub decreases-push_entry : goal.decreases-push_entry
 decreases-push_entry l = 8 * l.levels + 3
@@ -47,6 +47,6 @@ invariant-push_named-loop-name l =
 abbrev pub decreases-push_named-loop-name : goal.decreases-push_named-loop-name
 decreases-push_named-loop-name l = length l.left
 
-abbrev pub invariant-push_headed-loop-at : goal.invariant-push_headed-loop-at
-invariant-push_headed-loop-at l =
-    l.text.items ≡ l.fn.text.items ++ flat_map (entry_if l.path l.head l.levels l.self.full.now l.indent) (take l.at l.inside)
+abbrev pub invariant-push_unordered-loop-at : goal.invariant-push_unordered-loop-at
+invariant-push_unordered-loop-at l =
+    l.text.items ≡ l.fn.text.items ++ flat_map (entry_if l.path l.words l.levels l.self.full.now l.indent) (take l.at l.inside)

@@ -3,7 +3,7 @@ use Rattle.std.specs.List.{flat_map}
 use Rattle.std.specs.FinMap as finite
 use Rattle.cfg_tree.specs.Children.{order_in}
 use Rattle.cfg_tree.specs.Tree.{step_of}
-use Rattle.curly_print.specs.Printing.{child_text, own_headed, own_row}
+use Rattle.curly_print.specs.Printing.{child_text, own_if_of_row, own_row}
 use Rattle.curly_print.proofs.tree_printer.TreePrinter.+printing.Given as goal
 
 abbrev pub decreases-push_rows : goal.decreases-push_rows
@@ -18,11 +18,11 @@ decreases-push_named l = 8 * l.levels + 5
 abbrev pub decreases-push_child : goal.decreases-push_child
 decreases-push_child l = 8 * l.levels + 4
 
-abbrev pub decreases-push_headed : goal.decreases-push_headed
-decreases-push_headed l = 8 * l.levels + 5
+abbrev pub decreases-push_unordered : goal.decreases-push_unordered
+decreases-push_unordered l = 8 * l.levels + 5
 
-abbrev pub decreases-push_if_headed : goal.decreases-push_if_headed
-decreases-push_if_headed l = 8 * l.levels + 4
+abbrev pub decreases-push_if_of_row : goal.decreases-push_if_of_row
+decreases-push_if_of_row l = 8 * l.levels + 4
 
 abbrev pub decreases-push_statement : goal.decreases-push_statement
 decreases-push_statement l = 8 * l.levels + 3
@@ -47,7 +47,7 @@ invariant-push_named-loop-name l =
 abbrev pub decreases-push_named-loop-name : goal.decreases-push_named-loop-name
 decreases-push_named-loop-name l = length l.left
 
-abbrev pub invariant-push_headed-loop-at : goal.invariant-push_headed-loop-at
-invariant-push_headed-loop-at l =
+abbrev pub invariant-push_unordered-loop-at : goal.invariant-push_unordered-loop-at
+invariant-push_unordered-loop-at l =
     l.text.items
-    ≡ l.fn.text.items ++ flat_map (own_headed l.head (length l.path + 1) l.levels l.self.tree.now l.indent) (take l.at l.inside)
+    ≡ l.fn.text.items ++ flat_map (own_if_of_row l.words (length l.path + 1) l.levels l.self.tree.now l.indent) (take l.at l.inside)

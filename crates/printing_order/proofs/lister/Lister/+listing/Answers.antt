@@ -3,11 +3,11 @@ use Rattle.cfg_base.specs.declared.path.Step.{Step}
 use Rattle.cfg_schema.specs.Place.{place_of}
 use Rattle.cfg_tree.proofs.TargetLemmas.{room_below}
 use Rattle.printing_order.specs.Listed.{items_below}
-use Rattle.printing_order.specs.Listing.{headed_items, row_items}
+use Rattle.printing_order.specs.Listing.{items_if_of_row, row_items}
 use Rattle.printing_order.proofs.NumberLemmas.{no_length, some_levels}
 use Rattle.printing_order.proofs.PutLemmas.{put_nothing, put_same}
 use Rattle.printing_order.proofs.StatementsLemmas.{inside_at}
-use Rattle.printing_order.proofs.ListingLemmas.{no_levels, none_inside, no_place, by_rows, row_headed, told_behind}
+use Rattle.printing_order.proofs.ListingLemmas.{no_levels, none_inside, no_place, by_rows, row_unordered, told_behind}
 use Rattle.printing_order.proofs.lister.Lister.+listing.Goals as goal
 
 pub push_below-returns-then-levels-eq0 : goal.push_below-returns-then-levels-eq0
@@ -44,13 +44,13 @@ push_below-returns t c =
 
 pub push_row-returns-else-row : goal.push_row-returns-else-row
 push_row-returns-else-row t c =
-    put_same c.push_headed.result c.args.items.now.items c.push_headed.new.items.items _ _ c.push_headed.ensures
-    (ap (λ head. flat_map (headed_items head (length c.args.path.now + 1) c.args.levels c.args.self.now.tree.now) c.args.inside.now) c.head-else-row.ensures
-    ∙ row_headed c.args.levels c.args.self.now.tree.now c.args.path.now c.args.id c.args.inside.now c.requires.inside
+    put_same c.push_unordered.result c.args.items.now.items c.push_unordered.new.items.items _ _ c.push_unordered.ensures
+    (ap (λ id. flat_map (items_if_of_row id (length c.args.path.now + 1) c.args.levels c.args.self.now.tree.now) c.args.inside.now) c.of.ensures
+    ∙ row_unordered c.args.levels c.args.self.now.tree.now c.args.path.now c.args.id c.args.inside.now c.requires.inside
     (ap (λ r. r.ordered) (sym c.row.ensures) ∙ c.if-row.false))
 
-pub push_headed-push_if_headed-requires : goal.push_headed-push_if_headed-requires
-push_headed-push_if_headed-requires t c =
+pub push_unordered-push_if_of_row-requires : goal.push_unordered-push_if_of_row-requires
+push_unordered-push_if_of_row-requires t c =
     let fewer : 8 * c.args.levels + 4 < t = omega (arith, c.decreases)
     in let each = inside_at c.args.self.now.tree.now c.requires.tree c.args.path.now c.args.inside.now c.split_at.result.1.now c.loop-at.at c.index-inside-at.result
     c.requires.inside c.loop-at-test.true c.index-inside-at.is c.split_at.ensures.back
