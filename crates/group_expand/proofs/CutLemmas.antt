@@ -9,10 +9,10 @@ use Rattle.cfg_base.specs.Order.{path_cmp, step_cmp, steps_total, is_below}
 use Rattle.cfg_base.specs.declared.path.Step.{Step}
 use Rattle.cfg_entries.proofs.PlaceLemmas.{within_take, within_drop}
 use Rattle.cfg_tree.specs.Statements.{last_of}
-use Rattle.cfg_tree.specs.Children.{is_child}
+use Rattle.cfg_tree.specs.Children.{is_inside, is_child}
 use Rattle.cfg_tree.proofs.MapLemmas.{same_step, is_equal}
 use Rattle.group_expand.specs.Row.{Stated, is_under, Counted, AreBehind, Ordered}
-use Rattle.group_expand.specs.Node.{Node, is_inside, AreInside, node_of, is_live_child, live_children}
+use Rattle.group_expand.specs.Node.{Node, AreInside, node_of, is_live_child, live_children}
 use Rattle.group_expand.specs.Cut.{is_earlier, is_before}
 use Rattle.group_expand.proofs.ClosedLemmas.{both}
 use Rattle.group_expand.proofs.NodeLemmas.{inside_longer, all_kept, append_nothing}

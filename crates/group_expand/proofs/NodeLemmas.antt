@@ -1,18 +1,19 @@
 -- The statements right below a path, met one after the other with a hop over what stands below each.
-use Rattle.std.proofs.Common.{◌≡◌, ◌⊎◌, inl, inr, nat_lt, ◌+◌, ◌<◌, ◌≤◌, Bool, true, false, not, cond, List, [], ◌∷◌, ◌++◌, length, filter, map, get_or, refl, sym, ap, subst, ◌∙◌, arith, append_assoc}
+use Rattle.std.proofs.Common.{◌≡◌, ◌⊎◌, inl, inr, ℕ, nat_lt, ◌+◌, ◌<◌, ◌≤◌, Bool, true, false, not, cond, List, [], ◌∷◌, ◌++◌, length, filter, map, get_or, refl, sym, ap, subst, ◌∙◌, arith, append_assoc}
 use Rattle.std.specs.Prelude.{◌&&◌, ◌==◌}
 use Rattle.std.specs.List.{AllByRecursion}
 use Rattle.std.specs.Ordering.{is_le, ordering_reverse}
 use Rattle.std.specs.declared.cmp.Ordering.TheVariants.{Less, Equal, Greater}
 use Rattle.std.specs.declared.cmp.Ordering.{Ordering}
 use Rattle.std.proofs.lemmas.Bool.{eqb-true}
+use Rattle.std.proofs.lemmas.Bool.Decides.{nat_tests}
 use Rattle.cfg_base.specs.Order.{path_cmp, is_below, paths_total}
 use Rattle.cfg_base.specs.declared.path.Step.{Step}
-use Rattle.cfg_tree.specs.Children.{is_child}
+use Rattle.cfg_tree.specs.Children.{is_inside, is_child}
 use Rattle.cfg_tree.proofs.MapLemmas.{same_step}
 use Rattle.cfg_tree.proofs.BelowLemmas.{below_le, below_self}
 use Rattle.group_expand.specs.Row.{Stated, is_under, Counted, AreBehind, Ordered, path_in, below_of, beside_of}
-use Rattle.group_expand.specs.Node.{Node, is_inside, inside_of, AreInside, node_of, is_live_child, begins_live, FirstNode, first_child, live_children, IsPart}
+use Rattle.group_expand.specs.Node.{Node, inside_of, AreInside, node_of, is_live_child, begins_live, FirstNode, first_child, live_children, IsPart}
 use Rattle.group_expand.proofs.ClosedLemmas.{both}
 use Rattle.group_expand.proofs.RowLemmas.{below_trans, beside_kept}
 
@@ -20,7 +21,7 @@ pub append_nothing : {X : Type 0} (xs : List X) → xs ++ [] ≡ xs
 append_nothing [] = refl
 append_nothing (x ∷ xs) = ap (λ (ys : List _). x ∷ ys) (append_nothing xs)
 
-pub below_long : (p q : List Step) → is_below p q ≡ true → length p ≤ length q
+below_long : (p q : List Step) → is_below p q ≡ true → length p ≤ length q
 below_long [] q h = omega arith
 below_long (s ∷ p) [] h = cc
 below_long (s ∷ p) (t ∷ q) h = let k = below_long p q (both _ _ h).1 in omega (arith, k)
@@ -50,20 +51,6 @@ less_apart p q less below = clash (path_cmp q p) (below_le q p below) (paths_tot
     clash Equal h e = cc
     clash Greater h e = cc
 
--- behind a path, what is below it is inside it
-pub inside_behind : (p : List Step) (xs : List Stated) → AreBehind p xs → inside_of p xs ≡ filter (is_under p) xs
-inside_behind p [] h = refl
-inside_behind p (x ∷ xs) h = by_test (is_below x.path p) refl (inside_behind p xs h.1)
-  where
-    by_test : (b : Bool) → is_below x.path p ≡ b → inside_of p xs ≡ filter (is_under p) xs
-        → cond (is_below p x.path && not b) (x ∷ inside_of p xs) (inside_of p xs) ≡ cond (is_below p x.path) (x ∷ filter (is_under p) xs) (filter (is_under p) xs)
-    by_test true e go = absurd (less_apart p x.path h.0 e)
-    by_test false e go = by_below (is_below p x.path)
-      where
-        by_below : (b : Bool) → cond (b && true) (x ∷ inside_of p xs) (inside_of p xs) ≡ cond b (x ∷ filter (is_under p) xs) (filter (is_under p) xs)
-        by_below true = ap (λ (ys : List Stated). x ∷ ys) go
-        by_below false = go
-
 pub below_same : (p q : List Step) → is_below p q ≡ true → length q ≤ length p → p ≡ q
 below_same [] [] h l = refl
 below_same [] (t ∷ q) h l = absurd (omega (arith, l))
@@ -71,15 +58,18 @@ below_same (s ∷ p) [] h l = cc
 below_same (s ∷ p) (t ∷ q) h l =
     let k = both _ _ h in let e : s ≡ t = (same_step s t).0 k.0 in let f : p ≡ q = below_same p q k.1 (omega (arith, l)) in λ i. e i ∷ f i
 
+-- the test of two numbers
+pub lt_is : (a b : ℕ) → a < b → nat_lt a b ≡ true
+lt_is a b h = grind (arith, nat_tests)
+
+lt_not : (a b : ℕ) → b ≤ a → nat_lt a b ≡ false
+lt_not a b h = grind (arith, nat_tests)
+
+lt_told : (a b : ℕ) → nat_lt a b ≡ true → a < b
+lt_told a b h = grind (arith, nat_tests)
+
 pub inside_longer : (p q : List Step) → is_inside p q ≡ true → length p < length q
-inside_longer p q h = by_order (nat_lt (length p) (length q)) refl
-  where
-    by_order : (b : Bool) → nat_lt (length p) (length q) ≡ b → length p < length q
-    by_order true e = grind arith
-    by_order false e =
-        let k = both _ _ h in let same : p ≡ q = below_same p q k.0 (grind arith)
-        in let m : is_below q p ≡ true = subst (λ (r : List Step). is_below r p ≡ true) same (below_self p)
-        in let c : not (is_below q p) ≡ false = ap not m in let d = sym k.1 ∙ c in cc
+inside_longer p q h = lt_told _ _ (both _ _ h).1
 
 pub under_longer : (p q : List Step) → path_cmp p q ≡ Less → is_below p q ≡ true → length p < length q
 under_longer p q less h = by_order (nat_lt (length p) (length q)) refl
@@ -90,6 +80,18 @@ under_longer p q less h = by_order (nat_lt (length p) (length q)) refl
         let same : p ≡ q = below_same p q h (grind arith)
         in absurd (less_apart p q less (subst (λ (r : List Step). is_below r p ≡ true) same (below_self p)))
 
+-- behind a path, what is below it is inside it
+pub inside_behind : (p : List Step) (xs : List Stated) → AreBehind p xs → inside_of p xs ≡ filter (is_under p) xs
+inside_behind p [] h = refl
+inside_behind p (x ∷ xs) h = by_test (is_below p x.path) refl (inside_behind p xs h.1)
+  where
+    by_test : (b : Bool) → is_below p x.path ≡ b → inside_of p xs ≡ filter (is_under p) xs
+        → cond (b && nat_lt (length p) (length x.path)) (x ∷ inside_of p xs) (inside_of p xs) ≡ cond b (x ∷ filter (is_under p) xs) (filter (is_under p) xs)
+    by_test true e go =
+        ap (λ (c : Bool). cond c (x ∷ inside_of p xs) (inside_of p xs)) (lt_is _ _ (under_longer p x.path h.0 e))
+        ∙ ap (λ (ys : List Stated). x ∷ ys) go
+    by_test false e go = go
+
 too_long : (above path : List Step) → length above + 1 < length path → is_child above path ≡ false
 too_long above path h = by_test (is_below above path) (length path == length above + 1) refl
   where
@@ -99,12 +101,11 @@ too_long above path h = by_test (is_below above path) (length path == length abo
     by_test false b e = refl
 
 not_inside_itself : (p q : List Step) → is_below q p ≡ true → is_inside p q ≡ false
-not_inside_itself p q e = by_test (is_below p q) (is_below q p) e
+not_inside_itself p q e = ap (λ (b : Bool). is_below p q && b) (lt_not _ _ (below_long q p e)) ∙ never (is_below p q)
   where
-    by_test : (a b : Bool) → b ≡ true → (a && not b) ≡ false
-    by_test a false h = cc
-    by_test true true h = refl
-    by_test false true h = refl
+    never : (a : Bool) → (a && false) ≡ false
+    never true = refl
+    never false = refl
 
 -- what doesn't pass two tests is left by either
 pub filter_left : {X : Type 0} (t u : X → Bool) (xs : List X) → AllByRecursion (λ x. u x ≡ true → t x ≡ false) xs → filter t xs ≡ filter t (filter (λ x. not (u x)) xs)
@@ -139,11 +140,11 @@ module _ (x : Stated) (xs : List Stated) (behind : AreBehind x.path xs) where
       ap (λ (b : Bool). cond b (x ∷ inside_of y xs) (inside_of y xs)) (outside (is_below y x.path) refl)
       ∙ filter_left (λ z. is_inside y z.path) (is_under x.path) xs (all_of _ (λ z e. neither z.path e (is_below y z.path) refl) xs)
     where
-      outside : (b : Bool) → is_below y x.path ≡ b → (b && not (is_below x.path y)) ≡ false
+      outside : (b : Bool) → is_below y x.path ≡ b → (b && nat_lt (length y) (length x.path)) ≡ false
       outside true e = absurd (less_apart x.path y less e)
       outside false e = refl
 
-      neither : (z : List Step) → is_below x.path z ≡ true → (b : Bool) → is_below y z ≡ b → (b && not (is_below z y)) ≡ false
+      neither : (z : List Step) → is_below x.path z ≡ true → (b : Bool) → is_below y z ≡ b → (b && nat_lt (length y) (length z)) ≡ false
       neither z e true k = absurd (elim (comparable x.path y z e k) [ inl m ↦ (let c = sym m ∙ apart in cc) | inr m ↦ less_apart x.path y less m ])
       neither z e false k = refl
 
@@ -267,11 +268,10 @@ inside_under p [] h = tt
 inside_under p (x ∷ xs) h = by_test (is_under p x) refl (inside_under p xs h.1)
   where
     by_test : (b : Bool) → is_under p x ≡ b → AreInside p (filter (is_under p) xs) → AreInside p (cond b (x ∷ filter (is_under p) xs) (filter (is_under p) xs))
-    by_test true e go = (inner (is_below x.path p) refl, go)
-      where
-        inner : (t : Bool) → is_below x.path p ≡ t → (is_below p x.path && not t) ≡ true
-        inner true k = absurd (less_apart p x.path h.0 k)
-        inner false k = ap (λ (a : Bool). a && true) e
+    by_test true e go = (
+      ap (λ (b : Bool). b && nat_lt (length p) (length x.path)) e ∙ lt_is (length p) (length x.path) (under_longer p x.path h.0 e),
+      go,
+    )
     by_test false e go = go
 
 pub part_of_first : (xs : List Stated) → 0 < length xs → 0 < length (path_in xs) → Counted xs → Ordered xs → IsPart (path_in xs) (below_of xs)

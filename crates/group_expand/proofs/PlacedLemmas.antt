@@ -1,5 +1,5 @@
 -- The nodes of the row at paths.
-use Rattle.std.proofs.Common.{◌≡◌, ◌+◌, Bool, true, false, not, cond, List, [], ◌∷◌, ◌++◌, length, filter, map, refl, sym, ap, ◌∙◌, arith, append_assoc, Some}
+use Rattle.std.proofs.Common.{◌≡◌, ◌+◌, nat_lt, Bool, true, false, not, cond, List, [], ◌∷◌, ◌++◌, length, filter, map, refl, sym, ap, ◌∙◌, arith, append_assoc, Some}
 use Rattle.std.specs.Prelude.{◌&&◌, ◌==◌}
 use Rattle.std.specs.FinMap as finite
 use Rattle.std.specs.FinMap.{find}
@@ -14,15 +14,15 @@ use Rattle.cfg_base.specs.declared.path.Step.{Step}
 use Rattle.cfg_base.specs.declared.value.Value.{Value}
 use Rattle.cfg_entries.specs.EntryMap.{Pair}
 use Rattle.cfg_tree.specs.Statements.{last_of}
-use Rattle.cfg_tree.specs.Children.{is_child, steps_below}
+use Rattle.cfg_tree.specs.Children.{is_inside, is_child, steps_below}
 use Rattle.cfg_tree.proofs.MapLemmas.{same_path, same_step, entries_is}
 use Rattle.group_expand.specs.Live.{Look, is_active, live_from, is_live}
 use Rattle.group_expand.specs.Row.{Stated, AreBehind, Ordered, pairs_of}
-use Rattle.group_expand.specs.Node.{Node, is_inside, inside_of, node_of, is_live_child, live_children}
+use Rattle.group_expand.specs.Node.{Node, inside_of, node_of, is_live_child, live_children}
 use Rattle.group_expand.specs.Placed.{map_of, value_in, node_at, kids_at}
 use Rattle.group_expand.proofs.ClosedLemmas.{both}
 use Rattle.group_expand.proofs.StepLemmas.{last_is}
-use Rattle.group_expand.proofs.NodeLemmas.{below_long, inside_longer}
+use Rattle.group_expand.proofs.NodeLemmas.{inside_longer, lt_is}
 
 -- one more step is live where the path is and the step isn't inactive
 live_more_from : (look : Look) (above rest : List Step) (s : Step)
@@ -60,17 +60,16 @@ child_split q p h =
         let k = both _ _ e in let same : y ≡ x = sym ((same_step x y).0 k.0) in let m = more a b k.1 (omega (arith, l)) in (m.0, λ i. same i ∷ m.1 i)
 
 pub child_inside : (q p : List Step) → is_child q p ≡ true → is_inside q p ≡ true
-child_inside q p h = by_test (is_below p q) refl
-  where
-    by_test : (b : Bool) → is_below p q ≡ b → (is_below q p && not b) ≡ true
-    by_test true e =
-        let l = below_long p q e in let m = eqb-true (length p) (length q + 1) (both (is_below q p) (length p == length q + 1) h).1 in absurd (omega (arith, l, m))
-    by_test false e = ap (λ (a : Bool). a && true) (both (is_below q p) (length p == length q + 1) h).0
+child_inside q p h =
+    let k = both (is_below q p) (length p == length q + 1) h in let m = eqb-true (length p) (length q + 1) k.1
+    in ap (λ (a : Bool). a && nat_lt (length q) (length p)) k.0 ∙ lt_is (length q) (length p) (omega (arith, m))
 
 -- what is inside a path inside another one is inside that one
 inside_trans : (p q r : List Step) → is_inside p q ≡ true → is_inside q r ≡ true → is_inside p r ≡ true
 inside_trans p q r h k =
-    let a = inside_longer p q h in let b = inside_longer q r k in by_test (is_below r p) refl
+    let a = inside_longer p q h in let b = inside_longer q r k
+    in ap (λ (c : Bool). c && nat_lt (length p) (length r)) (below_trans p q r (both _ _ h).0 (both _ _ k).0)
+    ∙ lt_is (length p) (length r) (omega (arith, a, b))
   where
     below_trans : (a b c : List Step) → is_below a b ≡ true → is_below b c ≡ true → is_below a c ≡ true
     below_trans [] b c h k = refl
@@ -80,10 +79,6 @@ inside_trans p q r h k =
         let x = both _ _ h in let y = both _ _ k
         in let su : eq_by_cmp step_cmp s u ≡ true = (same_step s u).1 ((same_step s t).0 x.0 ∙ (same_step t u).0 y.0)
         in ap (λ (b : Bool). b && is_below a c) su ∙ below_trans a b c x.1 y.1
-
-    by_test : (b : Bool) → is_below r p ≡ b → (is_below p r && not b) ≡ true
-    by_test true e = let l = below_long r p e in let a = inside_longer p q h in let b = inside_longer q r k in absurd (omega (arith, l, a, b))
-    by_test false e = ap (λ (a : Bool). a && true) (below_trans p q r (both _ _ h).0 (both _ _ k).0)
 
 -- a test that implies another one
 pub filter_within : {X : Type 0} (t u : X → Bool) (xs : List X) → ((x : X) → t x ≡ true → u x ≡ true) → filter t (filter u xs) ≡ filter t xs

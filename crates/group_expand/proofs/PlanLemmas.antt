@@ -1,5 +1,5 @@
 -- The row of a configuration: what is met at its top, and its groups.
-use Rattle.std.proofs.Common.{◌≡◌, ◌<◌, Bool, true, false, cond, List, [], ◌∷◌, ◌++◌, length, filter, map, refl, sym, ap, ◌∙◌, arith, Some, None, is_some}
+use Rattle.std.proofs.Common.{◌≡◌, ◌<◌, Bool, true, false, cond, List, [], ◌∷◌, ◌++◌, length, filter, map, refl, sym, ap, ◌∙◌, Some, None, is_some}
 use Rattle.std.specs.Prelude.{◌&&◌, find}
 use Rattle.std.specs.FinMap as finite
 use Rattle.std.specs.List.{AllByRecursion}
@@ -7,14 +7,15 @@ use Rattle.std.specs.Ordering.{eq_by_cmp}
 use Rattle.cfg_base.specs.Order.{step_cmp}
 use Rattle.cfg_base.specs.declared.path.Step.{Step}
 use Rattle.cfg_tree.specs.Statements.{last_of}
-use Rattle.cfg_tree.specs.Children.{step_if}
+use Rattle.cfg_tree.specs.Children.{is_inside, step_if}
 use Rattle.cfg_tree.proofs.OnceLemmas.{steps_once}
 use Rattle.group_expand.specs.Live.{Look, is_active, is_live}
 use Rattle.group_expand.specs.Sources.{groups_step, same_step}
 use Rattle.group_expand.specs.Row.{Stated}
-use Rattle.group_expand.specs.Node.{is_inside, AreInside, children_of, live_children}
+use Rattle.group_expand.specs.Node.{AreInside, children_of, live_children}
 use Rattle.group_expand.specs.Runs.{own_nodes}
 use Rattle.group_expand.specs.Placed.{map_of, node_at, kids_at, look_of, kids_of, IsRow}
+use Rattle.group_expand.proofs.NodeLemmas.{lt_is}
 use Rattle.group_expand.proofs.PlacedLemmas.{live_more, all_pass, row_there, children_at}
 use Rattle.group_expand.proofs.GivenLemmas.{find_first, first_of, exact_at}
 
@@ -25,8 +26,7 @@ pub below_at : (row : List Stated) → IsRow row → (q : List Step) → is_live
 below_at row h q live = children_at row q h.ordered live
 
 long_inside : (q : List Step) → 0 < length q → is_inside [] q ≡ true
-long_inside [] l = absurd (omega (arith, l))
-long_inside (s ∷ q) l = refl
+long_inside q l = lt_is 0 (length q) l
 
 pub top_inside : (row : List Stated) → IsRow row → AreInside [] row
 top_inside row h = each row (row_there row h.ordered)

@@ -11,12 +11,12 @@ use Rattle.cfg_base.specs.declared.path.Step.{Step}
 use Rattle.cfg_schema.proofs.TestLemmas.{same, same_is}
 use Rattle.cfg_tree.specs.Statements.{last_of}
 use Rattle.cfg_tree.specs.Tree.{step_of}
-use Rattle.cfg_tree.specs.Children.{is_child}
+use Rattle.cfg_tree.specs.Children.{is_inside, is_child}
 use Rattle.cfg_tree.proofs.MapLemmas as maps
 use Rattle.cfg_tree.proofs.MapLemmas.{word_same, is_equal, ties_decide}
 use Rattle.group_expand.specs.Sources.{same_step, is_wildcard, fits_wildcard}
 use Rattle.group_expand.specs.Row.{Stated, AreBehind, Ordered}
-use Rattle.group_expand.specs.Node.{Node, is_inside, AreInside, node_of, is_live_child, live_children, children_of, first_child, IsPart}
+use Rattle.group_expand.specs.Node.{Node, AreInside, node_of, is_live_child, live_children, children_of, first_child, IsPart}
 use Rattle.group_expand.specs.Fitting.{exact, wild, wildcards_of}
 use Rattle.group_expand.specs.Cut.{comes_before, is_earlier, is_before, before_of, from_of}
 use Rattle.group_expand.proofs.ClosedLemmas.{both}

@@ -16,7 +16,7 @@ use Rattle.cfg_schema.specs.Place.{place_of}
 use Rattle.cfg_schema.proofs.TestLemmas.{same_is}
 use Rattle.cfg_tree.specs.declared.full.Given.{Given}
 use Rattle.cfg_tree.specs.Statements.{last_of}
-use Rattle.cfg_tree.specs.Children.{order_in}
+use Rattle.cfg_tree.specs.Children.{is_inside, order_in}
 use Rattle.cfg_tree.specs.Tree.{step_of, ordered_head, IsOrderBy}
 use Rattle.cfg_tree.proofs.MapLemmas.{same_path, same_step, path_same}
 use Rattle.group_expand.specs.Live.{Look, is_active, live_from, is_live, words_of, live_words}
@@ -27,7 +27,7 @@ use Rattle.group_expand.specs.Front.{grown, raw, front, kept_at, steps_at}
 use Rattle.group_expand.specs.Listed.{entry_and}
 use Rattle.group_expand.specs.Made.{with_order, present, order_of, given_at}
 use Rattle.group_expand.specs.Row.{Stated, pairs_of}
-use Rattle.group_expand.specs.Node.{Node, is_inside, inside_of}
+use Rattle.group_expand.specs.Node.{Node, inside_of}
 use Rattle.group_expand.specs.Offer.{Offer, own_offer}
 use Rattle.group_expand.specs.Runs.{is_apply_step}
 use Rattle.group_expand.specs.Placed.{map_of, value_in, node_at, offer_at, run_at, look_of, kids_of, given_below, given_for, IsRow}
@@ -36,7 +36,7 @@ use Rattle.group_expand.proofs.FrontLemmas.{raw_more}
 use Rattle.group_expand.proofs.ClosedLemmas.{both, negated}
 use Rattle.group_expand.proofs.StepLemmas.{last_is}
 use Rattle.group_expand.proofs.DepthLemmas.{above_there}
-use Rattle.group_expand.proofs.NodeLemmas.{append_nothing, inside_longer, ordered_kept}
+use Rattle.group_expand.proofs.NodeLemmas.{append_nothing, inside_longer, lt_is, ordered_kept}
 use Rattle.group_expand.proofs.PlacedLemmas.{live_more, all_pass, sorted_pairs}
 use Rattle.group_expand.proofs.FullLemmas.{entries_kept, listed_short, find_short}
 use Rattle.group_expand.proofs.InOrderLemmas.{AreInside}
@@ -107,9 +107,13 @@ lists_same es fs s t h =
     ∙ entries_kept fs t
 
 inside_more : (p : List Step) (t : Step) (r : List Step) → is_inside p (p ++ t ∷ r) ≡ true
-inside_more [] t r = refl
-inside_more (x ∷ p) t r =
-    ap (λ (b : Bool). (b && is_below p (p ++ t ∷ r)) && not (b && is_below (p ++ t ∷ r) p)) ((same_step x x).1 refl) ∙ inside_more p t r
+inside_more p t r =
+    ap (λ (b : Bool). b && nat_lt (length p) (length (p ++ t ∷ r))) (below_front p)
+    ∙ lt_is (length p) (length (p ++ t ∷ r)) (omega (arith, length-append p (t ∷ r)))
+  where
+    below_front : (q : List Step) → is_below q (q ++ t ∷ r) ≡ true
+    below_front [] = refl
+    below_front (x ∷ q) = ap (λ (b : Bool). b && is_below q (q ++ t ∷ r)) ((same_step x x).1 refl) ∙ below_front q
 
 below_split : (p q : List Step) → is_below p q ≡ true → length p < length q → (t : Step) × (r : List Step) × (q ≡ p ++ t ∷ r)
 below_split [] [] e l = absurd (omega (arith, l))

@@ -4,7 +4,7 @@ use Rattle.std.specs.List.{AllByRecursion}
 use Rattle.cfg_base.specs.Order.{is_below}
 use Rattle.cfg_base.specs.declared.path.Step.{Step}
 use Rattle.cfg_base.specs.declared.value.Value.{Value}
-use Rattle.cfg_tree.specs.Children.{is_child}
+use Rattle.cfg_tree.specs.Children.{is_inside, is_child}
 use Rattle.group_expand.specs.Row.{Stated, Counted, Ordered}
 
 -- a statement, and the part of the row that stands below it
@@ -12,10 +12,6 @@ pub record Node : Type 0 where
   pub path : List Step
   pub value : Value
   pub below : List Stated
-
--- a path is below another one, and isn't it
-abbrev pub is_inside : List Step → List Step → Bool
-is_inside above path = is_below above path && not (is_below path above)
 
 -- what of a row stands below a path
 abbrev pub inside_of : List Step → List Stated → List Stated
