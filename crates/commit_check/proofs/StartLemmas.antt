@@ -1,5 +1,5 @@
--- No statement before the row at the top can break a rule, and steps that begin as rows do are as many.
-use Rattle.std.proofs.Common.{◌≡◌, ℕ, Bool, true, false, cond, ◌&&◌, ◌||◌, List, [], ◌∷◌, length, map as each, filter, refl, arith, ap, sym, subst, ◌∙◌, Option, Some}
+-- No statement before the row at the top can break a rule, and steps that are of rows are as many.
+use Rattle.std.proofs.Common.{◌≡◌, ◌<◌, ℕ, Bool, true, false, cond, ◌&&◌, ◌||◌, List, [], ◌∷◌, length, map as each, filter, refl, arith, ap, sym, subst, ◌∙◌, Option, Some}
 use Rattle.std.specs.FinMap as map
 use Rattle.std.specs.List.{list_any}
 use Rattle.std.specs.Cmp.{tied_itself}
@@ -10,7 +10,8 @@ use Rattle.std.specs.declared.cmp.Ordering.TheVariants.{Equal}
 use Rattle.std.specs.Cmp.Lexicographic.{bytes_decides}
 use Rattle.cfg_base.specs.Order.{word_cmp, step_cmp, path_cmp, words_total}
 use Rattle.cfg_base.specs.declared.path.Step.{Step}
-use Rattle.cfg_schema.specs.Profile.{same_word, head_of}
+use Rattle.cfg_base.specs.declared.path.TheConstants.{MAX_STEPS}
+use Rattle.cfg_schema.specs.Profile.{same_word, head_of, is_step_of}
 use Rattle.cfg_tree.specs.Full.{Expansion}
 use Rattle.cfg_tree.specs.declared.full.Given.{Given}
 use Rattle.commit_check.specs.declared.rule.StatementRule.{StatementRule}
@@ -28,12 +29,22 @@ second_true : (a b : Bool) → (a && b) ≡ true → b ≡ true
 second_true true b h = h
 second_true false b h = cc
 
--- steps that begin as rows do are as many as these
+-- steps that are of rows are as many as these
 as_many : (rows : List ℕ) (steps : List Step) → begin_as rows steps ≡ true → length steps ≡ length rows
 as_many [] [] h = refl
 as_many [] (s ∷ ss) h = cc
 as_many (r ∷ rs) [] h = cc
-as_many (r ∷ rs) (s ∷ ss) h = let more = as_many rs ss (second_true (same_word s.head (head_of r)) _ h) in omega (arith, more)
+as_many (r ∷ rs) (s ∷ ss) h = let more = as_many rs ss (second_true (is_step_of r s) _ h) in omega (arith, more)
+
+-- so paths of these kinds have room for a step more
+pub user_short : (path : List Step) → is_user path ≡ true → length path < MAX_STEPS
+user_short path h = let long = as_many (6 ∷ 11 ∷ 14 ∷ []) path h in omega (arith, long)
+
+pub route_short : (path : List Step) → is_route path ≡ true → length path < MAX_STEPS
+route_short path h = let long = as_many (43 ∷ 44 ∷ 45 ∷ []) path h in omega (arith, long)
+
+pub neighbor_long : (path : List Step) → is_neighbor path ≡ true → length path ≡ 4
+neighbor_long path h = as_many (51 ∷ 52 ∷ 53 ∷ 59 ∷ []) path h
 
 pub never_as : (rows : List ℕ) (steps : List Step) → (length steps ≡ length rows → ⊥) → false ≡ begin_as rows steps
 never_as rows steps h = by (begin_as rows steps) refl
@@ -51,8 +62,8 @@ at_or_behind (n ∷ ns) rest = refl
 behind_head : (r : ℕ) (rs : List ℕ) (path : List Step) → begin_as (r ∷ rs) path ≡ true → is_le (path_cmp (plain r ∷ []) path) ≡ true
 behind_head r rs [] h = cc
 behind_head r rs (s ∷ ss) h =
-    let same : s.head ≡ head_of r = (bytes_decides _ _).0 (first_true (same_word s.head (head_of r)) _ h)
-    in let tie : word_cmp (head_of r) s.head ≡ Equal = ap (word_cmp (head_of r)) same ∙ tied_itself words_total (head_of r)
+    let same : head_of r ≡ s.head = (bytes_decides _ _).0 (first_true (same_word (head_of r) s.head) _ (first_true (is_step_of r s) _ h))
+    in let tie : word_cmp (head_of r) s.head ≡ Equal = ap (word_cmp (head_of r)) (sym same) ∙ tied_itself words_total (head_of r)
     in ap (λ (o : Ordering). is_le (ordering_then (ordering_then o (word_cmp [] s.name)) (slice_cmp step_cmp [] ss))) tie
     ∙ at_or_behind s.name ss
 

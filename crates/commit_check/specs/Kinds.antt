@@ -1,17 +1,18 @@
--- The statements of which the rules speak, told by the first words of their steps; rows by their numbers (Rows.antt).
+-- The statements of which the rules speak, told by the words of their steps; rows by their numbers (Rows.antt).
 -- Which statements there are is this project's own selection of those of the Junos OS CLI User Guide.
-use Rattle.std.specs.Prelude.{ℕ, Bool, List, [], ◌∷◌, ◌++◌, map as each, is_some}
+use Rattle.std.specs.Prelude.{ℕ, Bool, true, false, ◌&&◌, List, [], ◌∷◌, ◌++◌, is_some}
 use Rattle.std.specs.FinMap as map
 use Rattle.std.specs.List.{list_any}
-use Rattle.std.specs.Cmp.Lexicographic.{pointwise}
 use Rattle.cfg_base.specs.declared.path.Step.{Step}
-use Rattle.cfg_schema.specs.Profile.{same_word, head_of}
+use Rattle.cfg_schema.specs.Profile.{is_step_of, head_of}
 use Rattle.cfg_tree.specs.Tree.{step_of}
 use Rattle.cfg_tree.specs.Full.{Expansion}
 
--- the first words of steps are those of these rows, one by one; a bare name has an empty one
+-- steps are of these rows, one by one, told by the rows' words
 abbrev pub begin_as : List ℕ → List Step → Bool
-begin_as rows steps = pointwise same_word (each (λ step. step.head) steps) (each head_of rows)
+begin_as [] [] = true
+begin_as (row ∷ rows) (step ∷ steps) = is_step_of row step && begin_as rows steps
+begin_as rows steps = false
 
 -- `system login user NAME`, and its `class`
 abbrev pub is_user : List Step → Bool

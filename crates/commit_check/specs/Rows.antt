@@ -11,3 +11,7 @@ rows =
     ∷ (63, codes "peer-as") ∷ (64, codes "ospf") ∷ (65, codes "export") ∷ (66, codes "area") ∷ (67, codes "interface")
     ∷ (73, codes "policy-options") ∷ (74, codes "prefix-list") ∷ (76, codes "policy-statement") ∷ (77, codes "term") ∷ (78, codes "from")
     ∷ (81, codes "prefix-list") ∷ (91, codes "from") ∷ []
+
+-- the one names of those that are Fixed; no other row has one
+abbrev pub fixed_rows : List (ℕ × List ℕ)
+fixed_rows = (40, codes "inet") ∷ []

@@ -1,34 +1,35 @@
 //! Which statements the rules speak of.
 
-ghost use Rattle.std.specs.Prelude.{◌≡◌, ◌<◌, ◌∷◌, [], length};
+ghost use Rattle.std.specs.Prelude.{◌≡◌, ◌<◌};
 ghost use Rattle.std.specs.List.{AllByRecursion};
-ghost use Rattle.cfg_schema.specs.Profile.{same_word, head_of};
+ghost use Rattle.cfg_schema.specs.Profile.{is_step_of};
 ghost use Rattle.cfg_schema.specs.declared.rows.TheConstants.{ROWS};
 ghost use Rattle.commit_check.specs.Kinds.{begin_as, is_user, is_user_class, is_vlan_id, is_route, is_neighbor, is_policy_list, is_from_list};
 
 use cfg_base::{Path, Step};
-use cfg_schema::{RowId, head};
+use cfg_schema::{RowId, RowWords};
 
-/// Whether a step begins as a row does.
-pub fn has_head(step: &Step, row: u8) -> bool
+/// Whether a step is one of a row.
+fn is_of(step: &Step, row: u8) -> bool
     requires { row < ROWS }
-    ensures { result ≡ same_word step.now.head (head_of row) }
+    ensures { result ≡ is_step_of row step.now }
 {
-    step.head.as_bytes() == head(RowId::at(usize::from(row)))
+    RowWords::of(RowId::at(usize::from(row))).tell(step)
 }
 
+#[tactic(auto, using(crate::proofs::StartLemmas::never_as))]
 fn begin_alike(steps: &[Step], rows: &[u8]) -> bool
     requires { AllByRecursion (λ row. row < ROWS) rows.now }
     ensures { result ≡ begin_as rows.now steps.now }
 {
     match (steps, rows) {
         ([], []) => true,
-        ([step, steps @ ..], [row, rows @ ..]) => has_head(step, *row) && begin_alike(steps, rows),
-        _ => false,
+        ([step, steps @ ..], [row, rows @ ..]) => is_of(step, *row) && begin_alike(steps, rows),
+        ([], [_, ..]) | ([_, ..], []) => false,
     }
 }
 
-/// Whether steps begin as these rows do, one by one.
+/// Whether steps are of these rows, one by one.
 #[tactic(auto, using(crate::proofs::StartLemmas::never_as))]
 pub fn begin_as(steps: &[Step], rows: &[u8]) -> bool
     requires { AllByRecursion (λ row. row < ROWS) rows.now }

@@ -1,17 +1,17 @@
 //! What holds of every check.
 
-ghost use Rattle.std.specs.Prelude.{◌≡◌, ◌≤◌, ◌⊎◌, ℕ, List, [], true, length};
+ghost use Rattle.std.specs.Prelude.{◌≡◌, ◌≤◌, ◌⊎◌, ◌==◌, not, ℕ, List, [], true, length, map as each, filter};
 ghost use Rattle.std.specs.List.{list_all};
 ghost use Rattle.std.specs.FinMap as map;
 ghost use Rattle.cfg_base.specs.declared.path.Step.{Step};
-ghost use Rattle.cfg_schema.specs.Profile.{same_word, head_of};
+ghost use Rattle.cfg_schema.specs.Profile.{same_word, head_of, name_of};
 ghost use Rattle.cfg_tree.specs.Statements.{Statements};
 ghost use Rattle.cfg_tree.specs.Tree.{IsTree};
 ghost use Rattle.cfg_tree.specs.Full.{Expansion};
 ghost use Rattle.cfg_tree.specs.declared.limit.TheConstants.{MAX_EXPANDED};
 ghost use Rattle.curly_print.specs.Printed.{printed};
 ghost use Rattle.commit_check.specs.declared.rule.TheConstants.{MAX_TEXT};
-ghost use Rattle.commit_check.specs.Rows.{rows};
+ghost use Rattle.commit_check.specs.Rows.{rows, fixed_rows};
 ghost use Rattle.commit_check.specs.Accepts.{IsAccepted, Accepts, IsFirst};
 
 /// A configuration is accepted, or it has exactly one first fault.
@@ -33,9 +33,11 @@ pub fn accepted_configurations_fit()
     ensures expansion { (m : Statements) (full : Expansion) → IsAccepted m full → map.len full ≤ MAX_EXPANDED }
 {}
 
-/// The rows of which the rules speak begin with the words that are meant.
+/// The rows of which the rules speak begin with the words that are meant, and those that have one name have the one that
+/// is meant.
 pub fn rows_have_their_words()
-    ensures { list_all (λ row. same_word (head_of row.0) row.1) rows ≡ true }
+    ensures heads { list_all (λ row. same_word (head_of row.0) row.1) rows ≡ true }
+    ensures names { filter (λ row. not (length row.1 == 0)) (each {B = ℕ × List ℕ} (λ row. (row.0, name_of row.0)) rows) ≡ fixed_rows }
 {}
 
 /// The limit that the clauses of this crate cite, by its number.

@@ -36,6 +36,7 @@ fn has_peer_as(alloc: Global, full: &Full, group: &Path, neighbor: &Path) -> Res
 }
 
 /// Whether a path is that of an external neighbor without `peer-as`.
+#[tactic(auto, using(crate::proofs::StartLemmas::neighbor_long))]
 pub fn lacks_peer_as(alloc: Global, full: &Full, path: &Path) -> Result<bool, NoMemory>
     ensures { IfOk result (λ told. told ≡ lacks_peer_as full.now path.now) }
 {

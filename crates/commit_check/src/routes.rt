@@ -10,6 +10,7 @@ use cfg_tree::Full;
 use std::alloc::Global;
 
 /// Whether a path is that of a route with both `next-hop` and `discard`, or with neither.
+#[tactic(auto, using(crate::proofs::StartLemmas::route_short))]
 pub fn lacks_one_way(alloc: Global, full: &Full, path: &Path) -> Result<bool, NoMemory>
     ensures { IfOk result (λ told. told ≡ lacks_one_way full.now path.now) }
 {

@@ -13,6 +13,7 @@ use cfg_tree::Full;
 use std::alloc::Global;
 
 /// Whether a path is that of a user without a class.
+#[tactic(auto, using(crate::proofs::StartLemmas::user_short))]
 pub fn lacks_class(alloc: Global, full: &Full, path: &Path) -> Result<bool, NoMemory>
     ensures { IfOk result (λ told. told ≡ lacks_class full.now path.now) }
 {
