@@ -24,14 +24,14 @@ use Rattle.config_core.proofs.SoundLemmas.{steps_keep}
 use Rattle.session_history.specs.declared.history.Happened.{Happened}
 use Rattle.session_history.specs.Events.{Leads}
 use Rattle.session_history.proofs.EventLemmas.{Leads-append}
+use Rattle.stored_ledger.specs.Stored.{Spell}
 use Rattle.active_snapshot.specs.States.{ReaderState, WriterState, first_written}
 use Rattle.config_db.specs.View.{DatabaseView, IsSameRun, opened}
 use Rattle.config_db.specs.Numbers.{AreAtMost, AreRising, calls_of, no_calls}
-use Rattle.config_db.specs.Writing.{IsFound, IsWritten, flight_after, kept_after, record_in}
+use Rattle.config_db.specs.Writing.{IsFound, IsWritten, entry_in, flight_after, kept_after, record_in}
 use Rattle.config_db.specs.Crash.{AreSpansSafe, InSpan, IsSafeWhile, Spelt, last_calls}
 use Rattle.config_db.specs.Disks.{Holds}
 use Rattle.config_db.specs.Shown.{Shows}
-use Rattle.config_db.specs.Closing.{Spell}
 use Rattle.config_db.specs.Book.{IsBook, IsOpening, Stands}
 use Rattle.config_db.specs.Moves.{Turns, noted}
 use Rattle.config_db.proofs.NumberLemmas.{at_most_same, rising_more, rising_push}
@@ -79,12 +79,12 @@ stands_unfound j j' kept m stands found =
     record { records = stands.records; reads = stands.reads; holds = found.holds stands.records (entry_record m.entry) stands.holds; entry = stands.entry }
 
 -- what a journal holds is what its disks spell
-pub spells_of : (j : JournalView) (rs : List Record) (flight : Option Record) → Tell j → Holds j rs flight → Spell (a_of j) (b_of j) rs flight
+pub spells_of : (j : JournalView) (rs : List Record) (flight : Option Made) → Tell j → Holds j rs (record_in flight) → Spell (a_of j) (b_of j) rs (entry_in flight)
 spells_of j rs None t held = rests_only j.b_counts j.counting.history j.other.history j.gate rs (held.1 t).rests
-spells_of j rs (Some r) t held = λ c d in_a in_b. waits_either j.b_counts j.counting.history j.other.history rs r j.gate (held.1 t).waits c d (in_a, in_b)
+spells_of j rs (Some m) t held = λ c d in_a in_b. waits_either j.b_counts j.counting.history j.other.history rs (entry_record m.entry) j.gate (held.1 t).waits c d (in_a, in_b)
 
 spelt_in : (s : State) (flight : Option Made) (a b : History) (rs : List Record) → s.flight ≡ flight → IfSome flight (IsSoundMade s.kept s.greatest) → IfSome flight (λ m. IsEntry Accepts m.entry) → ReadsAs Accepts rs s.kept
-    → Spell a b rs (record_in flight) → (c d : List ℕ) → IsImage (state_of a) c → IsImage (state_of b) d → Spelt s None c d
+    → Spell a b rs (entry_in flight) → (c d : List ℕ) → IsImage (state_of a) c → IsImage (state_of b) d → Spelt s None c d
 spelt_in s None a b rs is sound entry reads spell c d in_a in_b = inl (rs, spell c d in_a in_b, reads)
 spelt_in s (Some m) a b rs is sound entry reads spell c d in_a in_b =
     ⊎_elim (λ old. inl (rs, old, reads))
@@ -94,7 +94,7 @@ spelt_in s (Some m) a b rs is sound entry reads spell c d in_a in_b =
 pub spelt_now : (j : JournalView) (s : State) → IsSoundState s → Stands j s.kept s.flight → Tell j
     → (c d : List ℕ) → IsImage (state_of (a_of j)) c → IsImage (state_of (b_of j)) d → Spelt s None c d
 spelt_now j s sound stands t =
-    spelt_in s s.flight (a_of j) (b_of j) stands.records refl sound.flight stands.entry stands.reads (spells_of j stands.records (record_in s.flight) t stands.holds)
+    spelt_in s s.flight (a_of j) (b_of j) stands.records refl sound.flight stands.entry stands.reads (spells_of j stands.records s.flight t stands.holds)
 
 -- one event more
 pub book_after : (v v' : DatabaseView) (caller moment : ℕ) (event : Event) (outcome : Outcome) (reply : Reply) (kept : Kept) (flight : Option Made)

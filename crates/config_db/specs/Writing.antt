@@ -48,6 +48,11 @@ flight_after None outcome = None
 flight_after (Some made) Done = None
 flight_after (Some made) Fault = Some made
 
+-- the entry that is in flight
+abbrev pub entry_in : Option Made → Option Entry
+entry_in None = None
+entry_in (Some made) = Some made.entry
+
 -- an entry in flight as its record
 abbrev pub record_in : Option Made → Option Record
 record_in None = None

@@ -1,12 +1,12 @@
-ghost use Rattle.std.specs.Prelude.{◌≡◌, ◌<◌, ◌≤◌, ◌↔◌, ℕ, List, ◌-◌, ◌+◌, [], ◌∷◌, min, max};
-ghost use Rattle.std.specs.Prelude.{length, take, drop, IfOk, OnOk, OnErr, Ok, ◌++◌, vec_len};
+ghost use Rattle.std.specs.Prelude.{◌≡◌, ◌<◌, ◌≤◌, ℕ, List, ◌-◌, ◌+◌, [], ◌∷◌, min, max};
+ghost use Rattle.std.specs.Prelude.{length, take, drop, IfOk, OnErr, Ok, ◌++◌, vec_len};
 ghost use Rattle.std.specs.Prelude.{vec_capacity};
 ghost use Rattle.io_edge.specs.Ends.{onto, IsUsedUp};
 ghost use Rattle.cfg_base.specs.Counts.{Rose};
 ghost use Rattle.io_edge.specs.Taken.{taken, TakesAtMost};
 ghost use Rattle.io_edge.specs.Reader.{IsFilled, IsTakenAs, Takes, GathersTo, end_of, answer_of};
 ghost use Rattle.io_edge.specs.declared.lines.TheConstants.{MAX_LINE, KEPT};
-ghost use Rattle.io_edge.specs.Line.{GivesLine, Falls, without_cr, line_of, last_line_of};
+ghost use Rattle.io_edge.specs.Line.{GivesLine, Falls, ReadAhead, without_cr, line_of, last_line_of};
 
 use crate::ends::{Got, Source};
 use cfg_base::{Bytes, Limits, NoMemory};
@@ -220,15 +220,11 @@ impl<S: Source> Lines<S> {
     pub fn next(&mut self) -> Result<Line, NoMemory>
         ensures line { IfOk result (λ line. GivesLine line self.old.left self.old.room self.new.left self.new.room) }
         ensures err { OnErr result (self.new ≡ self.old) }
-        // The source gave a byte more than may be taken exactly where the input is full.
-        ensures full { IfOk result (λ line. line ≡ Line.InputFull ↔ (self.new.room < self.new.ahead)) }
-        // No more was read ahead than may be taken, and one byte where none may be.
-        ensures within { OnOk result (self.new.ahead ≤ max self.new.room 1) }
+        ensures ahead { IfOk result (λ line. ReadAhead line self.new) }
         ensures falls { IfOk result (λ line. Falls line self.old.room self.new.room) }
         ensures later { self.old.faults ≤ self.new.faults }
-        ensures failed { result ≡ Ok Line.Failed → Rose self.old.faults self.new.faults }
         // A source that failed left nothing that was read and not yet taken.
-        ensures none_ahead { result ≡ Ok Line.Failed → self.new.ahead ≡ 0 }
+        ensures failed { result ≡ Ok Line.Failed → Rose self.old.faults self.new.faults × (self.new.ahead ≡ 0) }
     {
         let mut kept = Vec::with_capacity(self.alloc, KEPT)?;
         let stop = self.gather(&mut kept);

@@ -13,13 +13,13 @@ use Rattle.modes.specs.Texts.{check_text, init_text}
 use Rattle.stored_ledger.specs.Starting.{IsFound, IsMade, IsNotFound, IsNotMade}
 
 -- the status of a refused start
-abbrev pub status_of : StartWhy → ℕ
-status_of NotAJournal = 2
-status_of (Damaged offset kept computed) = 3
-status_of DiskFault = 4
-status_of Exists = 8
-status_of NoMemory = 9
-status_of (BadRecord offset) = 10
+abbrev pub start_status : StartWhy → ℕ
+start_status NotAJournal = 2
+start_status (Damaged offset kept computed) = 3
+start_status DiskFault = 4
+start_status Exists = 8
+start_status NoMemory = 9
+start_status (BadRecord offset) = 10
 
 -- a part of the text, from its beginning, was written, and the sink's count of faults rose
 pub record IsCut (text : List ℕ) (old new : SinkView) (status : ℕ) : Type 0 where
@@ -32,20 +32,20 @@ abbrev pub IsTold : List ℕ → SinkView → SinkView → ℕ → Type 0
 IsTold text old new status = ((status ≡ 0) × (new.held ≡ behind old.held text)) ⊎ IsCut text old new status
 
 -- nothing was written, for a cause that has a status of its own; `Untouched` says that the sink wasn't called
-pub record IsRefused (Untouched : Type 0) (cause : StartWhy) (status : ℕ) (why : StartWhy0) : Type 0 where
+pub record IsRefusedFor (Untouched : Type 0) (cause : StartWhy) (status : ℕ) (why : StartWhy0) : Type 0 where
   pub same : Untouched
   pub told : why ≡ Why cause
-  pub status_is : status ≡ status_of cause
+  pub status_is : status ≡ start_status cause
 
 -- mode init: no list could be made; or one was, and that is told
 abbrev pub IsInit : Type 0 → SinkView → SinkView → DiskPair → DiskPair → ℕ → StartWhy0 → Type 0
 IsInit Untouched old new before after status why =
-    ((cause : StartWhy) × IsRefused Untouched cause status why × IsNotMade before cause after)
+    ((cause : StartWhy) × IsRefusedFor Untouched cause status why × IsNotMade before cause after)
     ⊎ ((why ≡ NoWhy) × IsTold init_text old new status × IsMade before after)
 
 -- mode check: no list was found; or one was, and is told, unless memory was wanting for the text
 abbrev pub IsCheck : Type 0 → SinkView → SinkView → DiskPair → DiskPair → ℕ → StartWhy0 → Type 0
 IsCheck Untouched old new before after status why =
-    ((cause : StartWhy) × IsRefused Untouched cause status why × IsNotFound before cause after)
+    ((cause : StartWhy) × IsRefusedFor Untouched cause status why × IsNotFound before cause after)
     ⊎ ((why ≡ NoWhy) × (kept : Kept) × IsFound before after kept
     × (IsTold (check_text kept) old new status ⊎ ((status ≡ 9) × Untouched)))

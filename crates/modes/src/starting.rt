@@ -3,7 +3,7 @@
 ghost use Rattle.std.specs.Prelude.{◌≡◌};
 ghost use Rattle.disk_model.specs.Pair.{pair_of};
 ghost use Rattle.commit_journal.specs.Journal.{disks_of};
-ghost use Rattle.modes.specs.Modes.{IsCheck, IsInit, status_of};
+ghost use Rattle.modes.specs.Modes.{IsCheck, IsInit, start_status};
 ghost use Rattle.modes.specs.declared.did.StartWhy0.TheVariants.{None as NoWhy, Why};
 
 use crate::did::{Did, StartWhy0};
@@ -18,7 +18,7 @@ use stored_ledger::{StartFault, StartWhy, Stored};
 /// The status of a refused start: 2 no journal, 3 a damaged record, 4 a disk's fault, 8 a journal that is there, 9 want of memory,
 /// 10 a record that breaks a rule.
 pub fn status_of_start(why: StartWhy) -> u8
-    ensures { result ≡ status_of why }
+    ensures { result ≡ start_status why }
 {
     match why {
         StartWhy::NotAJournal => 2,
@@ -32,7 +32,7 @@ pub fn status_of_start(why: StartWhy) -> u8
 
 /// A mode whose start was refused.
 fn refused<D>(fault: StartFault<D>) -> Did<D>
-    ensures { result ≡ record { status = status_of fault.why; why = Why fault.why; a = fault.a; b = fault.b } }
+    ensures { result ≡ record { status = start_status fault.why; why = Why fault.why; a = fault.a; b = fault.b } }
 {
     Did {
         status: status_of_start(fault.why),

@@ -25,7 +25,7 @@ use Rattle.session_shell.specs.declared.reading.Reading.TheVariants.{Operational
 use Rattle.session_shell.specs.declared.turn.How.{How}
 use Rattle.session_shell.specs.declared.turn.How.TheVariants.{Clean, InputFull}
 use Rattle.session_shell.specs.Exchange.{Exchange, Asked, Refused, after, item_of, moment_of, text_of, turn_of}
-use Rattle.session_shell.specs.Items.{GoesOn, ReadsAs}
+use Rattle.session_shell.specs.Items.{Continues, ReadsAs}
 use Rattle.session_shell.specs.Law.{SeeAlike}
 use Rattle.session_shell.specs.Transcript.{GoesBy, LogsOut, SessionView, Texts, Wrote}
 use Rattle.session_shell.proofs.LawLemmas.{Peels}
@@ -86,7 +86,7 @@ blind_reads (line ∷ lines) reading last exchanges reads =
     record { came = reads.came; is_read = reads.is_read; comes = reads.comes; goes = on reads.came (λ next xs r. blind_reads lines next last xs r) exchanges reads.goes }
   where
     on : (came : Option Item × Reading) → ((next : Reading) (xs : List Exchange) → ReadsAs lines next xs last → ReadsAs lines next (map blind xs) last) → (xs : List Exchange)
-        → GoesOn (λ next rest. ReadsAs lines next rest last) came xs → GoesOn (λ next rest. ReadsAs lines next rest last) came (map blind xs)
+        → Continues (λ next rest. ReadsAs lines next rest last) came xs → Continues (λ next rest. ReadsAs lines next rest last) came (map blind xs)
     on (None, next) again xs goes = again next xs goes
     on (Some item, next) again [] goes = absurd goes
     on (Some item, next) again (x ∷ xs) goes =

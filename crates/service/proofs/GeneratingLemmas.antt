@@ -21,7 +21,7 @@ use Rattle.service.specs.Taking.{Happens, done_event}
 use Rattle.service.specs.Generating.{Generates, IsCounted, IsDone, IsGenerated, IsMadeFor}
 
 -- an event leads on to the state that it leaves
-leads_on : (caller moment : ℕ) (event : Event) (reply : Reply) (from s s' : State) (events events' : List Happened) → Leads from events s
+pub leads_on : (caller moment : ℕ) (event : Event) (reply : Reply) (from s s' : State) (events events' : List Happened) → Leads from events s
     → Happens caller moment event reply s s' events events' → Leads from events' s'
 leads_on caller moment event reply from s s' events events' leads h =
     subst (λ (l : List Happened). Leads from l s') (sym h.grown)

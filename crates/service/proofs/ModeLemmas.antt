@@ -14,7 +14,7 @@ use Rattle.disk_model.specs.Disk.{DiskView}
 use Rattle.disk_model.specs.Pair.{DiskPair, pair_of}
 use Rattle.io_edge.specs.Ends.{SinkView}
 use Rattle.modes.specs.declared.did.StartWhy0.{StartWhy0}
-use Rattle.modes.specs.Modes.{IsCheck, IsInit, IsTold, status_of}
+use Rattle.modes.specs.Modes.{IsCheck, IsInit, IsTold, start_status}
 use Rattle.session_history.specs.declared.history.History.{History}
 use Rattle.session_shell.specs.declared.end.End.{End}
 use Rattle.stored_ledger.specs.declared.why.StartWhy.{StartWhy}
@@ -53,7 +53,7 @@ pub some_user : (words : List (List ℕ)) (asked : Asked) → Asks words asked �
 some_user words asked asks other = one_user words asked asks other
 
 -- no status of these modes is that of words that ask nothing
-pub refused_is_not_1 : (why : StartWhy) → status_of why ≡ 1 → ⊥
+pub refused_is_not_1 : (why : StartWhy) → start_status why ≡ 1 → ⊥
 refused_is_not_1 Exists is = omega (arith, is)
 refused_is_not_1 NotAJournal is = omega (arith, is)
 refused_is_not_1 (Damaged offset kept computed) is = omega (arith, is)

@@ -22,7 +22,7 @@ use Rattle.config_db.proofs.DiskLemmas.{tell_ab}
 use Rattle.config_db.proofs.FaultLemmas.{counted_more, counted_none}
 use Rattle.disk_model.specs.Disk.{History as DiskHistory}
 use Rattle.disk_model.specs.Pair.{BothTell, DiskPair, FaultOnEither, NoneFell}
-use Rattle.modes.specs.Modes.{status_of as status_of_start}
+use Rattle.modes.specs.Modes.{start_status}
 use Rattle.session_history.specs.declared.history.Happened.{Happened}
 use Rattle.session_history.specs.Events.{Leads, StaysAccepted}
 use Rattle.session_history.proofs.KeptLemmas.{WasKept-last_count}
@@ -85,7 +85,7 @@ end_is_not_1 false hows is = status_is_not_1 hows is
 -- a start over disks that spell a list, and that don't fail, is refused only for want of memory
 refused_for_memory : (spelled_once : (a b : List ℕ) (kept : Kept) (why : StartWhy) → SpellsKept a b kept → IsByBytes why → Explains a b why → ⊥)
     (before after : DiskPair) (why : StartWhy) → IsNotFound before why after → AreSound before after
-    → (status_of_start why ≡ 0) ⊎ (status_of_start why ≡ 9)
+    → (start_status why ≡ 0) ⊎ (start_status why ≡ 9)
 refused_for_memory spelled_once before after Exists not sound = absurd (not.not_there refl)
 refused_for_memory spelled_once before after NotAJournal not sound = absurd (spelled_once _ _ sound.kept NotAJournal sound.spelled tt (not.explained sound.tell))
 refused_for_memory spelled_once before after (Damaged offset kept computed) not sound = absurd (spelled_once _ _ sound.kept (Damaged offset kept computed) sound.spelled tt (not.explained sound.tell))
@@ -135,8 +135,8 @@ module _ {E T D : Type 0} (see : Views E T D) (asked : Asked) (before after : Wo
     handed : IsHandedBack last told.history back
     handed = over.closes.handed
 
-    abbrev served : AreServed see.end asked.limits.input first before.ends after.ends (see.ticker before.ticker) (see.ticker after.ticker)
-        told.turns v over.status
+    abbrev served : AreServed see.end asked.limits.input first before.ends (see.ticker before.ticker)
+        (record { ends = after.ends; ticker = see.ticker after.ticker; turns = told.turns; database = v; status = over.status })
     served = over.served
 
     opens_first : opened first ≡ opening
@@ -235,7 +235,7 @@ module _ {E T D : Type 0} (see : Views E T D) (asked : Asked) (before after : Wo
       rising = subst (λ m. AreRising no_calls told.history.events.items m) (sym handed.made) (subst (λ l. AreRising no_calls l (calls_of last.journal)) (sym handed.events) handed.rising);
       crash_safe = λ tell. subst (λ l. IsCrashSafe opening l told.history.made back.a.history back.b.history) (sym handed.events)
           (subst (λ o. IsCrashSafe o last.events told.history.made back.a.history back.b.history) opens_last (handed.crash_safe (told_back tell)));
-      read = λ tell. handed.spelled (told_back tell);
+      held = λ tell. handed.held (told_back tell);
     }
 
     -- the counts of the disks: to the start, to the sessions' end, and to the end

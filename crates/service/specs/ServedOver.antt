@@ -17,7 +17,13 @@ pub record IsServedOver {E T D : Type 0} (see : Views E T D) (limit : ℕ) (ends
   pub v : DatabaseView
   pub status : ℕ
   pub fault : Bool
-  pub served : AreServed see.end limit first ends after.ends (see.ticker ticker) (see.ticker after.ticker) told.turns v status
+  pub served : AreServed see.end limit first ends (see.ticker ticker) (record {
+    ends = after.ends;
+    ticker = see.ticker after.ticker;
+    turns = told.turns;
+    database = v;
+    status = status;
+  })
   pub closes : IsClosed v told.history fault (see.disks after.a after.b)
   pub status_is : told.status ≡ status_over fault status
   pub why : told.why ≡ NoWhy

@@ -8,14 +8,14 @@ use Rattle.commit_ledger.specs.Kept.{Kept}
 use Rattle.config_core.specs.declared.event.Outcome.TheVariants.{Fault}
 use Rattle.config_core.specs.State.{State, opening_of}
 use Rattle.config_db.specs.Answers.{IsOneSettling}
-use Rattle.config_db.specs.Closing.{AreRead}
 use Rattle.config_db.specs.Crash.{HaveCalled, IsCrashSafe}
 use Rattle.config_db.specs.Faults.{AreCounted, RoseBy, is_failed_command, is_failed_other}
 use Rattle.config_db.specs.Numbers.{AreRising, no_calls}
+use Rattle.config_db.specs.Writing.{entry_in}
 use Rattle.disk_model.specs.Disk.{contents_of}
 use Rattle.disk_model.specs.Pair.{BothTell, DiskPair, FaultOnEither, NoneFell}
 use Rattle.modes.specs.declared.did.StartWhy0.TheVariants.{None as NoWhy, Why}
-use Rattle.modes.specs.Modes.{status_of as status_of_start}
+use Rattle.modes.specs.Modes.{start_status}
 use Rattle.session_history.specs.declared.history.Happened.{Happened}
 use Rattle.session_history.specs.declared.history.History.{History}
 use Rattle.session_history.specs.Events.{Leads, StaysAccepted, IsEventOf}
@@ -25,7 +25,7 @@ use Rattle.session_shell.specs.declared.turn.Turn.TheVariants.{Kept as KeptAt, S
 use Rattle.session_shell.specs.Transcript.{EndView}
 use Rattle.stored_ledger.specs.declared.why.StartWhy.{StartWhy}
 use Rattle.stored_ledger.specs.Starting.{IsFound, IsNotFound}
-use Rattle.stored_ledger.specs.Stored.{SpellsKept}
+use Rattle.stored_ledger.specs.Stored.{HoldsKept, SpellsKept}
 use Rattle.session_threads.specs.Looks.{HasTicked, TickerView}
 use Rattle.session_threads.specs.Results.{IsResult, SessionResult, status_of_all}
 use Rattle.service.specs.Run.{IsIdle}
@@ -36,7 +36,7 @@ use Rattle.service.specs.World.{Told, Views, World}
 pub record IsNotStarted {E T D : Type 0} (see : Views E T D) (before after : World E T D) (told : Told) : Type 0 where
   pub cause : StartWhy
   pub why : told.why ≡ Why cause
-  pub status_is : told.status ≡ status_of_start cause
+  pub status_is : told.status ≡ start_status cause
   pub idle : IsIdle told
   pub ends_same : after.ends ≡ before.ends
   pub ticker_same : after.ticker ≡ before.ticker
@@ -94,8 +94,8 @@ pub record AreStored (before start : DiskPair) (opening last : State) (happened 
   pub rising : AreRising no_calls happened.events.items happened.made
   -- a crash at any moment since the start leaves the list of that moment, with the entry of that moment or without
   pub crash_safe : BothTell before → IsCrashSafe opening happened.events.items happened.made after.a.history after.b.history
-  -- they spell the list at the end, and of an entry that is in flight still it isn't known
-  pub read : BothTell before → AreRead after.a.history after.b.history last
+  -- they hold the list at the end, and of an entry that is in flight still it isn't known
+  pub held : BothTell before → HoldsKept after.a.history after.b.history last.kept (entry_in last.flight)
 
 -- an event has the outcome of a fault only where a disk's count of faults rose in this run, and no count falls; the commands
 -- that have it are at most as many as the counts rose by, and so are the other events

@@ -1,4 +1,5 @@
-//! A session over a history that no fault disturbs has one text, and a view's number of entries tells what it is.
+//! A session over a history that no fault disturbs has one text, a view's number of entries tells what it is, and mode gen
+//! writes one text.
 
 ghost use Rattle.std.specs.Prelude.{◌≡◌, ℕ, List, []};
 ghost use Rattle.commands.specs.declared.command.Command.{Command};
@@ -6,12 +7,15 @@ ghost use Rattle.commit_ledger.specs.Kept.{Kept};
 ghost use Rattle.config_core.specs.State.{opening_of};
 ghost use Rattle.config_core.specs.declared.reply.Reply.{Reply};
 ghost use Rattle.session_history.specs.declared.history.Happened.{Happened};
+ghost use Rattle.session_history.specs.declared.history.History.{History};
 ghost use Rattle.session_shell.specs.Law.{Agree, SeeAlike, Undisturbed};
 ghost use Rattle.session_shell.specs.Transcript.{SessionView};
 ghost use Rattle.session_threads.specs.History.{Follows, IsKeptThen, Known, Names, ShowsKept, known_first};
 ghost use Rattle.service.specs.Alone.{AreAlike, IsAlone};
+ghost use Rattle.service.specs.Generating.{IsGenerated};
 
 use config_core::steps_have_one_outcome;
+use group_expand::expansion_is_one;
 use session_history::histories_have_one_outcome;
 use shell_words::lines_are_read_in_one_way;
 
@@ -48,4 +52,13 @@ pub fn fronts_tell_what_was_kept()
 {
     histories_have_one_outcome();
     steps_have_one_outcome();
+}
+
+/// Of so many interfaces and these users mode gen tells one text.
+pub fn generated_texts_are_one()
+    ensures { (number : ℕ) (users : List (List ℕ)) (one other : History) (text text2 : List ℕ)
+        → IsGenerated number users one text → IsGenerated number users other text2 → text ≡ text2 }
+{
+    histories_have_one_outcome();
+    expansion_is_one();
 }

@@ -15,7 +15,7 @@ mod serving;
 mod taking;
 
 pub use closed::Closed;
-pub use laws::{fronts_tell_what_was_kept, sessions_have_one_text};
+pub use laws::{fronts_tell_what_was_kept, generated_texts_are_one, sessions_have_one_text};
 pub use modes::StartWhy0;
 pub use serving::run;
 pub use session_threads::Ticker;

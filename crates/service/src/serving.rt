@@ -6,7 +6,7 @@ ghost use Rattle.command_line.specs.declared.asked.Asked.{Asked};
 ghost use Rattle.command_line.specs.declared.asked.RunMode.TheVariants.{Serve};
 ghost use Rattle.disk_model.specs.Pair.{pair_of};
 ghost use Rattle.modes.specs.declared.did.StartWhy0.TheVariants.{Why};
-ghost use Rattle.modes.specs.Modes.{status_of as status_of_start};
+ghost use Rattle.modes.specs.Modes.{start_status};
 ghost use Rattle.config_db.specs.View.{opened};
 ghost use Rattle.session_shell.specs.Opened.{end_view};
 ghost use Rattle.session_threads.specs.Results.{users_of};
@@ -69,7 +69,7 @@ fn refused<S, K, C, B, D>(
     ends: Vec<End<S, K, C>>,
     ticker: Ticker<B, C>,
 ) -> Closed<S, K, C, B, D>
-    ensures status { result.status ≡ status_of_start fault.why }
+    ensures status { result.status ≡ start_status fault.why }
     ensures why { result.why ≡ Why fault.why }
     ensures idle { IsIdle (told_of result) }
     ensures ends { (result.ends ≡ ends) × (result.ticker ≡ ticker) }

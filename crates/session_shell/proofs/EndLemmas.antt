@@ -19,8 +19,8 @@ use Rattle.session_shell.specs.declared.reading.Item.TheVariants.{Ask}
 use Rattle.session_shell.specs.declared.reading.Reading.{Reading}
 use Rattle.session_shell.specs.declared.reading.Reading.TheVariants.{Operational, Configuring, Collecting, Spoilt, Out}
 use Rattle.session_shell.specs.Exchange.{Exchange, item_of, text_of}
-use Rattle.session_shell.specs.Transcript.{Following, IsInput, IsTranscript, LogsOut, SessionView, Texts, Wrote}
-use Rattle.session_shell.specs.Steps.{Serves, Ends, Finishes, LastText, is_out}
+use Rattle.session_shell.specs.Transcript.{Following, IsInput, IsTranscript, LogsOut, SessionView, Texts, Wrote, side}
+use Rattle.session_shell.specs.Steps.{Ends, Finishes, is_out, LastText, Serves, standing}
 use Rattle.session_shell.proofs.TurnLemmas.{Turns-then, Turns-none}
 use Rattle.session_shell.proofs.TakeLemmas.{out_is, behind-none}
 
@@ -44,7 +44,7 @@ text_heard NoMemory final old new heard wrote = wrote
 
 -- the last logout was asked, and its answer written or not
 pub Finishes-heard : {D T E : Type 0} (follows : Following D) (how : How) (put : Result T E) (d e : D) (reading reading' : Reading) (old new : SessionView) → (how ≡ SinkFault → ⊥) → is_out reading ≡ false →
-    Serves follows (Ask Logout) put d e reading reading' old new → OnErr put (Rose old.faults new.faults) → old.faults ≤ new.faults → Finishes follows how d e reading old new
+    Serves follows (Ask Logout) put (standing d reading old) (standing e reading' new) → OnErr put (Rose old.faults new.faults) → old.faults ≤ new.faults → Finishes follows how d e reading old new
 Finishes-heard follows how put d e reading reading' old new heard going serves cause later = record {
   final = serves.exchange ∷ [];
   logs_out = logs_out reading serves.exchange going serves.is_item;
@@ -112,7 +112,7 @@ input_of lines reading how limit count ahead (Some before) (Some left) None so_m
 
 -- a session, from all but its last logout and that
 pub IsSession-of : {D : Type 0} (follows : Following D) (limit : ℕ) (how : How) (source source' : Option (List ℕ)) (feed : Feed) (ahead : List ℕ) (d m e : D) (reading : Reading) (old mid new : SessionView) →
-    Ends follows limit how source d m feed reading old mid → Finishes follows how m e reading mid new → length ahead ≡ feed.ahead → feed.left ≡ onto ahead source' → old.faults ≤ mid.faults → IsTranscript follows limit how source source' d e old new
+    Ends follows limit how source d old feed (standing m reading mid) → Finishes follows how m e reading mid new → length ahead ≡ feed.ahead → feed.left ≡ onto ahead source' → old.faults ≤ mid.faults → IsTranscript follows limit how (side source d old) (side source' e new)
 IsSession-of follows limit how source source' feed ahead d m e reading old mid new ends finishes so_many is later = record {
   lines = ends.lines;
   asked = ends.asked;
@@ -133,7 +133,7 @@ view_same a b coming held faults turns =
 -- the same session, of views that are the same
 pub IsSession-same : {D : Type 0} (follows : Following D) (limit limit' : ℕ) (how : How) (source given source' : Option (List ℕ)) (d e : D) (old old' new new' : SessionView) → limit ≡ limit' → source ≡ given →
     old.coming ≡ old'.coming → old.held ≡ old'.held → old.faults ≡ old'.faults → old.turns ≡ old'.turns → new.coming ≡ new'.coming → new.held ≡ new'.held → new.faults ≡ new'.faults → new.turns ≡ new'.turns →
-    IsTranscript follows limit how source source' d e old new → IsTranscript follows limit' how given source' d e old' new'
+    IsTranscript follows limit how (side source d old) (side source' e new) → IsTranscript follows limit' how (side given d old') (side source' e new')
 IsSession-same follows limit limit' how source given source' d e old old' new new' is is' a b c f a' b' c' f' session =
-    subst (λ l. IsTranscript follows l how given source' d e old' new') is (subst (λ s. IsTranscript follows limit how s source' d e old' new') is'
-    (subst (λ v. IsTranscript follows limit how source source' d e v new') (view_same old old' a b c f) (subst (λ v. IsTranscript follows limit how source source' d e old v) (view_same new new' a' b' c' f') session)))
+    subst (λ l. IsTranscript follows l how (side given d old') (side source' e new')) is (subst (λ s. IsTranscript follows limit how (side s d old') (side source' e new')) is'
+    (subst (λ v. IsTranscript follows limit how (side source d v) (side source' e new')) (view_same old old' a b c f) (subst (λ v. IsTranscript follows limit how (side source d old) (side source' e v)) (view_same new new' a' b' c' f') session)))

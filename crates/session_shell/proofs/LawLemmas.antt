@@ -24,7 +24,7 @@ use Rattle.session_shell.specs.declared.reading.Item.TheVariants.{Ask, Wrong}
 use Rattle.session_shell.specs.declared.reading.Reading.{Reading}
 use Rattle.session_shell.specs.declared.reading.Reading.TheVariants.{Operational, Configuring, Collecting, Spoilt, Out}
 use Rattle.session_shell.specs.Exchange.{Exchange, Asked, Refused, item_of, moment_of, turn_of, text_of, after, front_of, place_of}
-use Rattle.session_shell.specs.Items.{ComesOf, GoesOn, IsRead, IsReadAs, ReadsAs, asked_by}
+use Rattle.session_shell.specs.Items.{ComesOf, Continues, IsRead, IsReadAs, ReadsAs, asked_by}
 use Rattle.session_shell.specs.Cut.{lines_of}
 use Rattle.session_shell.specs.Transcript.{AnswersAre, EndsBy, Following, GoesBy, IsInput, LogsOut, Naming, SessionView, TakesAnswers, Texts, Wrote}
 use Rattle.session_shell.specs.Law.{Agree, IsDetermined, IsNamed, IsShown, SeeAlike, Undisturbed, front_at, kept_place}
@@ -162,10 +162,10 @@ module _ (Common : List Exchange → List Exchange → Type 0) (peels : Peels Co
       absurd (stopped how' reading line (lines ++ rest) w' (subst (λ r. EndsBy how' r (line ∷ (lines ++ rest))) reads'.1 (subst (EndsBy how' last') (sym is) ends')) reads.is_read)
   same_items how how' (line ∷ lines) (line' ∷ lines') rest rest' reading last last' xs ys more more' coming w w' is reads reads' ends ends' alike =
       on reads.came (λ next us vs now r r' a. same_items how how' lines lines' rest rest' next last last' us vs more more' now w w' (tail_is is) r r' ends ends' a) xs ys reads.goes
-      (subst (λ came. GoesOn (λ next us. ReadsAs lines' next us last') came ys) (comes_once once reading line reads'.came reads.came (subst (λ l. ComesOf reading l reads'.came) (sym (head_is is)) reads'.comes) reads.comes) reads'.goes) coming alike
+      (subst (λ came. Continues (λ next us. ReadsAs lines' next us last') came ys) (comes_once once reading line reads'.came reads.came (subst (λ l. ComesOf reading l reads'.came) (sym (head_is is)) reads'.comes) reads.comes) reads'.goes) coming alike
     where
       on : (came : Option Item × Reading) → ((next : Reading) (us vs : List Exchange) (now : ℕ → ℕ) → ReadsAs lines next us last → ReadsAs lines' next vs last' → Alike now (us ++ more) (vs ++ more') → Same last last' more more' us vs) → (us vs : List Exchange) →
-          GoesOn (λ next us. ReadsAs lines next us last) came us → GoesOn (λ next vs. ReadsAs lines' next vs last') came vs → (now : ℕ → ℕ) → Alike now (us ++ more) (vs ++ more') → Same last last' more more' us vs
+          Continues (λ next us. ReadsAs lines next us last) came us → Continues (λ next vs. ReadsAs lines' next vs last') came vs → (now : ℕ → ℕ) → Alike now (us ++ more) (vs ++ more') → Same last last' more more' us vs
       on (None, next) again us vs goes goes' now a = again next us vs now goes goes' a
       on (Some item, next) again [] vs goes goes' now a = absurd goes
       on (Some item, next) again (u ∷ us) [] goes goes' now a = absurd goes'

@@ -21,13 +21,13 @@ use Rattle.session_shell.specs.declared.reading.Reading.TheVariants.{Operational
 use Rattle.session_shell.specs.Exchange.{Exchange, Asked, Refused, text_of, turn_of_given, text_of_given, after_given}
 use Rattle.session_shell.specs.Items.{ComesOf, IsRead}
 use Rattle.session_shell.specs.Transcript.{Following, SessionView}
-use Rattle.session_shell.specs.Steps.{Serves, ServesLine, Takes, is_out, is_end, how_next}
+use Rattle.session_shell.specs.Steps.{how_next, is_end, is_out, Serves, ServesLine, standing, Takes}
 use Rattle.session_shell.proofs.TurnLemmas.{one_answer, Turns-none}
 
 -- an item that was asked
 pub Serves-asked : {D T E : Type 0} (follows : Following D) (command : Command) (moment : ℕ) (given : Given0) (put : Result T E) (d e : D) (reading reading' : Reading) (old new : SessionView) →
     TakesAnswer old.coming new.coming moment → new.turns ≡ old.turns ++ turn_of_given moment given ∷ [] → follows d command moment given e → reading' ≡ after_given reading given → WroteAs put (text_of_given given) old.held new.held →
-    Serves follows (Ask command) put d e reading reading' old new
+    Serves follows (Ask command) put (standing d reading old) (standing e reading' new)
 Serves-asked follows command moment given put d e reading reading' old new takes turned did is_reading wrote = record {
   exchange = Asked moment command given;
   is_item = refl;
@@ -39,7 +39,7 @@ Serves-asked follows command moment given put d e reading reading' old new takes
 -- an item that was refused
 pub Serves-refused : {D T E : Type 0} (follows : Following D) (moment : ℕ) (fault : ShellFault) (put : Result T E) (d : D) (reading : Reading) (old new : SessionView) →
     TakesAnswer old.coming new.coming moment → new.turns ≡ old.turns ++ Local fault ∷ [] → WroteAs put (text_of (Refused moment fault)) old.held new.held →
-    Serves follows (Wrong fault) put d d reading reading old new
+    Serves follows (Wrong fault) put (standing d reading old) (standing d reading new)
 Serves-refused follows moment fault put d reading old new takes turned wrote = record {
   exchange = Refused moment fault;
   is_item = refl;
@@ -50,8 +50,8 @@ Serves-refused follows moment fault put d reading old new takes turned wrote = r
 
 -- a line whose text was written whole
 takes_whole : {D : Type 0} (follows : Following D) (line : Line) (exchanges : List Exchange) (d e : D) (reading reading' : Reading) (old new : SessionView) (out end : Bool) → is_out reading' ≡ out → is_end line ≡ end →
-    ServesLine follows line exchanges d e reading reading' old new → new.held ≡ behind old.held (flat_map text_of exchanges) →
-    Takes follows line (if out then Some Clean else (if end then Some Clean else None)) d e reading reading' old new
+    ServesLine follows line exchanges (standing d reading old) (standing e reading' new) → new.held ≡ behind old.held (flat_map text_of exchanges) →
+    Takes follows line (if out then Some Clean else (if end then Some Clean else None)) (standing d reading old) (standing e reading' new)
 takes_whole follows line exchanges d e reading reading' old new true end o f serves held = (exchanges, serves, held, inl o)
 takes_whole follows line exchanges d e reading reading' old new false true o f serves held = (exchanges, serves, held, inr f)
 takes_whole follows line exchanges d e reading reading' old new false false o f serves held = (exchanges, serves, held, o, f)
@@ -62,7 +62,7 @@ behind-none (Some held) = ap Some (sym (append-nil held))
 
 -- a line that came to nothing
 pub Takes-none : {D : Type 0} (follows : Following D) (line : Line) (d : D) (reading reading' : Reading) (view : SessionView) → IsRead reading line → ComesOf reading line (None, reading') →
-    Takes follows line (how_next line reading' true) d d reading reading' view view
+    Takes follows line (how_next line reading' true) (standing d reading view) (standing d reading' view)
 Takes-none follows line d reading reading' view read came =
     takes_whole follows line [] d d reading reading' view view (is_out reading') (is_end line) refl refl
     (record { reads = record { came = (None, reading'); is_read = read; comes = came; goes = (refl, refl) }; turns = Turns-none follows d view })
@@ -70,16 +70,16 @@ Takes-none follows line d reading reading' view read came =
 
 -- a line that ended an item
 pub Takes-item : {D T E : Type 0} (follows : Following D) (line : Line) (item : Item) (put : Result T E) (d e : D) (reading mid reading' : Reading) (old new : SessionView) → IsRead reading line → ComesOf reading line (Some item, mid) →
-    Serves follows item put d e mid reading' old new → Takes follows line (how_next line reading' (is_ok put)) d e reading reading' old new
+    Serves follows item put (standing d mid old) (standing e reading' new) → Takes follows line (how_next line reading' (is_ok put)) (standing d reading old) (standing e reading' new)
 Takes-item {D} {T} {E} follows line item put d e reading mid reading' old new read came serves = by put serves.wrote
   where
     exchange : Exchange
     exchange = serves.exchange
 
-    came_to : ServesLine follows line (exchange ∷ []) d e reading reading' old new
+    came_to : ServesLine follows line (exchange ∷ []) (standing d reading old) (standing e reading' new)
     came_to = record { reads = record { came = (Some item, mid); is_read = read; comes = came; goes = (serves.is_item, (refl, serves.is_reading)) }; turns = serves.turns }
 
-    by : (put : Result T E) → WroteAs put (text_of exchange) old.held new.held → Takes follows line (how_next line reading' (is_ok put)) d e reading reading' old new
+    by : (put : Result T E) → WroteAs put (text_of exchange) old.held new.held → Takes follows line (how_next line reading' (is_ok put)) (standing d reading old) (standing e reading' new)
     by (Ok done) wrote = takes_whole follows line (exchange ∷ []) d e reading reading' old new (is_out reading') (is_end line) refl refl came_to (wrote ∙ ap (behind old.held) (sym (append-nil (text_of exchange))))
     by (Err failed) wrote = (exchange, came_to, wrote)
 

@@ -7,7 +7,7 @@ use Rattle.io_edge.specs.declared.lines.Line.{Line}
 use Rattle.session_shell.specs.declared.reading.Reading.{Reading}
 use Rattle.session_shell.specs.declared.reading.Item.{Item}
 use Rattle.session_shell.specs.Exchange.{Exchange, Asked, Refused, turn_of, moment_of, after}
-use Rattle.session_shell.specs.Items.{BeginsWith, GoesOn, ReadsAs}
+use Rattle.session_shell.specs.Items.{BeginsWith, Continues, ReadsAs}
 use Rattle.session_shell.specs.Transcript.{AnswersAre, Following, GoesBy, SessionView, TakesAnswers, Turns}
 
 pub map_over_append : {A B : Type 0} → (f : A → B) (xs ys : List A) → map f (xs ++ ys) ≡ map f xs ++ map f ys
@@ -62,14 +62,14 @@ Turns-then follows first second d m e old mid new front back = record {
 pub Turns-none : {D : Type 0} (follows : Following D) (d : D) (view : SessionView) → Turns follows [] d d view view
 Turns-none follows d view = record { moments = no_answer view.coming; turned = sym (append-nil view.turns); asked = refl }
 
-GoesOn-more : (R S : Reading → List Exchange → Type 0) (more : List Exchange) → ((next : Reading) (rest : List Exchange) → R next rest → S next (rest ++ more)) → (came : Option Item × Reading) (exchanges : List Exchange) → GoesOn R came exchanges → GoesOn S came (exchanges ++ more)
-GoesOn-more R S more on (None, next) exchanges goes = on next exchanges goes
-GoesOn-more R S more on (Some item, next) [] goes = absurd goes
-GoesOn-more R S more on (Some item, next) (first ∷ exchanges) goes = (goes.0, on (after next first) exchanges goes.1)
+Continues-more : (R S : Reading → List Exchange → Type 0) (more : List Exchange) → ((next : Reading) (rest : List Exchange) → R next rest → S next (rest ++ more)) → (came : Option Item × Reading) (exchanges : List Exchange) → Continues R came exchanges → Continues S came (exchanges ++ more)
+Continues-more R S more on (None, next) exchanges goes = on next exchanges goes
+Continues-more R S more on (Some item, next) [] goes = absurd goes
+Continues-more R S more on (Some item, next) (first ∷ exchanges) goes = (goes.0, on (after next first) exchanges goes.1)
 
 BeginsWith-more : (R S : Reading → List Exchange → Type 0) (more : List Exchange) → ((next : Reading) (rest : List Exchange) → R next rest → S next (rest ++ more)) → (reading : Reading) (line : Line) (exchanges : List Exchange) → BeginsWith R reading line exchanges → BeginsWith S reading line (exchanges ++ more)
 BeginsWith-more R S more on reading line exchanges begins =
-    record { came = begins.came; is_read = begins.is_read; comes = begins.comes; goes = GoesOn-more R S more on begins.came exchanges begins.goes }
+    record { came = begins.came; is_read = begins.is_read; comes = begins.comes; goes = Continues-more R S more on begins.came exchanges begins.goes }
 
 -- lines, and then more of them
 pub ReadsAs-append : (lines later : List Line) (reading mid last : Reading) (exchanges more : List Exchange) → ReadsAs lines reading exchanges mid → ReadsAs later mid more last → ReadsAs (lines ++ later) reading (exchanges ++ more) last

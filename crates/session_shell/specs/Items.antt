@@ -83,10 +83,10 @@ IsRead reading InputFull = ⊥
 IsRead reading line = Unit {0}
 
 -- the item that a line ended came to the first of the exchanges; a line that ends none came to nothing
-abbrev pub GoesOn : (Reading → List Exchange → Type 0) → Option Item × Reading → List Exchange → Type 0
-GoesOn Rest (None, next) exchanges = Rest next exchanges
-GoesOn Rest (Some item, next) [] = ⊥
-GoesOn Rest (Some item, next) (first ∷ exchanges) = (item_of first ≡ item) × Rest (after next first) exchanges
+abbrev pub Continues : (Reading → List Exchange → Type 0) → Option Item × Reading → List Exchange → Type 0
+Continues Rest (None, next) exchanges = Rest next exchanges
+Continues Rest (Some item, next) [] = ⊥
+Continues Rest (Some item, next) (first ∷ exchanges) = (item_of first ≡ item) × Rest (after next first) exchanges
 
 -- a line was read, and the exchanges begin with what came of it
 pub record BeginsWith (Rest : Reading → List Exchange → Type 0) (reading : Reading) (line : Line)
@@ -94,7 +94,7 @@ pub record BeginsWith (Rest : Reading → List Exchange → Type 0) (reading : R
   pub came : Option Item × Reading
   pub is_read : IsRead reading line
   pub comes : ComesOf reading line came
-  pub goes : GoesOn Rest came exchanges
+  pub goes : Continues Rest came exchanges
 
 -- the items of these lines came to the exchanges, in order, and they lead from the one reading to the other
 abbrev pub ReadsAs : List Line → Reading → List Exchange → Reading → Type 0

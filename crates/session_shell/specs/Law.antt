@@ -11,7 +11,7 @@ use Rattle.session_shell.specs.declared.door.Given0.{Given0}
 use Rattle.session_shell.specs.declared.door.Given0.TheVariants.{NoMemory as Wanting}
 use Rattle.session_shell.specs.Exchange.{Exchange, Asked, Refused, front_of, place_of}
 use Rattle.session_shell.specs.Shows.{SeesShow}
-use Rattle.session_shell.specs.Transcript.{Following, IsTranscript, Naming, SessionView}
+use Rattle.session_shell.specs.Transcript.{Following, IsTranscript, Naming, SessionView, side}
 
 -- what the door gave for an item is what it names
 abbrev pub IsNamed : {D : Type 0} → Naming D → D → Exchange → Type 0
@@ -67,8 +67,7 @@ pub record Undisturbed {D : Type 0} (follows : Following D) (limit : ℕ) (bytes
   pub how : How
   pub source : Option (List ℕ)
   pub faults : ℕ
-  pub session : IsTranscript follows limit how (Some bytes) source d e
-      (record { coming = Some coming; held = Some []; faults = faults; turns = [] }) new
+  pub session : IsTranscript follows limit how (side (Some bytes) d (record { coming = Some coming; held = Some []; faults = faults; turns = [] })) (side source e new)
   pub ended : (how ≡ Clean) ⊎ (how ≡ InputFull)
   pub no_fault : Rose faults new.faults → ⊥
   pub no_want : AllByRecursion (λ turn. turn ≡ NoMemory → ⊥) new.turns

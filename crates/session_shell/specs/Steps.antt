@@ -40,71 +40,74 @@ abbrev pub is_end : Line → Bool
 is_end End = true
 is_end line = false
 
+-- a session between two steps: its door, how it reads on, and its view
+pub record Standing (D : Type 0) : Type 0 where
+  pub door : D
+  pub reading : Reading
+  pub view : SessionView
+
+abbrev pub standing : {D : Type 0} → D → Reading → SessionView → Standing D
+standing door reading view = record { door = door; reading = reading; view = view }
+
 -- an item was served
-pub record Serves {D T E : Type 0} (follows : Following D) (item : Item) (put : Result T E) (d e : D)
-    (reading reading' : Reading) (old new : SessionView) : Type 0 where
+pub record Serves {D T E : Type 0} (follows : Following D) (item : Item) (put : Result T E) (old new : Standing D) : Type 0 where
   pub exchange : Exchange
   pub is_item : item_of exchange ≡ item
-  pub is_reading : reading' ≡ after reading exchange
-  pub turns : Turns follows (exchange ∷ []) d e old new
-  pub wrote : WroteAs put (text_of exchange) old.held new.held
+  pub is_reading : new.reading ≡ after old.reading exchange
+  pub turns : Turns follows (exchange ∷ []) old.door new.door old.view new.view
+  pub wrote : WroteAs put (text_of exchange) old.view.held new.view.held
 
--- a session so far: the lines that were served, from the first view to this one
-pub record SoFar {D : Type 0} (follows : Following D) (limit : ℕ) (source : Option (List ℕ)) (d e : D) (feed : Feed)
-    (reading : Reading) (old now : SessionView) : Type 0 where
+-- a session so far: the lines that were served, from its first door and view to where it stands
+pub record SoFar {D : Type 0} (follows : Following D) (limit : ℕ) (source : Option (List ℕ)) (first : D) (from : SessionView)
+    (feed : Feed) (now : Standing D) : Type 0 where
   pub lines : List Line
   pub exchanges : List Exchange
-  pub reads : ReadsAs lines Operational exchanges reading
-  pub first : TellsBoth (λ bytes left. AreFirst lines (lines_of feed.room left) limit bytes feed.room left) source
+  pub reads : ReadsAs lines Operational exchanges now.reading
+  pub first_lines : TellsBoth (λ bytes left. AreFirst lines (lines_of feed.room left) limit bytes feed.room left) source
       feed.left
   pub within : feed.ahead ≤ feed.room
-  pub turns : Turns follows exchanges d e old now
-  pub text : now.held ≡ behind old.held (flat_map text_of exchanges)
-  pub going : is_out reading ≡ false
+  pub turns : Turns follows exchanges first now.door from now.view
+  pub text : now.view.held ≡ behind from.held (flat_map text_of exchanges)
+  pub going : is_out now.reading ≡ false
 
 -- a line was served: what it came to
-pub record ServesLine {D : Type 0} (follows : Following D) (line : Line) (exchanges : List Exchange) (d e : D)
-    (reading reading' : Reading) (old new : SessionView) : Type 0 where
-  pub reads : ReadsAs (line ∷ []) reading exchanges reading'
-  pub turns : Turns follows exchanges d e old new
+pub record ServesLine {D : Type 0} (follows : Following D) (line : Line) (exchanges : List Exchange) (old new : Standing D)
+    : Type 0 where
+  pub reads : ReadsAs (line ∷ []) old.reading exchanges new.reading
+  pub turns : Turns follows exchanges old.door new.door old.view new.view
 
 -- a line was taken, and the session goes on, or ends so by it
-abbrev pub Takes : {D : Type 0} → Following D → Line → Option How → D → D → Reading → Reading → SessionView
-    → SessionView → Type 0
-Takes follows line None d e reading reading' old new =
-    (exchanges : List Exchange) × ServesLine follows line exchanges d e reading reading' old new
-    × (new.held ≡ behind old.held (flat_map text_of exchanges)) × (is_out reading' ≡ false) × (is_end line ≡ false)
-Takes follows line (Some Clean) d e reading reading' old new =
-    (exchanges : List Exchange) × ServesLine follows line exchanges d e reading reading' old new
-    × (new.held ≡ behind old.held (flat_map text_of exchanges)) × ((is_out reading' ≡ true) ⊎ (is_end line ≡ true))
-Takes follows line (Some SinkFault) d e reading reading' old new =
-    (last : Exchange) × ServesLine follows line (last ∷ []) d e reading reading' old new
-    × WrotePart (text_of last) old.held new.held
-Takes follows line (Some NoMemory) d e reading reading' old new = (e ≡ d) × (reading' ≡ reading) × (new ≡ old)
-Takes follows line (Some how) d e reading reading' old new = ⊥
+abbrev pub Takes : {D : Type 0} → Following D → Line → Option How → Standing D → Standing D → Type 0
+Takes follows line None old new =
+    (exchanges : List Exchange) × ServesLine follows line exchanges old new
+    × (new.view.held ≡ behind old.view.held (flat_map text_of exchanges)) × (is_out new.reading ≡ false) × (is_end line ≡ false)
+Takes follows line (Some Clean) old new =
+    (exchanges : List Exchange) × ServesLine follows line exchanges old new
+    × (new.view.held ≡ behind old.view.held (flat_map text_of exchanges)) × ((is_out new.reading ≡ true) ⊎ (is_end line ≡ true))
+Takes follows line (Some SinkFault) old new =
+    (last : Exchange) × ServesLine follows line (last ∷ []) old new × WrotePart (text_of last) old.view.held new.view.held
+Takes follows line (Some NoMemory) old new = (new.door ≡ old.door) × (new.reading ≡ old.reading) × (new.view ≡ old.view)
+Takes follows line (Some how) old new = ⊥
 
 -- a session has ended, but for its last logout; what its reader has left was read ahead or is the source's
-pub record Ends {D : Type 0} (follows : Following D) (limit : ℕ) (how : How) (source : Option (List ℕ)) (d e : D)
-    (feed : Feed) (reading : Reading) (old now : SessionView) : Type 0 where
+pub record Ends {D : Type 0} (follows : Following D) (limit : ℕ) (how : How) (source : Option (List ℕ)) (first : D)
+    (from : SessionView) (feed : Feed) (now : Standing D) : Type 0 where
   pub lines : List Line
   pub asked : List Exchange
-  pub reads : ReadsAs lines Operational asked reading
-  pub input : TellsBoth (λ before left. (ahead now : List ℕ) → left ≡ ahead ++ now → length ahead ≡ feed.ahead
-      → IsInput lines reading how limit before now) source feed.left
-  pub turns : Turns follows asked d e old now
-  pub texts : Texts how asked [] old now
+  pub reads : ReadsAs lines Operational asked now.reading
+  pub input : TellsBoth (λ before left. (ahead now' : List ℕ) → left ≡ ahead ++ now' → length ahead ≡ feed.ahead
+      → IsInput lines now.reading how limit before now') source feed.left
+  pub turns : Turns follows asked first now.door from now.view
+  pub texts : Texts how asked [] from now.view
 
 -- whatever a session did before, a step goes on from there or ends it
-abbrev pub Steps : {D : Type 0} → Following D → Option How → D → D → Feed → Feed → Reading → Reading → SessionView
-    → SessionView → Type 0
-Steps {D} follows None d e feed feed' reading reading' old new =
+abbrev pub Steps : {D : Type 0} → Following D → Option How → Feed → Feed → Standing D → Standing D → Type 0
+Steps {D} follows None feed feed' old new =
     (limit : ℕ) (source : Option (List ℕ)) (first : D) (from : SessionView)
-    → SoFar follows limit source first d feed reading from old
-    → SoFar follows limit source first e feed' reading' from new
-Steps {D} follows (Some how) d e feed feed' reading reading' old new =
-    (limit : ℕ) (source : Option (List ℕ)) (first : D) (from : SessionView) → from.faults ≤ old.faults
-    → SoFar follows limit source first d feed reading from old
-    → Ends follows limit how source first e feed' reading' from new
+    → SoFar follows limit source first from feed old → SoFar follows limit source first from feed' new
+Steps {D} follows (Some how) feed feed' old new =
+    (limit : ℕ) (source : Option (List ℕ)) (first : D) (from : SessionView) → from.faults ≤ old.view.faults
+    → SoFar follows limit source first from feed old → Ends follows limit how source first from feed' new
 
 -- how a session ends by a line, after its text was written or not
 abbrev pub how_next : Line → Reading → Bool → Option How

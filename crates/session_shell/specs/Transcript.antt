@@ -106,19 +106,27 @@ pub record IsInput (lines : List Line) (reading : Reading) (how : How) (limit : 
   -- the input is full exactly where more bytes were read than the limit
   pub full : (how ≡ InputFull) ↔ (limit < length first.taken + length ahead)
 
+-- where a session begins or ends: what its source has left, its door, and its view
+pub record Side (D : Type 0) : Type 0 where
+  pub source : Option (List ℕ)
+  pub door : D
+  pub view : SessionView
+
+abbrev pub side : {D : Type 0} → Option (List ℕ) → D → SessionView → Side D
+side source door view = record { source = source; door = door; view = view }
+
 -- one session: its items are those of the lines that it read, and one last logout where it needs one; they took its turns,
 -- and their texts were written
-pub record IsTranscript {D : Type 0} (follows : Following D) (limit : ℕ) (how : How) (source source' : Option (List ℕ))
-    (d e : D) (old new : SessionView) : Type 0 where
+pub record IsTranscript {D : Type 0} (follows : Following D) (limit : ℕ) (how : How) (old new : Side D) : Type 0 where
   pub lines : List Line
   pub asked : List Exchange
   pub final : List Exchange
   pub reading : Reading
   pub reads : ReadsAs lines Operational asked reading
-  pub input : TellsBoth (IsInput lines reading how limit) source source'
+  pub input : TellsBoth (IsInput lines reading how limit) old.source new.source
   pub logs_out : LogsOut reading final
-  pub turns : Turns follows (asked ++ final) d e old new
-  pub texts : Texts how asked final old new
+  pub turns : Turns follows (asked ++ final) old.door new.door old.view new.view
+  pub texts : Texts how asked final old.view new.view
 
 -- the ends of a session: whose they are, what is told of its source and its sink, and its clock's answers to come
 pub record EndView : Type 0 where
@@ -134,7 +142,8 @@ session_view end turns = record { coming = end.coming; held = end.sink.held; fau
 -- one session, from its ends before to its ends after: a fault of its source or its sink is told only where that count rose
 pub record IsSession {D : Type 0} (follows : Following D) (limit : ℕ) (how : How) (turns : List Turn) (old new : EndView) (d e : D)
     : Type 0 where
-  pub transcript : IsTranscript follows limit how old.source.left new.source.left d e (session_view old []) (session_view new turns)
+  pub transcript : IsTranscript follows limit how (side old.source.left d (session_view old []))
+      (side new.source.left e (session_view new turns))
   pub user : new.user ≡ old.user
   pub source_cause : how ≡ SourceFault → Rose old.source.faults new.source.faults
   pub sink_cause : how ≡ SinkFault → Rose old.sink.faults new.sink.faults

@@ -369,32 +369,29 @@ module _ (J : Type 0) {S K C : Type 0} (view : End S K C → EndView) (limit : �
           told of_result of_seat same = seats_of_results J view limit first lock start here fixed
               fresh of_result of_seat same 1 ends (taken seats') served
 
-          pub AreServed-of : AreServed view limit first ends ends' ticker ticker'
-              turns v status
-          AreServed-of = subst (λ w. AreServed view limit first ends ends' ticker
-              ticker' turns w status) (sym is) (record {
-                leads = subst (λ v. Leads (opened v) history value.database.state) same_first underway.leads;
-                adds = subst (λ v. AddsUp history v value.database) same_first underway.adds;
-                results = results;
-                old = ends_of_results J view limit first lock start here fixed fresh 1 ends
-                    (taken seats') served;
-                new = told (λ result. result.new) (λ seat. seat.end) (λ end seat. refl) ∙ sym are_left.ends_are;
-                turned = told (λ result. result.turns) (λ seat. seat.turns) (λ end seat. refl) ∙ sym are_left.turns_are;
-                each = results_from J view limit first lock start here fixed fresh history 1 ends
-                    (taken seats') served known;
-                ticked = looked;
-                callers = subst (λ n. AllByRecursion (λ event. event.caller ≤ n) history) splits
-                    (few_callers last.splits history closed.no_other);
-                is_status = are_left.status_is
-                    ∙ ap status_of_all (sym (told (λ result. result.how) (λ seat. seat.how) (λ end seat. refl)));
-              })
+          pub AreServed-of : AreServed view limit first ends ticker (record { ends = ends'; ticker = ticker'; turns = turns; database = v; status = status })
+          AreServed-of = subst (λ w. AreServed view limit first ends ticker (record { ends = ends'; ticker = ticker'; turns = turns; database = w; status = status })) (sym is) (record {
+            leads = subst (λ v. Leads (opened v) history value.database.state) same_first underway.leads;
+            adds = subst (λ v. AddsUp history v value.database) same_first underway.adds;
+            results = results;
+            old = ends_of_results J view limit first lock start here fixed fresh 1 ends
+                (taken seats') served;
+            new = told (λ result. result.new) (λ seat. seat.end) (λ end seat. refl) ∙ sym are_left.ends_are;
+            turned = told (λ result. result.turns) (λ seat. seat.turns) (λ end seat. refl) ∙ sym are_left.turns_are;
+            each = results_from J view limit first lock start here fixed fresh history 1 ends
+                (taken seats') served known;
+            ticked = looked;
+            callers = subst (λ n. AllByRecursion (λ event. event.caller ≤ n) history) splits
+                (few_callers last.splits history closed.no_other);
+            is_status = are_left.status_is
+                ∙ ap status_of_all (sym (told (λ result. result.how) (λ seat. seat.how) (λ end seat. refl)));
+          })
 
   -- what came of all sessions over how a database began came of them over the database
   pub AreServed-begun : (ends ends' : List (End S K C)) (ticker ticker' : TickerView) (turns : List (List Turn)) (v : DatabaseView)
       (status : ℕ)
-      → AreServed view limit (start_of first) ends ends' ticker ticker' turns v
-      status
-      → AreServed view limit first ends ends' ticker ticker' turns v status
+      → AreServed view limit (start_of first) ends ticker (record { ends = ends'; ticker = ticker'; turns = turns; database = v; status = status })
+      → AreServed view limit first ends ticker (record { ends = ends'; ticker = ticker'; turns = turns; database = v; status = status })
   AreServed-begun ends ends' ticker ticker' turns v status served = record {
     leads = served.leads;
     adds = AddsUp-begun v.events first v served.adds;
@@ -411,13 +408,11 @@ module _ (J : Type 0) {S K C : Type 0} (view : End S K C → EndView) (limit : �
   -- what came of all sessions over a database whose readers were handed out came of them over the database
   pub AreServed-handed : (given : DatabaseView) → given ≡ record first { readers = [] } → (ends ends' : List (End S K C))
       (ticker ticker' : TickerView) (turns : List (List Turn)) (v : DatabaseView) (status : ℕ)
-      → AreServed view limit given ends ends' ticker ticker' turns v status
-      → AreServed view limit first ends ends' ticker ticker' turns v status
+      → AreServed view limit given ends ticker (record { ends = ends'; ticker = ticker'; turns = turns; database = v; status = status })
+      → AreServed view limit first ends ticker (record { ends = ends'; ticker = ticker'; turns = turns; database = v; status = status })
   AreServed-handed given is ends ends' ticker ticker' turns v status all =
-      let served : AreServed view limit (record first { readers = [] }) ends ends'
-      ticker ticker' turns v status =
-      subst (λ f. AreServed view limit f ends ends' ticker ticker' turns v status) is
-      all in
+      let served : AreServed view limit (record first { readers = [] }) ends ticker (record { ends = ends'; ticker = ticker'; turns = turns; database = v; status = status }) =
+      subst (λ f. AreServed view limit f ends ticker (record { ends = ends'; ticker = ticker'; turns = turns; database = v; status = status })) is all in
       record {
         leads = served.leads;
         adds = record {
@@ -473,7 +468,7 @@ module _ (J : Type 0) {S K C : Type 0} (view : End S K C → EndView) (limit : �
   pub AreServed-none : (ends ends' : List (End S K C)) (ticker ticker' : TickerView) (turns : List (List Turn)) (v : DatabaseView)
       (status : ℕ) → first.events ≡ [] → first.state ≡ opened first → NoneServed ends turns status → ends' ≡ ends → ticker' ≡ ticker
       → v ≡ first
-      → AreServed view limit first ends ends' ticker ticker' turns v status
+      → AreServed view limit first ends ticker (record { ends = ends'; ticker = ticker'; turns = turns; database = v; status = status })
   AreServed-none ends ends' ticker ticker' turns v status none starts unserved same_ends same_ticker same =
       let adds : AddsUp v.events first v =
       subst (λ (w : DatabaseView). AddsUp w.events first w) (sym same)

@@ -96,9 +96,9 @@ pub record HasMissed (opening : State) (final : List Happened) (least answer : �
   pub due : is_revert_due kept answer ≡ true
 
 -- a command was answered by an event, and what is kept behind it was answered from; a show takes a turn only for a missed deadline
-pub record FollowsKept (opening : State) (caller : ℕ) (final : List Happened) (d : Known) (command : Command) (answer place : ℕ)
-    (reply : Reply) (e : Known) : Type 0 where
-  pub turn : FollowsTurn opening caller d.events command answer (Done place reply) e.events
+pub record FollowsKept (opening : State) (caller : ℕ) (final : List Happened) (d : Known) (command : Command) (answer : ℕ)
+    (answered : Answered) (e : Known) : Type 0 where
+  pub turn : FollowsTurn opening caller d.events command answer answered e.events
   pub after : State
   pub leads : Leads opening e.events after
   pub front : e.front ≡ max d.front after.kept.count
@@ -123,7 +123,8 @@ pub record FollowsWanting (opening : State) (caller : ℕ) (d : Known) (command 
 
 -- what a caller knows of a run after one ask, where all the run's events are these
 abbrev pub Follows : State → ℕ → List Happened → Known → Command → ℕ → Given0 → Known → Type 0
-Follows opening caller final d command answer (KeptAt place reply) e = FollowsKept opening caller final d command answer place reply e
+Follows opening caller final d command answer (KeptAt place reply) e =
+    FollowsKept opening caller final d command answer (Done place reply) e
 Follows opening caller final d command answer (Seen front reply) e = FollowsSeen opening final d command answer front reply e
 Follows opening caller final d command answer NoMemory e = FollowsWanting opening caller d command answer e
 

@@ -31,18 +31,26 @@ abbrev pub EachFrom : {A : Type 0} → (ℕ → A → Type 0) → ℕ → List A
 EachFrom Is number [] = Unit {0}
 EachFrom Is number (x ∷ xs) = Is number x × EachFrom Is (number + 1) xs
 
+-- what sessions and ticker hand back: the ends, the ticker, the turns of each session, the database, and the status
+pub record SessionsView (E : Type 0) : Type 0 where
+  pub ends : List E
+  pub ticker : TickerView
+  pub turns : List (List Turn)
+  pub database : DatabaseView
+  pub status : ℕ
+
 -- a database in which nothing had happened, and what came over it of the sessions of these ends and of the ticker
-pub record AreServed {E : Type 0} (view : E → EndView) (limit : ℕ) (first : DatabaseView) (ends ends' : List E)
-    (ticker ticker' : TickerView) (turns : List (List Turn)) (v : DatabaseView) (status : ℕ) : Type 0 where
-  pub leads : Leads (opened first) v.events v.state
-  pub adds : AddsUp v.events first v
+pub record AreServed {E : Type 0} (view : E → EndView) (limit : ℕ) (first : DatabaseView) (ends : List E) (ticker : TickerView)
+    (after : SessionsView E) : Type 0 where
+  pub leads : Leads (opened first) after.database.events after.database.state
+  pub adds : AddsUp after.database.events first after.database
   -- the sessions of callers 1, 2 and so on
   pub results : List (SessionResult E)
   pub old : map (λ result. result.old) results ≡ ends
-  pub new : map (λ result. result.new) results ≡ ends'
-  pub turned : map (λ result. result.turns) results ≡ turns
-  pub each : EachFrom (IsResult view (opened first) limit v.events) 1 results
+  pub new : map (λ result. result.new) results ≡ after.ends
+  pub turned : map (λ result. result.turns) results ≡ after.turns
+  pub each : EachFrom (IsResult view (opened first) limit after.database.events) 1 results
   -- the ticker, which is caller 0
-  pub ticked : HasTicked (opened first) ticker ticker' v.events
-  pub callers : AllByRecursion (λ event. event.caller ≤ length ends) v.events
-  pub is_status : status ≡ status_of_all (map (λ result. result.how) results)
+  pub ticked : HasTicked (opened first) ticker after.ticker after.database.events
+  pub callers : AllByRecursion (λ event. event.caller ≤ length ends) after.database.events
+  pub is_status : after.status ≡ status_of_all (map (λ result. result.how) results)

@@ -218,9 +218,14 @@ where
     requires readers { HasReaders database.opening (length ends.items) database.readers }
     requires room { HasRoom (length ends.items) room }
     requires few { length ends.items ≤ 64 }
-    ensures { AreServed (end_view S.view K.view C.coming) limits.input database ends.items result.ends.items
-        (ticker_view B.coming C.coming ticker) (ticker_view B.coming C.coming result.ticker) result.turns.items
-        result.database result.status }
+    ensures { AreServed (end_view S.view K.view C.coming) limits.input database ends.items
+        (ticker_view B.coming C.coming ticker) (record {
+          ends = result.ends.items;
+          ticker = ticker_view B.coming C.coming result.ticker;
+          turns = result.turns.items;
+          database = result.database;
+          status = result.status;
+        }) }
 {
     let Room { mut seats, lists } = room;
     let mut ends = ends;

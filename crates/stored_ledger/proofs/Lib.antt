@@ -1,3 +1,4 @@
 mod SoundLemmas
 mod StoredLemmas
 mod CauseLemmas
+mod HeldLemmas
