@@ -22,6 +22,7 @@ use std::alloc::Global;
 use std::marker::Model;
 use std::mem;
 use std::sync::{Arc, Wait};
+use trace_list::Trace;
 
 /// The machine with its journal and with what readers are shown: the list over which it began, the users of its callers, and what
 /// happened. It is not `Drop`: end it by `close`.
@@ -30,14 +31,14 @@ pub struct Database<D: Disk, J: Naming> {
     pub(crate) journal: Journal<D>,
     pub(crate) opening: Ledger,
     pub(crate) users: Users,
-    pub(crate) events: Vec<Happened>,
+    pub(crate) events: Trace<Happened>,
     pub(crate) core: Core,
     pub(crate) shown: SnapWriter<J>,
     pub(crate) readers: SnapReaders<J>,
 }
 
 impl<D: Disk, J: Naming> Model for Database<D, J> {
-    ghost use Rattle.std.specs.Prelude.{◌<◌, vec_len, vec_capacity, IsSome};
+    ghost use Rattle.std.specs.Prelude.{◌<◌, IsSome};
     ghost use Rattle.std.specs.Coded.{codes};
     ghost use Rattle.cfg_tree.specs.Statements.{statements_code};
     ghost use Rattle.config_db.specs.View.{DatabaseView};
@@ -66,7 +67,7 @@ impl<D: Disk, J: Naming> Model for Database<D, J> {
       state = d.core;
       shown = d.shown;
       readers = d.readers;
-    }) × (IsSome d.core.flight → vec_len d.events < vec_capacity d.events) };
+    }) × (IsSome d.core.flight → 0 < d.events.spare) };
 }
 
 impl<D: Disk, J: Naming> Database<D, J> {

@@ -24,6 +24,7 @@ use disk_model::Disk;
 use std::alloc::Global;
 use std::sync::Wait;
 use stored_ledger::{StartFault, StartWhy, Stored};
+use trace_list::Trace;
 
 /// The machine over a list, and a copy of the list.
 fn core_over(alloc: Global, ledger: Ledger, users: &Users) -> Result<(Core, Ledger), NoMemory>
@@ -145,7 +146,13 @@ fn without_memory<D: Disk>(journal: Journal<D>) -> StartFault<D>
 
 impl<D: Disk, J: Naming> Database<D, J> {
     // The machine over a journal that was just opened, and over the list that it holds.
-    fn over(alloc: Global, journal: Journal<D>, users: Users, over: Over<J>) -> Database<D, J>
+    fn over(
+        alloc: Global,
+        journal: Journal<D>,
+        users: Users,
+        over: Over<J>,
+        keeps: bool,
+    ) -> Database<D, J>
         requires held { IsOpening journal over.opening }
         requires starts { over.core ≡ opening_of over.opening users }
         requires shown { over.shown ≡ first_written over.opening }
@@ -170,7 +177,7 @@ impl<D: Disk, J: Naming> Database<D, J> {
             journal,
             opening,
             users,
-            events: Vec::new(alloc),
+            events: Trace::new(alloc, keeps),
             core,
             shown,
             readers,
@@ -178,7 +185,7 @@ impl<D: Disk, J: Naming> Database<D, J> {
     }
 
     /// Opens the database over the list of commits that two disks hold, for the users of callers 1, 2 and so on, with an empty
-    /// book of views. It leaves the contents of the disks as they were.
+    /// book of views. It leaves the contents of the disks as they were. The events of the database are kept as values, or aren't.
     pub fn start(
         alloc: Global,
         shelf: Shelf,
@@ -187,6 +194,7 @@ impl<D: Disk, J: Naming> Database<D, J> {
         b: D,
         users: Users,
         limits: Limits,
+        keeps: bool,
     ) -> Result<Database<D, J>, StartFault<D>>
         requires book { (front.book ≡ J.book) × (shelf ≡ J.book) × (front.list ≡ []) }
         ensures begun { IfOk result (λ book. IsBegun (pair_of D.view a b) users limits.journal book) }
@@ -201,7 +209,7 @@ impl<D: Disk, J: Naming> Database<D, J> {
                 let Stored { journal, ledger } = stored;
                 match Over::of(alloc, shelf, front, ledger, &users) {
                     Err(NoMemory) => Err(without_memory(journal)),
-                    Ok(over) => Ok(Database::over(alloc, journal, users, over)),
+                    Ok(over) => Ok(Database::over(alloc, journal, users, over, keeps)),
                 }
             }
         }
@@ -218,6 +226,7 @@ impl<D: Disk, J: Naming> Database<D, J> {
         b: D,
         users: Users,
         limits: Limits,
+        keeps: bool,
     ) -> Result<Database<D, J>, StartFault<D>>
         requires book { (front.book ≡ J.book) × (shelf ≡ J.book) × (front.list ≡ []) }
         ensures begun { IfOk result (λ book. IsBegun (pair_of D.view a b) users limits.journal book) }
@@ -241,7 +250,7 @@ impl<D: Disk, J: Naming> Database<D, J> {
                 }
                 Ok(stored) => {
                     let Stored { journal, ledger: _ } = stored;
-                    Ok(Database::over(alloc, journal, users, over))
+                    Ok(Database::over(alloc, journal, users, over, keeps))
                 }
             },
         }

@@ -1,6 +1,6 @@
 //! Steps of the machine.
 
-ghost use Rattle.std.specs.Prelude.{◌≡◌, ◌<◌, ◌+◌, ◌++◌, ◌∷◌, [], IfOk, IfSome, vec_len, vec_capacity};
+ghost use Rattle.std.specs.Prelude.{◌≡◌, ◌<◌, ◌+◌, ◌++◌, ◌∷◌, [], IfOk, IfSome};
 ghost use Rattle.config_core.specs.Machine.{Fits};
 ghost use Rattle.config_core.specs.Plan.{ExpandsMade};
 ghost use Rattle.config_core.specs.Prepared.{Follows, IsPrepared, IsSettling, applied, replied};
@@ -9,6 +9,7 @@ use cfg_base::{Moment, NoMemory};
 use cfg_tree::Full;
 use config_core::{Core, Event, Prepared, Reply};
 use session_history::Happened;
+use trace_list::Trace;
 
 /// Makes a step ready, and hands out the expansion of the configuration that it commits, where its check has made it.
 pub(crate) fn prepare(
@@ -33,20 +34,19 @@ pub(crate) fn prepare(
 /// Carries a prepared step out, and notes what happened.
 pub(crate) fn note(
     core: &mut Core,
-    events: &mut Vec<Happened>,
+    events: &mut Trace<Happened>,
     prepared: Prepared,
     happened: Happened,
 ) -> Reply
     requires follows { Follows prepared core.old }
-    requires room { vec_len events.old < vec_capacity events.old }
+    requires room { 0 < events.old.spare }
     ensures state { core.new ≡ applied prepared happened.outcome core.old }
     ensures reply { result ≡ replied prepared.effect prepared.reply happened.outcome }
     ensures events { events.new.items ≡ events.old.items ++ happened ∷ [] }
-    ensures len { vec_len events.new ≡ vec_len events.old + 1 }
-    ensures capacity { vec_capacity events.new ≡ vec_capacity events.old }
+    ensures spare { events.old.spare ≡ events.new.spare + 1 }
 {
     let reply = core.accept(prepared, happened.outcome);
-    events.push_reserved(happened);
+    events.note(happened);
     reply
 }
 

@@ -64,7 +64,7 @@ impl<J: Naming> NewBook<J> {
             front,
             of: _,
         } = self;
-        Database::start(alloc, shelf, front, a, b, users, LIMITS)
+        Database::start(alloc, shelf, front, a, b, users, LIMITS, true)
     }
 
     /// Makes a database on two disks.
@@ -83,6 +83,6 @@ impl<J: Naming> NewBook<J> {
             front,
             of: _,
         } = self;
-        Database::create(rt, alloc, shelf, front, a, b, users, LIMITS)
+        Database::create(rt, alloc, shelf, front, a, b, users, LIMITS, true)
     }
 }

@@ -16,6 +16,7 @@ use std::alloc::Global;
 use std::marker::Brand;
 use std::sync::Wait;
 use stored_ledger::{StartFault, StartWhy};
+use trace_list::Trace;
 
 /// How many calls of `write_at` and `sync` each disk takes.
 const CALLS: u32 = 4_000;
@@ -26,7 +27,7 @@ pub(crate) struct Resting {
     a: MemDisk,
     b: MemDisk,
     made: Calls,
-    events: Vec<Happened>,
+    events: Trace<Happened>,
 }
 
 /// One of the two disks.
@@ -89,7 +90,8 @@ fn say_started<R: Wait, J: Naming>(
     requires { (front.book ≡ J.book) × (shelf ≡ J.book) × (front.list ≡ []) }
 {
     let Resting { a, b, .. } = disks;
-    match Database::<MemDisk, J>::start(alloc, shelf, front, a, b, Users::new(alloc), LIMITS) {
+    let users = Users::new(alloc);
+    match Database::<MemDisk, J>::start(alloc, shelf, front, a, b, users, LIMITS, false) {
         Err(fault) => say_why(out, fault.why),
         Ok(book) => say_opening(out, &book.close(rt).history),
     }
@@ -143,6 +145,21 @@ fn say_calls(out: &mut Text, calls: Calls) {
     out.put("\n");
 }
 
+/// The calls of both disks by the last of the events by which no more than so many of one were made.
+fn calls_among(events: &[Happened], which: Which, call: u64) -> Calls {
+    let mut calls = Calls { a: 0, b: 0 };
+    for happened in events {
+        let last = match which {
+            Which::A => happened.calls.a,
+            Which::B => happened.calls.b,
+        };
+        if last <= call {
+            calls = happened.calls;
+        }
+    }
+    calls
+}
+
 fn disk_of(alloc: Global, failing: Vec<FailAt>) -> Result<MemDisk, NoMemory> {
     MemDisk::new(alloc, ROOM, CALLS, failing, Vec::new(alloc))
 }
@@ -165,7 +182,7 @@ impl Resting {
             a,
             b,
             made: Calls { a: 0, b: 0 },
-            events: Vec::new(alloc),
+            events: Trace::new(alloc, true),
         }
     }
 
@@ -220,8 +237,10 @@ impl Resting {
 
     /// events
     pub(crate) fn say_events(&self, out: &mut Text) {
-        for happened in &self.events {
-            say_event(out, happened);
+        if let Some(events) = self.events.values() {
+            for happened in events {
+                say_event(out, happened);
+            }
         }
     }
 
@@ -255,16 +274,10 @@ impl Resting {
 
     /// The calls of both disks after so many of one, of the other one by the last event by then.
     fn calls_by(&self, which: Which, call: u64) -> Calls {
-        let mut calls = Calls { a: 0, b: 0 };
-        for happened in &self.events {
-            let last = match which {
-                Which::A => happened.calls.a,
-                Which::B => happened.calls.b,
-            };
-            if last <= call {
-                calls = happened.calls;
-            }
-        }
+        let mut calls = match self.events.values() {
+            Some(events) => calls_among(events, which, call),
+            None => Calls { a: 0, b: 0 },
+        };
         match which {
             Which::A => calls.a = call,
             Which::B => calls.b = call,

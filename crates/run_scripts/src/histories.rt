@@ -30,9 +30,12 @@ fn say_turn(out: &mut Text, turn: &Turn) {
     }
 }
 
-fn say_turns(out: &mut Text, turns: &[Turn]) {
-    for turn in turns {
-        say_turn(out, turn);
+/// The turns of a session that keeps them.
+fn say_turns(out: &mut Text, turns: &TurnList) {
+    if let Some(turns) = turns.values() {
+        for turn in turns {
+            say_turn(out, turn);
+        }
     }
 }
 
@@ -57,6 +60,15 @@ fn say_event(out: &mut Text, happened: &Happened) {
     }
 }
 
+/// The events of a history that keeps them.
+fn say_events(out: &mut Text, history: &History) {
+    if let Some(events) = history.events.values() {
+        for happened in events {
+            say_event(out, happened);
+        }
+    }
+}
+
 fn say_history(out: &mut Text, history: &History) {
     match &history.opening {
         Some(ledger) => say_counted(out, "opening entries", ledger.count()),
@@ -65,16 +77,14 @@ fn say_history(out: &mut Text, history: &History) {
     for user in history.users.as_slice() {
         say_bytes(out, "user", user.as_word().as_bytes());
     }
-    for happened in &history.events {
-        say_event(out, happened);
-    }
+    say_events(out, history);
 }
 
 /// The turns of each session's lines, and the history.
 pub(crate) fn say_happened(out: &mut Text, turns: &[TurnList], history: &History) {
     for (place, list) in turns.iter().enumerate() {
         say_session(out, turns.len(), place);
-        say_turns(out, list.as_slice());
+        say_turns(out, list);
     }
     say_history(out, history);
 }

@@ -13,7 +13,7 @@ use io_edge::{ListBeat, ListClock, ListSource, VecSink};
 use script_lines::{
     Fault, Part, Stage, Text, args_of, say, say_bytes, say_counted, say_text, words_of,
 };
-use service::{Closed, StartWhy0, Ticker, run};
+use service::{Closed, StartWhy0, Ticker, run_keeping};
 use session_shell::End;
 use std::alloc::Global;
 use std::sync::Wait;
@@ -102,7 +102,7 @@ fn ran_over<R: Threads + Wait + Sync>(
     requires { AreEnds words.now ends.items }
 {
     match disks.take(alloc) {
-        Ok((a, b)) => Ok(run(rt, alloc, words, ends, ticker, a, b)),
+        Ok((a, b)) => Ok(run_keeping(rt, alloc, words, ends, ticker, a, b, true)),
         Err(NoMemory) => Err(Fault::NoMemory),
     }
 }

@@ -9,7 +9,7 @@ use Rattle.stored_ledger.specs.declared.why.StartWhy.{StartWhy}
 use Rattle.stored_ledger.specs.Starting.{Explains, IsByBytes}
 use Rattle.stored_ledger.specs.Stored.{SpellsKept}
 use Rattle.service.specs.Run.{AsksFor, EachEnd, IsAsking, IsFaultless, IsUndone, IsUntouched}
-use Rattle.service.specs.Running.{Ran, RanIn, Serves}
+use Rattle.service.specs.Running.{IsRun, Ran, RanIn, Serves}
 use Rattle.service.specs.Serving.{AreSound}
 use Rattle.service.specs.World.{Told, Views, World}
 use Rattle.service.proofs.ModeLemmas.{mode_is_not_1}
@@ -69,3 +69,38 @@ module _ {E T D : Type 0} (see : Views E T D) (SinkAlone : E → E → Type 0) (
   ran_complete spelled_once asked is (inr ran) sound each =
       serves_complete see asked before after told spelled_once
       (subst (λ (m : RunMode). RanIn see SinkAlone m asked before after told) is ran) sound each
+
+  -- so a run of words that ask something is one
+  pub run_of : ((words : List (List ℕ)) (one other : Asked) → Asks words one → Asks words other → one ≡ other)
+      → ((a b : List ℕ) (kept : Kept) (why : StartWhy) → SpellsKept a b kept → IsByBytes why → Explains a b why → ⊥)
+      → (words : List (List ℕ)) (asked : Asked) → Asks words asked → Ran see SinkAlone (Some asked) before after told
+      → IsRun see SinkAlone words before after told
+  run_of one_thing spelled_once words asked asks ran = record {
+    ran = for;
+    usage = (
+      λ one. absurd (ran_is_not_1 words asked asks ran one),
+      λ both. absurd (both.1 (asked, asks)),
+    );
+    complete = λ other also serve sound each. ran_complete spelled_once other serve (for (Some other) also) sound each;
+  }
+    where
+      for : (other : Option Asked) → AsksFor words other → Ran see SinkAlone other before after told
+      for = ran_for one_thing words asked asks ran
+
+  -- and one of words that ask nothing
+  pub run_refused : (words : List (List ℕ)) → (IsAsking words → ⊥) → told.status ≡ 1 → IsUntouched before after told
+      → IsRun see SinkAlone words before after told
+  run_refused words nothing is untouched = record {
+    ran = ran_refused words nothing is untouched;
+    usage = (λ one. ((λ nine. omega (arith, is, nine)), nothing), λ both. is);
+    complete = λ asked asks serve sound each. absurd (nothing (asked, asks));
+  }
+
+  -- and one for whose words memory was wanting
+  pub run_without : (words : List (List ℕ)) → told.status ≡ 9 → IsUntouched before after told
+      → IsRun see SinkAlone words before after told
+  run_without words is untouched = record {
+    ran = ran_without words is untouched;
+    usage = (λ one. absurd (omega (arith, is, one)), λ both. absurd (both.0 is));
+    complete = λ asked asks serve sound each. inr is;
+  }

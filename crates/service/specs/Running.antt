@@ -1,11 +1,12 @@
 -- What a run comes to, by what its words ask. This project's own.
-use Rattle.std.specs.Prelude.{◌⊎◌, Option, None, Some}
+use Rattle.std.specs.Prelude.{◌≡◌, ◌≢◌, ◌⊎◌, ◌↔◌, ℕ, List, Option, None, Some}
+use Rattle.command_line.specs.Asked.{Asks}
 use Rattle.command_line.specs.declared.asked.Asked.{Asked}
 use Rattle.command_line.specs.declared.asked.RunMode.{RunMode}
 use Rattle.command_line.specs.declared.asked.RunMode.TheVariants.{Init, Serve, Check, Gen}
 use Rattle.service.specs.Modes.{RunsMode}
-use Rattle.service.specs.Run.{IsRefused, IsUndone}
-use Rattle.service.specs.Serving.{IsNotStarted, IsServed}
+use Rattle.service.specs.Run.{AsksFor, EachEnd, IsAsking, IsFaultless, IsRefused, IsUndone}
+use Rattle.service.specs.Serving.{AreSound, IsNotStarted, IsServed}
 use Rattle.service.specs.World.{Told, Views, World}
 
 -- mode serve: the start was refused, or the sessions were served
@@ -24,3 +25,16 @@ abbrev pub Ran : {E T D : Type 0} → Views E T D → (E → E → Type 0) → O
 Ran see SinkAlone None before after told = IsRefused before after told
 Ran see SinkAlone (Some asked) before after told =
     IsUndone before after told ⊎ RanIn see SinkAlone asked.mode asked before after told
+
+-- what a run of these words comes to
+pub record IsRun {E T D : Type 0} (see : Views E T D) (SinkAlone : E → E → Type 0) (words : List (List ℕ))
+    (before after : World E T D) (told : Told) : Type 0 where
+  -- what the words ask, and what it came to; `AsksFor words None` says that they ask nothing
+  pub ran : (asked : Option Asked) → AsksFor words asked → Ran see SinkAlone asked before after told
+  pub usage : (told.status ≡ 1) ↔ ((told.status ≢ 9) × (IsAsking words → ⊥))
+  -- where the disks spell a list, no disk, no source and no sink has a fault, and each input is told and within the limit, all
+  -- sessions end clean
+  pub complete : (asked : Asked) → Asks words asked → asked.mode ≡ Serve
+      → AreSound (see.disks before.a before.b) (see.disks after.a after.b)
+      → EachEnd (λ old new. IsFaultless asked.limits.input (see.end old) (see.end new)) before.ends after.ends
+      → (told.status ≡ 0) ⊎ (told.status ≡ 9)

@@ -89,11 +89,17 @@ pub(crate) fn run_check<S: Source, K: Sink, C: Clock, B: Beat, D: Disk>(
 }
 
 /// Makes a configuration of so many interfaces, and tells what came of it.
-fn tell_generated<K: Sink>(alloc: Global, sink: &mut K, count: u64, users: Users) -> (u8, History)
+fn tell_generated<K: Sink>(
+    alloc: Global,
+    sink: &mut K,
+    count: u64,
+    users: Users,
+    keeps: bool,
+) -> (u8, History)
     requires { 0 < length users }
     ensures { IsGen (sink.new ≡ sink.old) count users (K.view sink.old) (K.view sink.new) result.0 result.1 }
 {
-    match generate(alloc, count, users) {
+    match generate(alloc, count, users, keeps) {
         Ok(Generated { history, text }) => (tell(sink, text.as_slice()), history),
         Err(NoMemory) => (9, no_history(alloc)),
     }
@@ -111,6 +117,7 @@ fn count_of(place: &[u8]) -> u64
 pub(crate) fn run_gen<S: Source, K: Sink, C: Clock, B: Beat, D: Disk>(
     alloc: Global,
     asked: Asked,
+    keeps: bool,
     ends: Vec<End<S, K, C>>,
     ticker: Ticker<B, C>,
     disk_a: D,
@@ -127,7 +134,7 @@ pub(crate) fn run_gen<S: Source, K: Sink, C: Clock, B: Beat, D: Disk>(
     let mut ends = ends;
     let mut end = ends.remove(0);
     let count = count_of(asked.place.as_bytes());
-    let (status, history) = tell_generated(alloc, &mut end.sink, count, asked.users);
+    let (status, history) = tell_generated(alloc, &mut end.sink, count, asked.users, keeps);
     ends.push_reserved(end);
     let did = Did {
         status,

@@ -7,10 +7,11 @@ use session_history::History;
 use session_shell::{End, TurnList};
 use session_threads::Ticker;
 use std::alloc::Global;
+use trace_list::Trace;
 
 pub(crate) const NO_CALLS: Calls = Calls { a: 0, b: 0 };
 
-/// All that a run was given, with what it did.
+/// All that a run was given, with what it did. Its turns and its events are values only where they were to be kept.
 #[derive(Drop)]
 pub struct Closed<S, K, C, B, D> {
     /// 0 where all went well; 1 for words that ask nothing; 2, 3, 4, 8, 9 or 10 for a start that was refused, by its cause
@@ -34,6 +35,6 @@ pub(crate) fn no_history(alloc: Global) -> History
         opening: None,
         users: Users::new(alloc),
         made: NO_CALLS,
-        events: Vec::new(alloc),
+        events: Trace::new(alloc, true),
     }
 }

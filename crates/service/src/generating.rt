@@ -21,6 +21,7 @@ use curly_print::text_len;
 use modes::{configuration_text, gen_text};
 use session_history::{Happened, History};
 use std::alloc::Global;
+use trace_list::Trace;
 
 /// What happened, and what is told of it.
 pub(crate) struct Generated {
@@ -29,7 +30,7 @@ pub(crate) struct Generated {
 }
 
 /// Asks a command of the first caller, where nothing comes before it.
-fn ask(core: &mut Core, events: &mut Vec<Happened>, command: Command) -> Result<Reply, NoMemory>
+fn ask(core: &mut Core, events: &mut Trace<Happened>, command: Command) -> Result<Reply, NoMemory>
     requires caller { IsCaller core.old 1 }
     requires free { core.old.flight ≡ None }
     requires sound { IsSound command }
@@ -73,7 +74,7 @@ fn expect(is_replied: bool) -> Result<(), NoMemory>
     if is_replied { Ok(()) } else { Err(NoMemory) }
 }
 
-fn enter(core: &mut Core, events: &mut Vec<Happened>) -> Result<(), NoMemory>
+fn enter(core: &mut Core, events: &mut Trace<Happened>) -> Result<(), NoMemory>
     requires caller { IsCaller core.old 1 }
     requires free { core.old.flight ≡ None }
     ensures { OnOk result
@@ -83,7 +84,7 @@ fn enter(core: &mut Core, events: &mut Vec<Happened>) -> Result<(), NoMemory>
     expect(was_entered(reply))
 }
 
-fn load(core: &mut Core, events: &mut Vec<Happened>, text: Bytes) -> Result<(), NoMemory>
+fn load(core: &mut Core, events: &mut Trace<Happened>, text: Bytes) -> Result<(), NoMemory>
     requires caller { IsCaller core.old 1 }
     requires free { core.old.flight ≡ None }
     ensures { OnOk result (IsDone (Load Override text) Loaded core.old core.new events.old.items events.new.items) }
@@ -93,7 +94,7 @@ fn load(core: &mut Core, events: &mut Vec<Happened>, text: Bytes) -> Result<(), 
     expect(was_loaded(reply))
 }
 
-fn commit(core: &mut Core, events: &mut Vec<Happened>, comment: Word) -> Result<(), NoMemory>
+fn commit(core: &mut Core, events: &mut Trace<Happened>, comment: Word) -> Result<(), NoMemory>
     requires caller { IsCaller core.old 1 }
     requires free { core.old.flight ≡ None }
     requires none { comment ≡ [] }
@@ -132,7 +133,7 @@ fn counted(alloc: Global, ledger: &Ledger) -> Result<Bytes, NoMemory>
 fn make(
     alloc: Global,
     core: &mut Core,
-    events: &mut Vec<Happened>,
+    events: &mut Trace<Happened>,
     count: u64,
 ) -> Result<(), NoMemory>
     requires caller { IsCaller core.old 1 }
@@ -149,7 +150,7 @@ fn make(
 fn told(
     alloc: Global,
     users: &Users,
-    events: &mut Vec<Happened>,
+    events: &mut Trace<Happened>,
     count: u64,
 ) -> Result<Bytes, NoMemory>
     requires some { 0 < length users.now }
@@ -163,7 +164,7 @@ fn told(
 }
 
 /// The history of events over the factory commit.
-fn history_of(alloc: Global, users: Users, events: Vec<Happened>) -> Result<History, NoMemory>
+fn history_of(alloc: Global, users: Users, events: Trace<Happened>) -> Result<History, NoMemory>
     ensures opening { IfOk result (λ history. history.opening ≡ Some factory) }
     ensures users { IfOk result (λ history. history.users ≡ users) }
     ensures no_calls { IfOk result (λ history. history.made ≡ record { a = 0; b = 0 }) }
@@ -178,11 +179,16 @@ fn history_of(alloc: Global, users: Users, events: Vec<Happened>) -> Result<Hist
 }
 
 /// What happens in mode `gen`, and what is told of it.
-pub(crate) fn generate(alloc: Global, count: u64, users: Users) -> Result<Generated, NoMemory>
+pub(crate) fn generate(
+    alloc: Global,
+    count: u64,
+    users: Users,
+    keeps: bool,
+) -> Result<Generated, NoMemory>
     requires { 0 < length users }
     ensures { IfOk result (λ made. IsGenerated count users made.history made.text) }
 {
-    let mut events = Vec::new(alloc);
+    let mut events = Trace::new(alloc, keeps);
     let text = told(alloc, &users, &mut events, count)?;
     let history = history_of(alloc, users, events)?;
     Ok(Generated { history, text })

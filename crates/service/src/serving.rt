@@ -1,9 +1,8 @@
 //! The top call: it does what its words ask, and hands everything back.
 
-ghost use Rattle.std.specs.Prelude.{◌≡◌, ◌≢◌, ◌⊎◌, ◌↔◌, ◌≤◌, ℕ, List, [], length, Option, Some};
+ghost use Rattle.std.specs.Prelude.{◌≡◌, ◌⊎◌, ◌≤◌, ℕ, List, [], length, Some};
 ghost use Rattle.command_line.specs.Asked.{Asks};
 ghost use Rattle.command_line.specs.declared.asked.Asked.{Asked};
-ghost use Rattle.command_line.specs.declared.asked.RunMode.TheVariants.{Serve};
 ghost use Rattle.disk_model.specs.Pair.{pair_of};
 ghost use Rattle.modes.specs.declared.did.StartWhy0.TheVariants.{Why};
 ghost use Rattle.modes.specs.Modes.{start_status};
@@ -13,10 +12,9 @@ ghost use Rattle.session_threads.specs.Results.{users_of};
 ghost use Rattle.session_threads.specs.Rows.{HasRoom};
 ghost use Rattle.session_threads.specs.Served.{HasReaders};
 ghost use Rattle.service.specs.Modes.{IsSinkAlone};
-ghost use Rattle.service.specs.Run.{AreEnds, AsksFor, EachEnd, IsAsking, IsFaultless, IsIdle, IsUndone, IsUntouched};
-ghost use Rattle.service.specs.Running.{Ran, RanIn, Serves};
+ghost use Rattle.service.specs.Run.{AreEnds, IsIdle, IsUndone, IsUntouched};
+ghost use Rattle.service.specs.Running.{IsRun, Ran, RanIn, Serves};
 ghost use Rattle.service.specs.ServedOver.{IsServedOver, status_over};
-ghost use Rattle.service.specs.Serving.{AreSound};
 ghost use Rattle.service.specs.World.{Views, World, told_of, views, world_of};
 
 use crate::alone::{run_check, run_gen, run_init};
@@ -107,6 +105,7 @@ fn serve<R, S, K, C, B, D, J>(
     room: Room<S, K, C, D, J>,
     ends: Vec<End<S, K, C>>,
     limits: Limits,
+    keeps: bool,
     ticker: Ticker<B, C>,
 ) -> Closed<S, K, C, B, D>
 where
@@ -131,7 +130,7 @@ where
         turns,
         ticker,
         status,
-    } = serve_all(rt, alloc, database, room, ends, limits, ticker);
+    } = serve_all(rt, alloc, database, room, ends, limits, keeps, ticker);
     let ClosedBook {
         history,
         fault,
@@ -158,6 +157,7 @@ fn serve_from<R, S, K, C, B, D, J>(
     front: Front,
     room: Room<S, K, C, D, J>,
     asked: Asked,
+    keeps: bool,
     ends: Vec<End<S, K, C>>,
     ticker: Ticker<B, C>,
     disk_a: D,
@@ -181,8 +181,17 @@ where
 {
     histories_have_one_outcome();
     let limits = asked.limits;
-    match Database::<D, J>::start(alloc, shelf, front, disk_a, disk_b, asked.users, limits) {
-        Ok(database) => serve(rt, alloc, database, room, ends, limits, ticker),
+    match Database::<D, J>::start(
+        alloc,
+        shelf,
+        front,
+        disk_a,
+        disk_b,
+        asked.users,
+        limits,
+        keeps,
+    ) {
+        Ok(database) => serve(rt, alloc, database, room, ends, limits, keeps, ticker),
         Err(fault) => {
             room.destroy_empty();
             refused(alloc, fault, ends, ticker)
@@ -197,6 +206,7 @@ fn serve_under<R, S, K, C, B, D, J>(
     shelf: Shelf,
     front: Front,
     asked: Asked,
+    keeps: bool,
     ends: Vec<End<S, K, C>>,
     ticker: Ticker<B, C>,
     disk_a: D,
@@ -219,7 +229,7 @@ where
 {
     match make_room(alloc, &asked.users) {
         Ok(room) => serve_from::<R, S, K, C, B, D, J>(
-            rt, alloc, shelf, front, room, asked, ends, ticker, disk_a, disk_b,
+            rt, alloc, shelf, front, room, asked, keeps, ends, ticker, disk_a, disk_b,
         ),
         Err(NoMemory) => idle(alloc, 9, ends, ticker, disk_a, disk_b),
     }
@@ -230,6 +240,7 @@ fn serve_asked<R, S, K, C, B, D>(
     rt: &R,
     alloc: Global,
     asked: Asked,
+    keeps: bool,
     ends: Vec<End<S, K, C>>,
     ticker: Ticker<B, C>,
     disk_a: D,
@@ -250,7 +261,7 @@ where
 {
     let (shelf, front) = open_book();
     serve_under::<R, S, K, C, B, D, Brand>(
-        rt, alloc, shelf, front, asked, ends, ticker, disk_a, disk_b,
+        rt, alloc, shelf, front, asked, keeps, ends, ticker, disk_a, disk_b,
     )
 }
 
@@ -259,6 +270,7 @@ fn run_asked<R, S, K, C, B, D>(
     rt: &R,
     alloc: Global,
     asked: Asked,
+    keeps: bool,
     ends: Vec<End<S, K, C>>,
     ticker: Ticker<B, C>,
     disk_a: D,
@@ -278,16 +290,49 @@ where
         Ran see IsSinkAlone (Some asked) before (world_of result) (told_of result) }
 {
     match asked.mode {
-        RunMode::Serve => serve_asked(rt, alloc, asked, ends, ticker, disk_a, disk_b),
+        RunMode::Serve => serve_asked(rt, alloc, asked, keeps, ends, ticker, disk_a, disk_b),
         RunMode::Init => run_init(alloc, asked, ends, ticker, disk_a, disk_b),
         RunMode::Check => run_check(alloc, asked, ends, ticker, disk_a, disk_b),
-        RunMode::Gen => run_gen(alloc, asked, ends, ticker, disk_a, disk_b),
+        RunMode::Gen => run_gen(alloc, asked, keeps, ends, ticker, disk_a, disk_b),
+    }
+}
+
+/// The same as `run`. The turns and the events are kept as values, or aren't: then what happened takes no memory.
+pub fn run_keeping<R, S, K, C, B, D>(
+    rt: &R,
+    alloc: Global,
+    words: &Words,
+    ends: Vec<End<S, K, C>>,
+    ticker: Ticker<B, C>,
+    disk_a: D,
+    disk_b: D,
+    keeps: bool,
+) -> Closed<S, K, C, B, D>
+where
+    R: Threads + Wait + Sync,
+    S: Source + Send,
+    K: Sink + Send,
+    C: Clock + Send,
+    B: Beat + Send,
+    D: Disk + Send,
+    requires { AreEnds words.now ends.items }
+    ensures { let see : Views _ _ _ = views S.view K.view C.coming B.coming D.view in
+        let before : World _ _ _ = record { ends = ends.items; ticker = ticker; a = disk_a; b = disk_b } in
+        IsRun see IsSinkAlone words.now before (world_of result) (told_of result) }
+{
+    words_ask_one_thing();
+    starts_have_one_cause();
+    match read_words(alloc, words) {
+        Ok(asked) => run_asked(rt, alloc, asked, keeps, ends, ticker, disk_a, disk_b),
+        Err(Usage::Refused) => idle(alloc, 1, ends, ticker, disk_a, disk_b),
+        Err(Usage::NoMemory) => idle(alloc, 9, ends, ticker, disk_a, disk_b),
     }
 }
 
 /// Does what the words ask, with the ends that they ask for. Mode serve opens the list of commits on the two disks,
 /// serves the sessions side by side, as callers 1, 2 and so on, with the ticker beside them, and closes the list; each
-/// other mode has one end, whose source isn't read. Where memory is wanting all parts come back.
+/// other mode has one end, whose source isn't read. Where memory is wanting all parts come back. What happened is told to
+/// clauses alone, so it takes no memory, however long the run lasts.
 pub fn run<R, S, K, C, B, D>(
     rt: &R,
     alloc: Global,
@@ -304,26 +349,10 @@ where
     C: Clock + Send,
     B: Beat + Send,
     D: Disk + Send,
-    requires ends { AreEnds words.now ends.items }
-    // What the words ask, and what it came to; `AsksFor words None` says that they ask nothing.
-    ensures ran { let see : Views _ _ _ = views S.view K.view C.coming B.coming D.view in
+    requires { AreEnds words.now ends.items }
+    ensures { let see : Views _ _ _ = views S.view K.view C.coming B.coming D.view in
         let before : World _ _ _ = record { ends = ends.items; ticker = ticker; a = disk_a; b = disk_b } in
-        (asked : Option Asked) → AsksFor words.now asked
-        → Ran see IsSinkAlone asked before (world_of result) (told_of result) }
-    ensures usage { (result.status ≡ 1) ↔ ((result.status ≢ 9) × (IsAsking words.now → ⊥)) }
-    // Where the disks spell a list, no disk, no source and no sink has a fault, and each input is told and within the limit, all
-    // sessions end clean.
-    ensures complete { (asked : Asked) → Asks words.now asked → asked.mode ≡ Serve
-        → AreSound (pair_of D.view disk_a disk_b) (pair_of D.view result.disk_a result.disk_b)
-        → EachEnd (λ old new. IsFaultless asked.limits.input (end_view S.view K.view C.coming old)
-        (end_view S.view K.view C.coming new)) ends.items result.ends.items
-        → (result.status ≡ 0) ⊎ (result.status ≡ 9) }
+        IsRun see IsSinkAlone words.now before (world_of result) (told_of result) }
 {
-    words_ask_one_thing();
-    starts_have_one_cause();
-    match read_words(alloc, words) {
-        Ok(asked) => run_asked(rt, alloc, asked, ends, ticker, disk_a, disk_b),
-        Err(Usage::Refused) => idle(alloc, 1, ends, ticker, disk_a, disk_b),
-        Err(Usage::NoMemory) => idle(alloc, 9, ends, ticker, disk_a, disk_b),
-    }
+    run_keeping(rt, alloc, words, ends, ticker, disk_a, disk_b, false)
 }

@@ -8,11 +8,12 @@ use crate::closed::NO_CALLS;
 use cfg_base::{Moment, NoMemory};
 use config_core::{Core, Event, Outcome, Reply};
 use session_history::Happened;
+use trace_list::Trace;
 
 /// Carries an event out, and puts it behind the events.
 pub(crate) fn take(
     core: &mut Core,
-    events: &mut Vec<Happened>,
+    events: &mut Trace<Happened>,
     caller: u32,
     moment: Moment,
     event: Event,
@@ -26,7 +27,7 @@ pub(crate) fn take(
     events.reserve(1)?;
     let prepared = core.prepare(caller, moment, &event)?;
     let reply = core.accept(prepared, Outcome::Done);
-    events.push_reserved(Happened {
+    events.note(Happened {
         caller,
         moment,
         event,

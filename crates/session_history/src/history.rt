@@ -1,6 +1,7 @@
 use cfg_base::{Calls, Moment, Users};
 use commit_ledger::Ledger;
 use config_core::{Event, Outcome};
+use trace_list::Trace;
 
 /// One event as the machine took it.
 #[derive(Clone, Debug, Drop, PartialEq, Eq)]
@@ -14,8 +15,8 @@ pub struct Happened {
     pub calls: Calls,
 }
 
-/// All that happened in a run, in order.
-#[derive(Debug, Drop)]
+/// All that happened in a run, in order. Its events are values only where the run was to keep them; else they are for clauses.
+#[derive(Drop)]
 pub struct History {
     /// The list of entries over which the run began; none where it did not begin.
     pub opening: Option<Ledger>,
@@ -23,5 +24,5 @@ pub struct History {
     pub users: Users,
     /// The calls that were made of the disks in all.
     pub made: Calls,
-    pub events: Vec<Happened>,
+    pub events: Trace<Happened>,
 }

@@ -1,6 +1,6 @@
 //! A session while it is served: one line after another, and the last logout.
 
-ghost use Rattle.std.specs.Prelude.{◌≡◌, ◌<◌, ◌≤◌, ◌+◌, List, ℕ, length, OnErr, Some, None, [], ◌++◌, false, vec_len, vec_capacity};
+ghost use Rattle.std.specs.Prelude.{◌≡◌, ◌<◌, ◌≤◌, ◌+◌, List, ℕ, length, OnErr, Some, None, [], ◌++◌, false};
 ghost use Rattle.cfg_base.specs.Counts.{Rose};
 ghost use Rattle.commands.specs.declared.command.Command.TheVariants.{Logout};
 ghost use Rattle.io_edge.specs.Ends.{onto};
@@ -21,6 +21,7 @@ use reply_text::put_fault;
 use std::alloc::Global;
 use std::marker::Model;
 use std::sync::Wait;
+use trace_list::Trace;
 
 /// What a session reads, what it writes to, what tells it the time, its turns, and how it reads its next line.
 pub(crate) struct Serving<S: Source, K: Sink, C: Clock> {
@@ -28,7 +29,7 @@ pub(crate) struct Serving<S: Source, K: Sink, C: Clock> {
     lines: Lines<S>,
     sink: K,
     clock: C,
-    turns: Vec<Turn>,
+    turns: Trace<Turn>,
     reading: Reading,
 }
 
@@ -37,11 +38,10 @@ pub(crate) struct Parts<S, K, C> {
     pub source: S,
     pub sink: K,
     pub clock: C,
-    pub turns: Vec<Turn>,
+    pub turns: Trace<Turn>,
 }
 
 impl<S: Source, K: Sink, C: Clock> Model for Serving<S, K, C> {
-    ghost use Rattle.std.specs.Prelude.{◌-◌, vec_len, vec_capacity};
     ghost use Rattle.session_shell.specs.Steps.{Held};
 
     ghost Value = { Held C };
@@ -51,7 +51,7 @@ impl<S: Source, K: Sink, C: Clock> Model for Serving<S, K, C> {
       sink = K.view s.sink;
       clock = s.clock;
       turns = s.turns.items;
-      spare = vec_capacity s.turns - vec_len s.turns;
+      spare = s.turns.spare;
       reading = s.reading;
     } };
 }
@@ -63,14 +63,14 @@ impl<S: Source, K: Sink, C: Clock> Serving<S, K, C> {
         source: S,
         sink: K,
         clock: C,
-        turns: Vec<Turn>,
+        turns: Trace<Turn>,
         limits: Limits,
     ) -> Serving<S, K, C>
         requires { turns.items ≡ [] }
         ensures input { (result.feed.left ≡ (S.view source).left) × (result.feed.room ≡ limits.input) × (result.feed.ahead ≡ 0)
             × (result.feed.faults ≡ (S.view source).faults) }
         ensures ends { (result.sink ≡ K.view sink) × (result.clock ≡ clock) × (result.turns ≡ []) }
-        ensures room { result.spare ≡ vec_capacity turns }
+        ensures room { result.spare ≡ turns.spare }
         ensures first { result.reading ≡ Operational }
     {
         Serving {
@@ -124,11 +124,11 @@ impl<S: Source, K: Sink, C: Clock> Serving<S, K, C> {
         match item {
             Item::Ask(command) => {
                 let given = door.ask(rt, moment, command);
-                self.turns.push_reserved(turn_of(moment, &given));
+                self.turns.note(turn_of(moment, &given));
                 answer(&mut self.sink, &mut self.reading, given)
             }
             Item::Wrong(fault) => {
-                self.turns.push_reserved(Turn::Local(fault));
+                self.turns.note(Turn::Local(fault));
                 put_fault(&mut self.sink, fault)
             }
         }
@@ -222,7 +222,7 @@ impl<S: Source, K: Sink, C: Clock> Serving<S, K, C> {
     {
         let moment = self.clock.now();
         let given = door.ask(rt, moment, Command::Logout);
-        self.turns.push_reserved(turn_of(moment, &given));
+        self.turns.note(turn_of(moment, &given));
         let_go(given);
     }
 

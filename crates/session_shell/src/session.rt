@@ -13,6 +13,7 @@ use io_edge::{Clock, Sink, Source};
 use std::alloc::Global;
 use std::marker::Model;
 use std::sync::Wait;
+use trace_list::Trace;
 
 /// A session before its first line: its number, its ends, and room for the turn of its last logout.
 pub struct Session<S, K, C> {
@@ -20,34 +21,36 @@ pub struct Session<S, K, C> {
     number: u32,
     end: End<S, K, C>,
     limits: Limits,
-    turns: Vec<Turn>,
+    turns: Trace<Turn>,
 }
 
 impl<S, K, C> Model for Session<S, K, C> {
-    ghost use Rattle.std.specs.Prelude.{◌≡◌, ◌<◌, [], vec_capacity};
+    ghost use Rattle.std.specs.Prelude.{◌≡◌, ◌<◌, []};
     ghost use Rattle.session_shell.specs.Opened.{Opened};
 
     ghost Value = { Opened S K C };
 
     ghost view = { λ s. record { number = s.number; end = s.end; limit = s.limits.input } };
 
-    ghost invariant = { λ s. (s.turns.items ≡ []) × (0 < vec_capacity s.turns) };
+    ghost invariant = { λ s. (s.turns.items ≡ []) × (0 < s.turns.spare) };
 }
 
 impl<S, K, C> Session<S, K, C> {
-    /// A session of that number over its ends, of whose source at most `limits.input` bytes are taken. Without memory for the
-    /// turn of its last logout there is none.
+    /// A session of that number over its ends, of whose source at most `limits.input` bytes are taken. Its turns are kept as
+    /// values, or aren't. Without memory for the turn of its last logout there is none.
     pub fn new(
         alloc: Global,
         number: u32,
         end: End<S, K, C>,
         limits: Limits,
+        keeps: bool,
     ) -> Result<Session<S, K, C>, NoSession<S, K, C>>
         ensures ok { IfOk result (λ session. session ≡ record { number = number; end = end; limit = limits.input }) }
         ensures err { IfErr result (λ refused. refused.end ≡ end) }
     {
-        match Vec::with_capacity(alloc, 1) {
-            Ok(turns) => Ok(Session {
+        let mut turns = Trace::new(alloc, keeps);
+        match turns.reserve(1) {
+            Ok(()) => Ok(Session {
                 alloc,
                 number,
                 end,

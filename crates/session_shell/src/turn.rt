@@ -1,8 +1,10 @@
-ghost use Rattle.std.specs.Prelude.{◌≡◌};
+ghost use Rattle.std.specs.Prelude.{◌≡◌, [], IfSome};
 
 use cfg_base::Moment;
 use reply_text::ShellFault;
+use std::alloc::Global;
 use std::marker::Model;
+use trace_list::Trace;
 
 /// What one item of a session's input came to.
 #[derive(Clone, Copy, Debug, PartialEq, Eq)]
@@ -29,10 +31,10 @@ pub enum How {
     NoMemory,
 }
 
-/// The turns of a session, in order.
-#[derive(Debug, Drop)]
+/// The turns of a session, in order. They are values only where they were to be kept; else they are for clauses.
+#[derive(Drop)]
 pub struct TurnList {
-    turns: Vec<Turn>,
+    turns: Trace<Turn>,
 }
 
 impl Model for TurnList {
@@ -45,18 +47,27 @@ impl Model for TurnList {
 }
 
 impl TurnList {
-    /// The turns, in order.
-    pub fn as_slice(&self) -> &[Turn]
-        ensures { result.now ≡ self.now }
+    /// No turns. As values there are none too.
+    pub fn none(alloc: Global) -> TurnList
+        ensures { result ≡ [] }
     {
-        &self.turns
+        TurnList {
+            turns: Trace::new(alloc, true),
+        }
+    }
+
+    /// The turns, in order, where they are kept.
+    pub fn values(&self) -> Option<&[Turn]>
+        ensures { IfSome result (λ turns. turns.now ≡ self.now) }
+    {
+        self.turns.values()
     }
 }
 
-impl From<Vec<Turn>> for TurnList {
+impl From<Trace<Turn>> for TurnList {
     ghost from_gives = { λ source turns. turns ≡ source.items };
 
-    fn from(turns: Vec<Turn>) -> TurnList {
+    fn from(turns: Trace<Turn>) -> TurnList {
         TurnList { turns }
     }
 }

@@ -3,9 +3,6 @@ use denote.Param.Send.{IsSend, IsSync, sendable, view_send}
 use denote.Param.SendFields.{declared_send}
 use denote.RattleType.{RattleType}
 use Rattle.std.proofs.Crossing.{crosses}
-use Rattle.std.specs.contracts.alloc.Global as Global
-use Rattle.std.specs.contracts.impls.GlobalAllocator.TheImpl as heap
-use Rattle.std.specs.contracts.vec.Vec as Vec
 use Rattle.active_snapshot.specs.declared.book.Naming as naming
 use Rattle.active_snapshot.proofs.SendLemmas.{readers_send, writer_send}
 use Rattle.active_snapshot.specs.contracts.reader.SnapReaders as SnapReaders
@@ -23,6 +20,7 @@ use Rattle.config_db.specs.contracts.database.Database.TheInside as DatabaseInsi
 use Rattle.disk_model.specs.declared.disk.Disk as disk
 use Rattle.session_history.proofs.history.Happened.TheSendSync as happened
 use Rattle.session_history.specs.contracts.history.Happened as Happened
+use Rattle.trace_list.specs.contracts.trace.Trace as Trace
 use Rattle.turn_lock.proofs.lock.Turns.TheSendSync as lock
 use Rattle.turn_lock.proofs.pass.Pass.TheSendSync as pass
 use Rattle.turn_lock.specs.contracts.lock.Turns as Turns
@@ -38,7 +36,7 @@ users_send = search (sendable, crosses, users.the_send) depth 150 fits 40000
 ledger_send : IsSend Ledger.the_row
 ledger_send = search (sendable, crosses, ledger.the_send) depth 150 fits 40000
 
-events_send : IsSend (Vec.the_row Happened.the_row Global.the_row heap.ghosts)
+events_send : IsSend (Trace.the_row Happened.the_row)
 events_send = search (sendable, crosses, happened.the_send) depth 150 fits 40000
 
 core_send : IsSend Core.the_row

@@ -30,13 +30,14 @@ pub(crate) struct Seat<S, K, C, F, J: Naming> {
     pub turns: TurnList,
 }
 
-/// Runs the session of a seat. Without memory for it none begins.
+/// Runs the session of a seat, whose turns are kept as values, or aren't. Without memory for it none begins.
 fn run_session<R: Wait, S: Source, K: Sink, C: Clock, D: Disk, J: Naming>(
     rt: &R,
     alloc: Global,
     lock: &Turns<Served<D, J>>,
     seat: Seat<S, K, C, Begun<D>, J>,
     limits: Limits,
+    keeps: bool,
 ) -> Seat<S, K, C, Begun<D>, J>
     requires { (first : DatabaseView) × IsReady lock.now first seat.pass }
     ensures { RunsOne (end_view S.view K.view C.coming) limits.input (gate_of seat) (gate_of result)
@@ -49,7 +50,7 @@ fn run_session<R: Wait, S: Source, K: Sink, C: Clock, D: Disk, J: Naming>(
         how: _,
         turns: _,
     } = seat;
-    match Session::new(alloc, pass.caller(), end, limits) {
+    match Session::new(alloc, pass.caller(), end, limits, keeps) {
         Ok(session) => {
             let mut gate = Gate::of(alloc, lock, pass, reader);
             let Ended {
@@ -72,7 +73,7 @@ fn run_session<R: Wait, S: Source, K: Sink, C: Clock, D: Disk, J: Naming>(
             reader,
             end,
             how: How::NoMemory,
-            turns: TurnList::from(Vec::new(alloc)),
+            turns: TurnList::none(alloc),
         },
     }
 }
@@ -122,6 +123,7 @@ fn serve_one<R: Wait, S: Source, K: Sink, C: Clock, D: Disk, J: Naming>(
     lock: &Turns<Served<D, J>>,
     seat: Seat<S, K, C, Begun<D>, J>,
     limits: Limits,
+    keeps: bool,
 ) -> Seat<S, K, C, Begun<D>, J>
     requires { (first : DatabaseView) × CanServe lock.now first (gate_of seat) }
     ensures { (first : DatabaseView) → CanServe lock.now first (gate_of seat)
@@ -129,7 +131,7 @@ fn serve_one<R: Wait, S: Source, K: Sink, C: Clock, D: Disk, J: Naming>(
         (result_of seat result) }
 {
     fronts_never_fall();
-    let mut seat = run_session(rt, alloc, lock, seat, limits);
+    let mut seat = run_session(rt, alloc, lock, seat, limits, keeps);
     leave(rt, lock, &mut seat.pass, &seat.reader);
     seat
 }
@@ -141,6 +143,7 @@ pub(crate) fn serve_at<R: Wait, S: Source, K: Sink, C: Clock, D: Disk, J: Naming
     lock: &Turns<Served<D, J>>,
     place: &mut Option<Seat<S, K, C, Begun<D>, J>>,
     limits: Limits,
+    keeps: bool,
 )
     requires { (first : DatabaseView) × IsSeated lock.now first place.old }
     ensures { (first : DatabaseView) → IsSeated lock.now first place.old
@@ -149,7 +152,7 @@ pub(crate) fn serve_at<R: Wait, S: Source, K: Sink, C: Clock, D: Disk, J: Naming
     let Some(seat) = place.take() else {
         unreachable!()
     };
-    let served = serve_one(rt, alloc, lock, seat, limits);
+    let served = serve_one(rt, alloc, lock, seat, limits, keeps);
     let nothing = replace(place, Some(served));
     let None = nothing else { unreachable!() };
 }

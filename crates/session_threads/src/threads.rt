@@ -33,7 +33,14 @@ pub(crate) trait Serve<D: Disk, J: Naming> {
     /// It was served, with that many bytes of input at most, over a database that began so.
     ghost serves: { ℕ → DatabaseView → Self → Self → Type 0 };
 
-    fn serve<R: Wait>(&mut self, rt: &R, alloc: Global, lock: &Turns<Served<D, J>>, limits: Limits)
+    fn serve<R: Wait>(
+        &mut self,
+        rt: &R,
+        alloc: Global,
+        lock: &Turns<Served<D, J>>,
+        limits: Limits,
+        keeps: bool,
+    )
         requires { (first : DatabaseView) × can_serve self.old lock.now first }
         ensures { (first : DatabaseView) → can_serve self.old lock.now first
             → serves limits.input first self.old self.new };
@@ -51,8 +58,9 @@ impl<S: Source, K: Sink, C: Clock, D: Disk, J: Naming> Serve<D, J>
         alloc: Global,
         lock: &Turns<Served<D, J>>,
         limits: Limits,
+        keeps: bool,
     ) {
-        serve_at(rt, alloc, lock, self, limits);
+        serve_at(rt, alloc, lock, self, limits, keeps);
     }
 }
 
@@ -64,6 +72,7 @@ pub(crate) fn serve_seats<R, T, B, C, D, J>(
     alloc: Global,
     lock: &Turns<Served<D, J>>,
     limits: Limits,
+    keeps: bool,
     seats: &mut [T],
     pass: &mut Pass<Happened, Begun<D>>,
     ticker: &mut Ticker<B, C>,
@@ -87,7 +96,7 @@ where
     match seats.split_first_mut() {
         None => tick_along(rt, lock, pass, ticker),
         Some((seat, others)) => {
-            serve_both(rt, alloc, lock, limits, seat, others, pass, ticker);
+            serve_both(rt, alloc, lock, limits, keeps, seat, others, pass, ticker);
         }
     }
 }
@@ -99,6 +108,7 @@ fn serve_both<R, T, B, C, D, J>(
     alloc: Global,
     lock: &Turns<Served<D, J>>,
     limits: Limits,
+    keeps: bool,
     seat: &mut T,
     others: &mut [T],
     pass: &mut Pass<Happened, Begun<D>>,
@@ -132,11 +142,11 @@ where
             × ((first : DatabaseView) → IsFirst lock.entry.now first pass.entry.now
             → TicksOn first pass.entry.now pass.exit.now (ticker_view B.coming C.coming ticker.entry.now)
             (ticker_view B.coming C.coming ticker.exit.now)) }
-    { serve_seats(rt, alloc, lock, limits, others, pass, ticker) };
+    { serve_seats(rt, alloc, lock, limits, keeps, others, pass, ticker) };
     let mut here = move ||
         requires { (first : DatabaseView) × T.can_serve seat.now lock.now first }
         ensures { (first : DatabaseView) → T.can_serve seat.entry.now lock.entry.now first
             → T.serves limits.input first seat.entry.now seat.exit.now }
-    { seat.serve(rt, alloc, lock, limits) };
+    { seat.serve(rt, alloc, lock, limits, keeps) };
     join_mut(rt, &mut apart, &mut here);
 }

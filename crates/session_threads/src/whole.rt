@@ -123,7 +123,7 @@ fn seat_all<S, K, C, D: Disk, J: Naming>(
         reader,
         end,
         how: How::NoMemory,
-        turns: TurnList::from(Vec::new(alloc)),
+        turns: TurnList::none(alloc),
     }));
 }
 
@@ -182,7 +182,7 @@ fn none_served<S, K, C, B, D: Disk, J: Naming>(
     let mut turns = turns;
     let count = ends.len();
     for _ in 0..count {
-        turns.push_reserved(TurnList::from(Vec::new(alloc)));
+        turns.push_reserved(TurnList::none(alloc));
     }
     let status = status_of_none(count);
     Sessions {
@@ -195,7 +195,8 @@ fn none_served<S, K, C, B, D: Disk, J: Naming>(
 }
 
 /// Serves the sessions of all ends, as callers 1, 2 and so on, and runs the ticker beside them, over a database in
-/// which nothing happened yet, and which has a reader for each. Where memory is wanting for the lock no session begins.
+/// which nothing happened yet, and which has a reader for each. The turns are kept as values, or aren't. Where memory is wanting
+/// for the lock no session begins.
 pub fn serve_all<R, S, K, C, B, D, J>(
     rt: &R,
     alloc: Global,
@@ -203,6 +204,7 @@ pub fn serve_all<R, S, K, C, B, D, J>(
     room: Room<S, K, C, D, J>,
     ends: Vec<End<S, K, C>>,
     limits: Limits,
+    keeps: bool,
     ticker: Ticker<B, C>,
 ) -> Sessions<S, K, C, B, D, J>
 where
@@ -247,6 +249,7 @@ where
         alloc,
         &lock,
         limits,
+        keeps,
         seats.as_mut_slice(),
         &mut pass,
         &mut ticker,

@@ -156,13 +156,21 @@ where
     ran(rt, alloc, "serve d alice:a bob:b", parts, ticker, disks)
 }
 
-/// How many entries the lists had that sessions were shown without an event.
+/// How many entries the lists had that a session was shown without an event.
+fn say_fronts(out: &mut String, turns: &[Turn]) -> Result<(), Fault> {
+    for turn in turns {
+        if let Turn::Seen { front, .. } = turn {
+            writeln!(out, "shown of {front} entries")?;
+        }
+    }
+    Ok(())
+}
+
+/// The same, of all sessions.
 fn say_shown(out: &mut String, turns: &[TurnList]) -> Result<(), Fault> {
     for list in turns {
-        for turn in list.as_slice() {
-            if let Turn::Seen { front, .. } = turn {
-                writeln!(out, "shown of {front} entries")?;
-            }
+        if let Some(turns) = list.values() {
+            say_fronts(out, turns)?;
         }
     }
     Ok(())
@@ -206,7 +214,9 @@ where
     let ran = one_waits(rt, alloc)?;
     let status = ran.status;
     writeln!(out, "a session that waits for the ticker: status {status}")?;
-    say_reverts(out, &ran.history.events)?;
+    if let Some(events) = ran.history.events.values() {
+        say_reverts(out, events)?;
+    }
     let ran = show_behind(rt, alloc)?;
     let status = ran.status;
     writeln!(

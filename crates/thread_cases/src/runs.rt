@@ -10,7 +10,7 @@ use command_line::{Usage, read_words, words_ask_one_thing};
 use disk_model::{Disk, MemDisk};
 use io_edge::{Beat, ListBeat, ListSource, Source};
 use script_lines::{Fault, args_of, words_of};
-use service::{Closed, Ticker, run};
+use service::{Closed, Ticker, run_keeping};
 use session_shell::End;
 use std::alloc::Global;
 use std::sync::atomic::AtomicU64;
@@ -92,7 +92,7 @@ where
     let words = words_of(alloc, &args_of(alloc, text)?)?;
     let ends = asked_ends(alloc, &words, parts)?;
     let (a, b) = disks;
-    Ok(run(rt, alloc, &words, ends, ticker, a, b))
+    Ok(run_keeping(rt, alloc, &words, ends, ticker, a, b, true))
 }
 
 fn empty_disk(alloc: Global) -> Result<MemDisk, Fault> {

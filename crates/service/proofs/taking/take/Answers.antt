@@ -5,6 +5,6 @@ use Rattle.service.proofs.taking.take.Goals as goal
 
 pub returns-clause-ok : goal.returns-clause-ok
 returns-clause-ok c =
-    Happens-of c.args.caller c.args.moment c.args.event c.accept-reply.result c.in_ok-prepared.prepared c.args.core.now c.accept-reply.new.self c.args.events.now.items c.push_reserved.new.self.items c.requires.fits c.requires.free
+    Happens-of c.args.caller c.args.moment c.args.event c.accept-reply.result c.in_ok-prepared.prepared c.args.core.now c.accept-reply.new.self c.args.events.now.items c.note.new.self.items c.requires.fits c.requires.free
     c.in_ok-prepared.ensures.ok c.accept-reply.ensures.state c.accept-reply.ensures.reply
-    (c.push_reserved.ensures.items ∙ ap (λ l. l ++ done_event c.args.caller c.args.moment c.args.event ∷ []) c.in_ok-reserve.ensures.items)
+    (c.note.ensures.items ∙ ap (λ l. l ++ done_event c.args.caller c.args.moment c.args.event ∷ []) c.in_ok-reserve.ensures.items)

@@ -1,3 +1,4 @@
+use denote.Builtin.{bool}
 use denote.Param.{param}
 use denote.Param.Send.{AllSend, IsSend, IsSync, mut_send, mut_slice_send, sendable, shr_send}
 use denote.Ref.{MutRef, ShrRef}
@@ -31,6 +32,7 @@ send_others g κs rt seats beat clock disk name shared =
     ∷ Global.the_row
     ∷ ShrRef (named 9) ends.1.0 (lock_row (param 4 g.row.D) (param 5 g.row.J) g.D.Disk g.J.Naming)
     ∷ Limits.the_row
+    ∷ bool
     ∷ MutSlice (named 10) ends.1.1.0 (param 1 g.row.T)
     ∷ MutRef (named 11) ends.1.1.1.0 (pass_row (param 4 g.row.D) g.D.Disk)
     ∷ MutRef (named 12) ends.1.1.1.1.0 (Ticker.the_row (param 2 g.row.B) (param 3 g.row.C))
@@ -44,8 +46,11 @@ send_others g κs rt seats beat clock disk name shared =
           (
             search sendable depth 20,
             (
-              mut_slice_send _ _ _ seats,
-              (mut_send _ _ _ (pass_send (param 4 g.row.D) g.D.Disk), (mut_send _ _ _ tickers, tt)),
+              search sendable depth 20,
+              (
+                mut_slice_send _ _ _ seats,
+                (mut_send _ _ _ (pass_send (param 4 g.row.D) g.D.Disk), (mut_send _ _ _ tickers, tt)),
+              ),
             ),
           ),
         ),

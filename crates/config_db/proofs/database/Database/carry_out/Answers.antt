@@ -36,7 +36,7 @@ invariant_of-self-in-Ok-write_shown g c =
     c.note-reply.result c.calls.result c.in-Ok.prepared (subst (λ v. v.state.flight ≡ None) (sym c.self.view_is) c.requires.free) (subst (λ v. Fits v.state c.args.caller c.args.moment c.args.event) (sym c.self.view_is) c.requires.fits)
     c.in-Ok.ensures.ok c.in-Ok-write_shown.ensures.written c.in-Ok-write_shown.ensures.shown (calls_is c.write_shown.new.journal c.calls.result c.calls.ensures.a c.calls.ensures.b) c.note-reply.ensures.state c.note-reply.ensures.reply
     (c.note-reply.ensures.events ∙ ap (λ l. l ++ noted c.args.caller c.args.moment c.args.event c.in-Ok-write_shown.outcome c.calls.result ∷ []) c.in_ok-reserve.ensures.items) in
-    (comes.book, λ some. omega (arith, c.note-reply.ensures.len, c.note-reply.ensures.capacity, c.in_ok-reserve.ensures.ok, c.in_ok-reserve.ensures.len))
+    (comes.book, λ some. omega (arith, c.note-reply.ensures.spare, c.in_ok-reserve.ensures.ok))
 
 pub returns-in-Err-write_shown-clause-err : goal.returns-in-Err-write_shown-clause-err
 returns-in-Err-write_shown-clause-err g c =

@@ -15,7 +15,7 @@ invariant_of-self-in-Ok g c =
     c.requires.asks (subst (λ v. Fits v.state c.args.caller c.args.moment c.args.event) (sym c.self.view_is) c.requires.fits) c.in-Ok.ensures.ok
     (calls_is i.journal c.calls.result c.calls.ensures.a c.calls.ensures.b) c.note.ensures.state c.note.ensures.reply
     (c.note.ensures.events ∙ ap (λ l. l ++ noted c.args.caller c.args.moment c.args.event Fault c.calls.result ∷ []) c.in_ok-reserve.ensures.items) in
-    (comes.book, λ some. omega (arith, c.note.ensures.len, c.note.ensures.capacity, c.in_ok-reserve.ensures.ok, c.in_ok-reserve.ensures.len))
+    (comes.book, λ some. omega (arith, c.note.ensures.spare, c.in_ok-reserve.ensures.ok))
 
 pub returns-in-Ok-clause-ok : goal.returns-in-Ok-clause-ok
 returns-in-Ok-clause-ok g c =

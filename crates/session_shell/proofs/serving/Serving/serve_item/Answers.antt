@@ -8,7 +8,7 @@ use Rattle.session_shell.proofs.serving.Serving.serve_item.Goals as goal
 pub returns-in-Ask-clause-serves : goal.returns-in-Ask-clause-serves
 returns-in-Ask-clause-serves g c =
     let old : SessionView = view_of g.C.Clock.coming c.args.self.now in
-    let new : SessionView = record { coming = g.C.Clock.coming c.now-moment.new.self; held = (g.K.Sink.view c.answer.new.sink).held; faults = (g.K.Sink.view c.answer.new.sink).faults; turns = c.push_reserved.new.self.items } in
+    let new : SessionView = record { coming = g.C.Clock.coming c.now-moment.new.self; held = (g.K.Sink.view c.answer.new.sink).held; faults = (g.K.Sink.view c.answer.new.sink).faults; turns = c.note.new.self.items } in
     let is : c.args.item ≡ Ask c.in-Ask.command = search rules in
     let read : c.args.self.now.reading ≡ c.self.inside.reading = search rules in
     subst (λ i. Serves g.D.Door.follows i c.answer.result (standing c.args.door.now c.args.self.now.reading old) (standing c.ask-given.new.self c.answer.new.reading new)) (sym is)
@@ -17,7 +17,7 @@ returns-in-Ask-clause-serves g c =
 pub returns-in-Wrong-clause-serves : goal.returns-in-Wrong-clause-serves
 returns-in-Wrong-clause-serves g c =
     let old : SessionView = view_of g.C.Clock.coming c.args.self.now in
-    let new : SessionView = record { coming = g.C.Clock.coming c.now-moment.new.self; held = (g.K.Sink.view c.put_fault.new.sink).held; faults = (g.K.Sink.view c.put_fault.new.sink).faults; turns = c.push_reserved-in-Wrong.new.self.items } in
+    let new : SessionView = record { coming = g.C.Clock.coming c.now-moment.new.self; held = (g.K.Sink.view c.put_fault.new.sink).held; faults = (g.K.Sink.view c.put_fault.new.sink).faults; turns = c.note-in-Wrong.new.self.items } in
     let is : c.args.item ≡ Wrong c.in-Wrong.fault = search rules in
     let read : c.args.self.now.reading ≡ c.self.inside.reading = search rules in
     subst (λ r. Serves g.D.Door.follows c.args.item c.put_fault.result (standing c.args.door.now c.args.self.now.reading old) (standing c.args.door.now r new)) read
