@@ -92,6 +92,32 @@ where
     ran(rt, alloc, "serve d", parts, ticker, disks)
 }
 
+/// A session whose commit isn't confirmed, and that shows the commits once the ticker, by whose clock the deadline has come, has
+/// looked at the time; another one is served beside it until that show was answered.
+fn two_beside<R>(rt: &R, alloc: Global) -> Result<Ran<Waiting<R>, Asked<R>, MemDisk>, Fault>
+where
+    R: Threads + Wait + Sync + Send + std::rt::Clock + Clone + Drop,
+{
+    let alice = count(alloc)?;
+    let bob = count(alloc)?;
+    let beats = count(alloc)?;
+    let mut parts = Vec::new(alloc);
+    let shown = Gate::of_lines(&alice, 7, &beats)?;
+    parts.push(session(rt, alloc, b"exit\n", 0, shown, bob)?)?;
+    let looked = Gate {
+        lines: alice.clone()?,
+        least: 4,
+        beats: beats.clone()?,
+        more: 2,
+    };
+    let text =
+        b"configure\nset system host-name a\ncommit confirmed 1 and-quit\nshow system commit\nexit\n";
+    parts.push(session(rt, alloc, text, 61, looked, alice)?)?;
+    let ticker = ticker(rt, beats, 1060)?;
+    let disks = made_disks(rt, alloc)?;
+    ran(rt, alloc, "serve d bob:b alice:a", parts, ticker, disks)
+}
+
 /// A session that has its second show of what is active once another one was answered its commit, which that one makes once the
 /// first show was answered.
 fn show_behind<R>(rt: &R, alloc: Global) -> Result<Ran<Waiting<R>, Asked<R>, MemDisk>, Fault>
@@ -217,6 +243,17 @@ where
     if let Some(events) = ran.history.events.values() {
         say_reverts(out, events)?;
     }
+    let ran = two_beside(rt, alloc)?;
+    let status = ran.status;
+    writeln!(
+        out,
+        "two sessions beside the ticker that meets a deadline: status {status}"
+    )?;
+    if let Some(events) = ran.history.events.values() {
+        say_reverts(out, events)?;
+    }
+    say_shown(out, &ran.turns)?;
+    say_written(out, &ran)?;
     let ran = show_behind(rt, alloc)?;
     let status = ran.status;
     writeln!(

@@ -14,7 +14,7 @@ use std::{fs, io, str};
 
 /// What a session reads: the standard input, a file, or a file that can't be used.
 #[derive(Drop)]
-pub(crate) enum Input<I, F> {
+pub enum Input<I, F> {
     Standard(I),
     File(F),
     Unusable,
@@ -32,7 +32,7 @@ impl<I: Read, F: Read> Read for Input<I, F> {
 
 /// What a session writes to: the standard output, a file, or a file that can't be used.
 #[derive(Drop)]
-pub(crate) enum Output<O, F> {
+pub enum Output<O, F> {
     Standard(O),
     File(F),
     Unusable,
@@ -57,7 +57,7 @@ impl<O: Write, F: Write> Write for Output<O, F> {
 }
 
 /// The ends of a session over the system.
-pub(crate) type StdEnd<R, I, O> = End<
+pub type StdEnd<R, I, O> = End<
     StdSource<Input<I, <R as Files>::File>>,
     StdSink<Output<O, <R as Files>::File>>,
     StdClock<R>,
@@ -139,7 +139,7 @@ where
 }
 
 /// The ends that are asked for, each of its user: over files, or where no session is named over the standard input and output.
-pub(crate) fn ends_of<R, I, O>(
+pub fn ends_of<R, I, O>(
     rt: &R,
     asked: &Asked,
     input: I,

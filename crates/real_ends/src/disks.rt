@@ -35,7 +35,7 @@ fn sync_folder<R: Files>(rt: &R, folder: &Word) {
 }
 
 /// The files that are there. One that can't be used is a disk whose every call fails.
-pub(crate) fn open_disks<R: Files<File = File> + AllocGlobal>(
+pub fn open_disks<R: Files<File = File> + AllocGlobal>(
     rt: &R,
     folder: &Word,
 ) -> Result<(FileDisk, FileDisk), NoMemory> {
@@ -47,7 +47,7 @@ pub(crate) fn open_disks<R: Files<File = File> + AllocGlobal>(
 }
 
 /// The files, made where they are missing. One that can't be used is a disk whose every call fails.
-pub(crate) fn make_disks<R: Files<File = File> + AllocGlobal>(
+pub fn make_disks<R: Files<File = File> + AllocGlobal>(
     rt: &R,
     folder: &Word,
 ) -> Result<(FileDisk, FileDisk), NoMemory> {
@@ -62,7 +62,7 @@ pub(crate) fn make_disks<R: Files<File = File> + AllocGlobal>(
 }
 
 /// Disks that hold nothing and refuse every call.
-pub(crate) fn no_disks(alloc: Global) -> Result<(MemDisk, MemDisk), NoMemory> {
+pub fn no_disks(alloc: Global) -> Result<(MemDisk, MemDisk), NoMemory> {
     let a = MemDisk::new(alloc, 0, 0, Vec::new(alloc), Vec::new(alloc))?;
     let b = MemDisk::new(alloc, 0, 0, Vec::new(alloc), Vec::new(alloc))?;
     Ok((a, b))

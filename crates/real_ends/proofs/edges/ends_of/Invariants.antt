@@ -1,6 +1,6 @@
 use Rattle.std.proofs.Common.{◌≡◌, take}
 use Rattle.session_threads.specs.Results.{users_of}
-use Rattle.confd.proofs.edges.ends_of.Given as goal
+use Rattle.real_ends.proofs.edges.ends_of.Given as goal
 
 -- the ends so far are of the first users
 abbrev pub invariant-loop-user : goal.invariant-loop-user
