@@ -22,13 +22,13 @@ use Rattle.edit_ops.specs.Block.{IsFree}
 use Rattle.set_text.specs.Printed.{Line}
 use Rattle.commands.specs.Verb.{op_of}
 use Rattle.set_text.specs.Back.{changes_of}
-use Rattle.set_laws.specs.Made.{AreMade}
+use Rattle.load_ops.specs.Lines.{AreMade}
 use Rattle.set_laws.proofs.LookLemmas.{Unprotected, set_grows}
 use Rattle.set_laws.proofs.SetLemmas.{Sets, SetsAll}
 
 pub made_both : (x y z : Statements) (number : ℕ) (xs ys : List Line) → AreMade x (changes_of number xs) y → AreMade y (changes_of (number + length xs) ys) z → AreMade x (changes_of number (xs ++ ys)) z
 made_both x y z number [] ys one two =
-    subst (λ (s : Statements). AreMade s (changes_of number ys) z) (sym one) (subst (λ (n : ℕ). AreMade y (changes_of n ys) z) (omega arith) two)
+    subst (λ (s : Statements). AreMade s (changes_of number ys) z) one (subst (λ (n : ℕ). AreMade y (changes_of n ys) z) (omega arith) two)
 made_both x y z number (l ∷ xs) ys one two =
     (one.0, one.1, one.2, made_both one.0 y z (number + 1) xs ys one.3 (subst (λ (n : ℕ). AreMade y (changes_of n ys) z) (omega arith) two))
 
@@ -90,7 +90,7 @@ module _ (m : Statements) (tree : IsTree m) where
       omega (arith, one, sets_grow passes sets.0 y lines sets.2)
 
   pub sets_made : (passes : List Step → Type 0) (number : ℕ) (x y : Statements) (lines : List Line) → SetsAll m passes x lines y → size_of y ≤ MAX_STATEMENTS → AreMade x (changes_of number lines) y
-  sets_made passes number x y [] sets few = sets
+  sets_made passes number x y [] sets few = sym sets
   sets_made passes number x y (l ∷ lines) sets few = (
     sets.0,
     true,

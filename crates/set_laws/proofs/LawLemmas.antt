@@ -35,7 +35,8 @@ use Rattle.set_text.proofs.BackLemmas.{read_back}
 use Rattle.curly_text.proofs.FillLemmas.{items_below}
 use Rattle.curly_text.proofs.PrintableLemmas.{AllPrintable, words_printable}
 use Rattle.curly_text.proofs.WrittenLemmas.{own_printable}
-use Rattle.set_laws.specs.Made.{AreMade, Makes, IsProtectedApart}
+use Rattle.load_ops.specs.Lines.{AreMade, IsLineLoad}
+use Rattle.set_laws.specs.Apart.{IsProtectedApart}
 use Rattle.set_laws.proofs.SetLemmas.{SetsAll, Below, bare}
 use Rattle.set_laws.proofs.FillLemmas.{set_lines, sets_from_none}
 use Rattle.set_laws.proofs.BareLemmas.{bare_is, bare_size, printed_there}
@@ -307,5 +308,5 @@ module _ (m : Statements) (tree : IsTree m) (kept : IsProtectedApart m) where
       (sets_readable (Below []) map.empty (stated map.empty (bare (items_below MAX_STEPS m []))) (set_lines m (paths_below MAX_STEPS m [])) (sets_from_none m tree))
       (both_readable (flat_map (deactivates_of m) (paths_below MAX_STEPS m [])) (flat_map (protects_of m) (paths_below MAX_STEPS m [])) (inactive_readable (paths_below MAX_STEPS m [])) (protected_readable (paths_below MAX_STEPS m []))))
 
-  pub makes_back : Makes (printed_set m []) m
-  makes_back = record { changes = changes_of 1 (lines_of m []); read = read_back (lines_of m []) readable; made = made_back }
+  pub makes_back : IsLineLoad map.empty (printed_set m []) m
+  makes_back = record { lines = changes_of 1 (lines_of m []); asks = read_back (lines_of m []) readable; made = made_back }

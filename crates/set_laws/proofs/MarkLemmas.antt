@@ -21,7 +21,7 @@ use Rattle.edit_ops.specs.Block.{IsFree, IsSpared}
 use Rattle.edit_ops.proofs.NearLemmas.{put_there, put_same, size-put}
 use Rattle.set_text.specs.Printed.{Line}
 use Rattle.set_text.specs.Back.{changes_of}
-use Rattle.set_laws.specs.Made.{AreMade}
+use Rattle.load_ops.specs.Lines.{AreMade}
 use Rattle.set_laws.proofs.ChangeLemmas.{made_both, named_alone}
 
 -- the paths that were met, with one more
