@@ -336,7 +336,7 @@ module _ (here : Level) (outer : List Level) (first : Part) (more : List Part) (
       (read_part here outer here m phase parts.level parts.words first opens parts.leads)
       (goes_steps more here outer parts.level last parts.others parts.opens parts.rest)))
 
-mark_taken : (phase : Phase) (here : Level) (outer : List Level) (marks : Marks) (token : Lexed) → HasRows here → is_mark token ≡ true
+pub mark_taken : (phase : Phase) (here : Level) (outer : List Level) (marks : Marks) (token : Lexed) → HasRows here → is_mark token ≡ true
     → (TakesFirst (is_mark token) here marks token (quiet (Marked (with_mark marks token))) → TakesWord phase here token (quiet (Marked (with_mark marks token))))
     → Takes (state here outer phase) token (silent (state here outer (Marked (with_mark marks token))))
 mark_taken phase here outer marks token rows h taken =

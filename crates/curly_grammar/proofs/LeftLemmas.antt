@@ -581,7 +581,7 @@ shape_many Bare h = cc
 shape_many Leaf h = cc
 shape_many Flag h = cc
 
-some_spelled : (kind : Kind) (values : List Lexed) (all : List (List ℕ)) → AllSpelled kind (map word_of values) all → 0 < length all → 0 < length values
+pub some_spelled : (kind : Kind) (values : List Lexed) (all : List (List ℕ)) → AllSpelled kind (map word_of values) all → 0 < length all → 0 < length values
 some_spelled kind [] [] h l = absurd (omega (arith, l))
 some_spelled kind [] (word ∷ all) h l = absurd h
 some_spelled kind (value ∷ values) all h l = omega arith
@@ -711,7 +711,7 @@ close_left (After level) here outer run tokens items tags h = absurd h
 abbrev pub IsLexed : Lexed → Type 0
 IsLexed token = is_word_kind token.kind ≡ false → token.word ≡ []
 
-sign_is : (token : Lexed) (k : TokenKind) → token.kind ≡ k → is_word_kind k ≡ false → IsLexed token → token ≡ sign k
+pub sign_is : (token : Lexed) (k : TokenKind) → token.kind ≡ k → is_word_kind k ≡ false → IsLexed token → token ≡ sign k
 sign_is token k e no_word lexed =
     ap (λ (x : TokenKind). record { kind = x; word = token.word }) e
     ∙ ap (λ (bytes : List ℕ). record { kind = k; word = bytes }) (lexed (ap is_word_kind e ∙ no_word))

@@ -6,6 +6,7 @@ pub mod KindLemmas
 pub mod ClosingLemmas
 pub mod StandingLemmas
 pub mod EndLemmas
+pub mod UnknownLemmas
 pub mod AnswerLemmas
 pub mod StepAnswers
 pub mod TakingLemmas

@@ -22,7 +22,7 @@ mod stop;
 mod taking;
 
 pub use fault::TextFault;
-pub use laws::texts_say_one_thing;
+pub use laws::{texts_say_one_thing, unknown_words_begin_steps};
 pub use level::Level;
 pub use marked::{Marked, Paths};
 pub use reading::{parse, parse_beside};
