@@ -11,7 +11,7 @@ use Rattle.cfg_tree.specs.declared.reorder.Reorder.{Reorder}
 use Rattle.cfg_tree.specs.Statements.{Statements, parent_of, last_of, is_below}
 use Rattle.cfg_tree.specs.Shown.{shown, without_all}
 use Rattle.cfg_tree.specs.Change.{with_order, with_order_of, is_ordered, cleared}
-use Rattle.cfg_tree.specs.Renaming.{IsListing, reordered_by}
+use Rattle.cfg_tree.specs.Renaming.{IsListedAs, reordered_by}
 use Rattle.cfg_tree.specs.Moving.{part_of, placed, with_part, in_place, relisted, copied, renamed}
 use Rattle.cfg_tree.proofs.BelowLemmas.{keys_filter}
 use Rattle.cfg_tree.proofs.ClearLemmas.{all_taken}
@@ -46,7 +46,7 @@ relisted_some m from to parent old new v names ordered is_parent is_old is_new f
 
 -- a copy as the code makes it
 pub copy_made : (m : Statements) (from to : List Step) (part : List (Pair Value)) (r : Option Reorder) → 0 < length to → part ≡ part_of m from
-    → IsListing true m to r → reordered_by r (with_part from to m part) ≡ copied m from to
+    → IsListedAs true m to r → reordered_by r (with_part from to m part) ≡ copied m from to
 copy_made m from to part r long is_part listing =
     ap (λ (es : List (Pair Value)). reordered_by r (with_part from to m es)) is_part
     ∙ reorder_done m (with_part from to m (part_of m from)) to Last r (is_ordered to) listing

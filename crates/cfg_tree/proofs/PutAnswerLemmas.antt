@@ -8,10 +8,10 @@ use Rattle.cfg_schema.specs.Place.{top_place, place_of}
 use Rattle.cfg_tree.specs.declared.fault.TreeFault.{TreeFault}
 use Rattle.cfg_tree.specs.declared.fault.TreeFault.TheVariants.{Unknown, BadValue, TooMany, NoMemory}
 use Rattle.cfg_tree.specs.Statements.{Statements}
-use Rattle.cfg_tree.specs.Change.{Fits, IsPut, IsPutFault}
+use Rattle.cfg_tree.specs.Change.{FitsProfile, IsPut, IsPutFault}
 use Rattle.cfg_tree.proofs.FollowLemmas.{typed_place}
 
-fits_place : (path : List Step) (value : Value) → Fits path value → place_of path ≡ None → ⊥
+fits_place : (path : List Step) (value : Value) → FitsProfile path value → place_of path ≡ None → ⊥
 fits_place path value fits none = let there = typed_place path top_place fits.typed in let clash = sym none ∙ there.1 in cc
 
 no_place : (path : List Step) → place_of path ≡ None → IsSome (place_of path) → ⊥

@@ -14,7 +14,7 @@ use Rattle.cfg_schema.proofs.TestLemmas.{both, same, same_is}
 use Rattle.cfg_tree.specs.Statements.{Statements, parent_of, last_of, HasParent}
 use Rattle.cfg_tree.specs.Typed.{IsTypedPath, AreWordsOf}
 use Rattle.cfg_tree.specs.Tree.{ordered_head, step_of, lists, IsOrderBy, IsOrderOf, IsStatementMap, IsTyped}
-use Rattle.cfg_tree.specs.Change.{has_head, is_ordered, put_last, IsReady, Fits}
+use Rattle.cfg_tree.specs.Change.{has_head, is_ordered, put_last, IsReady, FitsProfile}
 use Rattle.cfg_tree.proofs.PathLemmas.{split, same_ends, child_differs, same_or_not, renamed}
 
 -- an order is the same where the children are
@@ -49,7 +49,7 @@ pub record Puts (m n : Statements) (path : List Step) (value : Value) (adds : Bo
   pub parent : map.get n (parent_of path) ≡ option_map (renamed (if adds then put_last (last_of path).name else (λ names. names))) (map.get m (parent_of path))
 
 module _ (m n : Statements) (path : List Step) (value : Value) (adds : Bool)
-    (statements : IsStatementMap m) (typed : IsTyped m) (ready : IsReady m path value) (fits : Fits path value) (put : Puts m n path value adds)
+    (statements : IsStatementMap m) (typed : IsTyped m) (ready : IsReady m path value) (fits : FitsProfile path value) (put : Puts m n path value adds)
     (adds_is : adds ≡ (is_none (map.get m path) && is_ordered path)) where
   path_is : path ≡ parent_of path ++ last_of path ∷ []
   path_is = split path ready.parent.steps

@@ -17,10 +17,10 @@ use Rattle.cfg_tree.specs.Tree.{step_of}
 use Rattle.cfg_tree.specs.declared.target.Target.{Target}
 use Rattle.cfg_tree.specs.declared.target.WordsFault.{WordsFault}
 use Rattle.cfg_tree.specs.declared.target.WordsFault.TheVariants.{Unknown, BadValue, Incomplete, Extra, NoMemory}
-use Rattle.cfg_tree.specs.Resolve.{first_of, IsNamedLevel, IsLeafWord, IsStatement, IsBegun, IsFront, IsReading, Reads, no_words, whole, ended, goes_on, fault_of, target}
+use Rattle.cfg_tree.specs.Resolve.{first_of, IsNamedLevel, IsLeafWord, IsStatement, IsBegun, IsFront, IsReadingOf, Reads, no_words, whole, ended, goes_on, fault_of, target}
 use Rattle.cfg_tree.specs.Resolve as says
 
-of_reads : (path : List Step) (here : Place) (words : List (List ℕ)) (answer : Result Target WordsFault) → Reads path here words answer → IsReading path here words answer
+of_reads : (path : List Step) (here : Place) (words : List (List ℕ)) (answer : Result Target WordsFault) → Reads path here words answer → IsReadingOf path here words answer
 of_reads path here words (Ok found) r = r
 of_reads path here words (Err (Unknown at)) r = r
 of_reads path here words (Err (BadValue at)) r = r
@@ -29,7 +29,7 @@ of_reads path here words (Err (Extra at)) r = r
 of_reads path here words (Err NoMemory) r = tt
 
 -- without words
-pub reading_none : (path : List Step) (here : Place) (words : List (List ℕ)) → true ≡ (length words == 0) → IsReading path here words (Err (Incomplete path))
+pub reading_none : (path : List Step) (here : Place) (words : List (List ℕ)) → true ≡ (length words == 0) → IsReadingOf path here words (Err (Incomplete path))
 reading_none path here [] e = no_words path here
 reading_none path here (x ∷ words) e = let z = eqb-true (length (x ∷ words)) 0 (sym e) in absurd (omega (arith, z))
 
@@ -39,26 +39,26 @@ some_words (suc n) e = omega arith
 
 module _ (path : List Step) (here : Place) (words : List (List ℕ)) (front : Front) (some : false ≡ (length words == 0)) (is_front : IsFront here words front) where
   pub reading_refused : (reason : Why) (step : Step) (longer : List Step) (fault : WordsFault) → front ≡ Refused reason step → longer ≡ path ++ step ∷ []
-      → fault ≡ fault_of reason longer → IsReading path here words (Err fault)
+      → fault ≡ fault_of reason longer → IsReadingOf path here words (Err fault)
   reading_refused reason step longer fault e f g =
-      subst (λ (x : WordsFault). IsReading path here words (Err x)) (sym (g ∙ ap (λ (p : List Step). fault_of reason p) f))
+      subst (λ (x : WordsFault). IsReadingOf path here words (Err x)) (sym (g ∙ ap (λ (p : List Step). fault_of reason p) f))
       (of_reads path here words _ (says.refused path here words reason step (some_words _ some) (subst (λ (x : Front). IsFront here words x) e is_front)))
 
   pub reading_whole : (step : Step) (values : List (List ℕ)) (longer : List Step) → front ≡ Statement step values → longer ≡ path ++ step ∷ []
-      → IsReading path here words (Ok (target longer values))
+      → IsReadingOf path here words (Ok (target longer values))
   reading_whole step values longer e f =
-      subst (λ (p : List Step). IsReading path here words (Ok (target p values))) (sym f)
+      subst (λ (p : List Step). IsReadingOf path here words (Ok (target p values))) (sym f)
       (whole path here words values step (some_words _ some) (subst (λ (x : Front). IsFront here words x) e is_front))
 
   pub reading_ended : (step : Step) (next : Place) (used : ℕ) (longer : List Step) (none : List (List ℕ)) → front ≡ Level step next used → longer ≡ path ++ step ∷ []
-      → length words ≤ used → none ≡ [] → IsReading path here words (Ok (target longer none))
+      → length words ≤ used → none ≡ [] → IsReadingOf path here words (Ok (target longer none))
   reading_ended step next used longer none e f few g =
-      subst (λ (ws : List (List ℕ)). IsReading path here words (Ok (target longer ws))) (sym g)
-      (subst (λ (p : List Step). IsReading path here words (Ok (target p []))) (sym f)
+      subst (λ (ws : List (List ℕ)). IsReadingOf path here words (Ok (target longer ws))) (sym g)
+      (subst (λ (p : List Step). IsReadingOf path here words (Ok (target p []))) (sym f)
       (ended path here next words step used (some_words _ some) (subst (λ (x : Front). IsFront here words x) e is_front) few))
 
   on : (step : Step) (next : Place) (used : ℕ) → IsFront here words (Level step next used) → used < length words → (answer : Result Target WordsFault)
-      → IsReading (path ++ step ∷ []) next (drop used words) answer → IsReading path here words answer
+      → IsReadingOf (path ++ step ∷ []) next (drop used words) answer → IsReadingOf path here words answer
   on step next used f more (Ok found) r = goes_on path here next words step used _ (some_words _ some) f more r
   on step next used f more (Err (Unknown at)) r = goes_on path here next words step used _ (some_words _ some) f more r
   on step next used f more (Err (BadValue at)) r = goes_on path here next words step used _ (some_words _ some) f more r
@@ -68,11 +68,11 @@ module _ (path : List Step) (here : Place) (words : List (List ℕ)) (front : Fr
 
   pub reading_on : (step : Step) (next : Place) (used : ℕ) (longer : List Step) (rest : List (List ℕ)) (answer : Result Target WordsFault)
       → front ≡ Level step next used → longer ≡ path ++ step ∷ [] → used < length words → rest ≡ drop used words
-      → IsReading longer next rest answer → IsReading path here words answer
+      → IsReadingOf longer next rest answer → IsReadingOf path here words answer
   reading_on step next used longer rest answer e f more g r =
       on step next used (subst (λ (x : Front). IsFront here words x) e is_front) more answer
-      (subst (λ (p : List Step). IsReading p next (drop used words) answer) f
-      (subst (λ (ws : List (List ℕ)). IsReading longer next ws answer) g r))
+      (subst (λ (p : List Step). IsReadingOf p next (drop used words) answer) f
+      (subst (λ (ws : List (List ℕ)). IsReadingOf longer next ws answer) g r))
 
 level_used : (s t : Step) (p q : Place) (m n : ℕ) → Level s p m ≡ Level t q n → m ≡ n
 level_used s t p q m n e = cc

@@ -16,7 +16,7 @@ use Rattle.cfg_tree.specs.Statements.{Statements, size_of, parent_of, last_of, i
 use Rattle.cfg_tree.specs.Shown.{shown}
 use Rattle.cfg_tree.specs.Typed.{IsTypedPath, AreWordsOf}
 use Rattle.cfg_tree.specs.Tree.{ordered_head, step_of, lists, IsOrderBy, IsOrderOf, IsTree}
-use Rattle.cfg_tree.specs.Change.{with_order, has_head, is_ordered, put_last, put_at, cleared, Fits, IsReady}
+use Rattle.cfg_tree.specs.Change.{with_order, has_head, is_ordered, put_last, put_at, cleared, FitsProfile, IsReady}
 use Rattle.cfg_tree.specs.Moving.{IsNewName, Moves, part_of, placed, with_part, in_place, copied, renamed, names_copied, names_renamed}
 use Rattle.cfg_tree.proofs.PathLemmas.{split, same_ends, same_or_not, child_differs, order_at, order_other}
 use Rattle.cfg_tree.proofs.PathLemmas as path
@@ -175,7 +175,7 @@ module _ (m : Statements) (from to : List Step) (tree : IsTree m) (new : IsNewNa
       ready : IsReady m to value
       ready = new_ready m to value tree.statements new.typed parent new.none refl (λ here e. (words here e).0)
 
-      fit : Fits to value
+      fit : FitsProfile to value
       fit = record { typed = new.typed; words = words }
 
       left : Puts m put to value (is_none (map.get m to) && is_ordered to)

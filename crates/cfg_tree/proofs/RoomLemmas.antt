@@ -54,7 +54,7 @@ almost m path value tree ready = record {
   bare = ready.bare;
 }
 
-pub put_tree : (m n : Statements) (path : List Step) (value : Value) → IsTree m → IsReady m path value → change.Fits path value
+pub put_tree : (m n : Statements) (path : List Step) (value : Value) → IsTree m → IsReady m path value → change.FitsProfile path value
     → (map.get m path ≡ None → size_of m < MAX_STATEMENTS) → n ≡ put_at m path value → IsTree n
 put_tree m n path value tree ready fits room e =
     subst (λ (x : Statements). IsTree x) (sym e) record {

@@ -21,7 +21,7 @@ use Rattle.cfg_tree.specs.declared.limit.TheConstants.{MAX_STATEMENTS}
 use Rattle.cfg_tree.specs.Statements.{Statements, size_of, parent_of, last_of, HasParent}
 use Rattle.cfg_tree.specs.Typed.{AreCounted, AreCanonical, AreWordsOf}
 use Rattle.cfg_tree.specs.Tree.{IsStatementMap, IsTyped, IsTree}
-use Rattle.cfg_tree.specs.Change.{with_order, put_last, put_at, is_ordered, IsReady, Fits}
+use Rattle.cfg_tree.specs.Change.{with_order, put_last, put_at, is_ordered, IsReady, FitsProfile}
 use Rattle.cfg_tree.specs.Children.{order_in}
 use Rattle.cfg_tree.specs.Gather.{is_many, has_many, is_many_at, words_of_both, joined_at, gathered, gathered_one, gathered_from_none}
 use Rattle.cfg_tree.specs.Limit.{paths_of, different}
@@ -212,7 +212,7 @@ words_joined path here old new e h k =
     (words_by (row_of here.row).shape (row_of here.row).value_kind old new h k)
 
 -- what is said is of the profile, joined to what is there
-pub fits_joined : (m : Statements) (item : Pair Value) → IsTyped m → Fits item.0 item.1 → Fits item.0 (joined_at item.0 (map.get m item.0) item.1)
+pub fits_joined : (m : Statements) (item : Pair Value) → IsTyped m → FitsProfile item.0 item.1 → FitsProfile item.0 (joined_at item.0 (map.get m item.0) item.1)
 fits_joined m item typed fits = record { typed = fits.typed; words = λ here e. by_value here e _ refl }
   where
     by_value : (here : Place) → place_of item.0 ≡ Some here → (o : Option Value) → map.get m item.0 ≡ o → AreWordsOf here.row (joined_at item.0 o item.1).words

@@ -10,7 +10,7 @@ use Rattle.cfg_tree.specs.declared.reorder.Change.TheVariants.{Last, Without}
 use Rattle.cfg_tree.specs.declared.reorder.Reorder.{Reorder}
 use Rattle.cfg_tree.specs.Statements.{Statements, size_of, parent_of, last_of, is_below}
 use Rattle.cfg_tree.specs.Change.{with_order, with_order_of, is_ordered, put_last, without, listed, put_at, cleared, removed}
-use Rattle.cfg_tree.specs.Renaming.{changed, IsReorderBy, IsListing, reordered_by}
+use Rattle.cfg_tree.specs.Renaming.{changed_names, IsReorderBy, IsListedAs, reordered_by}
 use Rattle.cfg_tree.proofs.MapLemmas.{path_same}
 use Rattle.cfg_tree.proofs.PathLemmas.{split, child_differs, get_here, get_other, renamed, order_at, order_other}
 use Rattle.cfg_tree.proofs.BelowLemmas.{parent_apart}
@@ -82,24 +82,24 @@ reorder_some n parent f v names e is_names =
 
 pub reorder_done : (m n : Statements) (path : List Step) (change : Change) (r : Option Reorder) (b : Bool)
     → IsReorderBy b m path change r → map.get n (parent_of path) ≡ map.get m (parent_of path)
-    → reordered_by r n ≡ (if b then with_order n (parent_of path) (changed change (last_of path).name) else n)
+    → reordered_by r n ≡ (if b then with_order n (parent_of path) (changed_names change (last_of path).name) else n)
 reorder_done m n path change r false e same_parent = ap (λ (x : Option Reorder). reordered_by x n) e
 reorder_done m n path change None true e same_parent =
-    sym (ap (with_order_of n (parent_of path) (changed change (last_of path).name)) (same_parent ∙ e))
+    sym (ap (with_order_of n (parent_of path) (changed_names change (last_of path).name)) (same_parent ∙ e))
 reorder_done m n path change (Some r) true e same_parent =
     ap (λ (x : List Step). with_order n x (λ _. r.order)) e.parent_is
-    ∙ reorder_some n (parent_of path) (changed change (last_of path).name) e.value r.order (same_parent ∙ e.found) e.order_is
+    ∙ reorder_some n (parent_of path) (changed_names change (last_of path).name) e.value r.order (same_parent ∙ e.found) e.order_is
 
 -- a put as the code makes it
 pub stored : (m n : Statements) (path : List Step) (value : Value) (new : Bool) (r : Option Reorder) → 0 < length path
-    → new ≡ is_none (map.get m path) → IsListing new m path r → n ≡ map.insert m path value → reordered_by r n ≡ put_at m path value
+    → new ≡ is_none (map.get m path) → IsListedAs new m path r → n ≡ map.insert m path value → reordered_by r n ≡ put_at m path value
 stored m n path value new r long is_new listing e =
     ap (reordered_by r) e ∙ by_new new listing ∙ ap (λ (b : Bool). listed b (map.insert m path value) path) is_new
   where
     parent_same : map.get (map.insert m path value) (parent_of path) ≡ map.get m (parent_of path)
     parent_same = get_other m path (parent_of path) value (λ e. differs_from_parent path long (sym e))
 
-    by_new : (b : Bool) → IsListing b m path r → reordered_by r (map.insert m path value) ≡ listed b (map.insert m path value) path
+    by_new : (b : Bool) → IsListedAs b m path r → reordered_by r (map.insert m path value) ≡ listed b (map.insert m path value) path
     by_new true l = reorder_done m _ path Last r _ l parent_same
     by_new false l = ap (λ (x : Option Reorder). reordered_by x (map.insert m path value)) l
 

@@ -27,7 +27,7 @@ use Rattle.cfg_tree.specs.declared.target.Target.{Target}
 use Rattle.cfg_tree.specs.declared.target.WordsFault.{WordsFault}
 use Rattle.cfg_tree.specs.Typed.{IsNamed, IsTypedPath, AreCanonical}
 use Rattle.cfg_tree.specs.Tree.{step_of}
-use Rattle.cfg_tree.specs.Resolve.{first_of, IsNamedLevel, IsLeafWord, AllSpelled, IsStatement, IsBegun, IsFront, IsReading, Reads, no_words, refused, whole, ended, goes_on, target, ResolvesTo, AreGiven, IsTargetBelow, IsLevelPath}
+use Rattle.cfg_tree.specs.Resolve.{first_of, IsNamedLevel, IsLeafWord, AllSpelled, IsStatement, IsBegun, IsFront, IsReadingOf, Reads, no_words, refused, whole, ended, goes_on, target, ResolvesTo, AreGiven, IsTargetBelow, IsLevelPath}
 use Rattle.cfg_tree.proofs.TypedLemmas.{place_snoc, follows_snoc}
 use Rattle.cfg_tree.proofs.FollowLemmas.{typed_place}
 use Rattle.cfg_tree.proofs.NameLemmas.{name_again, name_no_head}
@@ -343,7 +343,7 @@ resolved_target level words found is_level r =
 
 -- the same of what is read from a level on
 pub reading_target : (level steps path : List Step) (here : Place) (words : List (List ℕ)) (answer : Result Target WordsFault) → IsTypedPath level
-    → steps ≡ level → Some here ≡ place_of steps → path ≡ level → IsReading path here words answer → IfOk answer (λ found. IsTargetBelow level found)
+    → steps ≡ level → Some here ≡ place_of steps → path ≡ level → IsReadingOf path here words answer → IfOk answer (λ found. IsTargetBelow level found)
 reading_target level steps path here words (Ok found) typed e placed f r =
     target_of level here words (Ok found) (subst (λ (p : List Step). Reads p here words (Ok found)) f r) found refl typed
     (ap (λ (p : List Step). place_of p) (sym e) ∙ sym placed)

@@ -14,7 +14,7 @@ use Rattle.cfg_schema.specs.Place.{has_words}
 use Rattle.cfg_schema.proofs.LevelLemmas.{led_to}
 use Rattle.cfg_tree.specs.Statements.{parent_of, last_of, no_step}
 use Rattle.cfg_tree.specs.Typed.{IsNamed, IsNameBy, FollowsFrom, IsTypedPath, IsRight, AreWordsOf}
-use Rattle.cfg_tree.specs.Change.{Fits, IsAlmostFit}
+use Rattle.cfg_tree.specs.Change.{FitsProfile, IsAlmostFit}
 use Rattle.cfg_tree.proofs.PathLemmas.{split}
 
 some_same : {A : Type 0} (x y : A) → Some x ≡ Some y → x ≡ y
@@ -111,7 +111,7 @@ module _ (path : List Step) (value : Value) (almost : IsAlmostFit path value) wh
 
   -- the path and the value fit, where the name and the words are of the row's kinds
   pub right_fits : (here next : Place) → place_of (parent_of path) ≡ Some here → place_after here (last_of path) ≡ Some next
-      → IsRight (row_of next.row) here.in_group (last_of path).name value.words → Fits path value
+      → IsRight (row_of next.row) here.in_group (last_of path).name value.words → FitsProfile path value
   right_fits here next e f right = record {
     typed = subst (λ (p : List Step). IsTypedPath p) (sym (split path almost.steps))
         (follows_snoc (parent_of path) (last_of path) top_place here next almost.parent e f
@@ -123,7 +123,7 @@ module _ (path : List Step) (value : Value) (almost : IsAlmostFit path value) wh
 
   -- and only there
   pub fits_right : (here next : Place) → place_of (parent_of path) ≡ Some here → place_after here (last_of path) ≡ Some next
-      → Fits path value → IsRight (row_of next.row) here.in_group (last_of path).name value.words
+      → FitsProfile path value → IsRight (row_of next.row) here.in_group (last_of path).name value.words
   fits_right here next e f fit = (
     name_of_named here next.row _ (last_of path).name
         (follows_last (parent_of path) (last_of path) top_place here next
@@ -161,14 +161,14 @@ module _ (path : List Step) (value : Value) (almost : IsAlmostFit path value) (a
     by_last : place_after here (last_of path) ≡ Some next
     by_last = sym (ap (λ (s : Step). place_after here s) is_last) ∙ f
 
-    pub good_path : IsRight row here.in_group last.name words → Fits path value
+    pub good_path : IsRight row here.in_group last.name words → FitsProfile path value
     good_path right =
         right_fits path value almost here next from_parent by_last
         (subst (λ (r : Row). IsRight r here.in_group (last_of path).name value.words) is_row
         (subst (λ (s : Step). IsRight row here.in_group s.name value.words) is_last
         (subst (λ (ws : List (List ℕ)). IsRight row here.in_group last.name ws) is_words right)))
 
-    pub bad_path : ¬ (IsRight row here.in_group last.name words) → IsSome (place_of path) × ¬ (Fits path value)
+    pub bad_path : ¬ (IsRight row here.in_group last.name words) → IsSome (place_of path) × ¬ (FitsProfile path value)
     bad_path wrong = (
       ap (λ (o : Option Place). is_some o) (place_by path value almost here next from_parent by_last),
       λ fit. wrong

@@ -20,7 +20,7 @@ use Rattle.cfg_tree.specs.declared.target.Target.{Target}
 use Rattle.cfg_tree.specs.declared.target.WordsFault.{WordsFault}
 use Rattle.cfg_tree.specs.declared.target.WordsFault.TheVariants.{Unknown, BadValue, Incomplete, Extra, NoMemory}
 use Rattle.cfg_tree.specs.Tree.{step_of}
-use Rattle.cfg_tree.specs.Resolve.{first_of, IsNamedLevel, IsLeafWord, AllSpelled, AreManyWords, IsStatement, IsBegun, IsFront, IsReading, Reads, no_words, refused, whole, ended, goes_on, fault_of, target, ResolvesTo, IsLevelPath}
+use Rattle.cfg_tree.specs.Resolve.{first_of, IsNamedLevel, IsLeafWord, AllSpelled, AreManyWords, IsStatement, IsBegun, IsFront, IsReadingOf, Reads, no_words, refused, whole, ended, goes_on, fault_of, target, ResolvesTo, IsLevelPath}
 use Rattle.cfg_tree.proofs.FollowLemmas.{typed_place}
 use Rattle.cfg_tree.proofs.NameLemmas.{name_unique}
 
@@ -178,7 +178,7 @@ Reads-unique _ _ _ _ (goes_on path here next words step used answer some front m
 
 -- an answer other than for want of memory is read
 reads_of : (path : List Step) (here : Place) (words : List (List ℕ)) (answer : Result Target WordsFault) → answer ≢ Err NoMemory
-    → IsReading path here words answer → Reads path here words answer
+    → IsReadingOf path here words answer → Reads path here words answer
 reads_of path here words (Ok found) some r = r
 reads_of path here words (Err (Unknown at)) some r = r
 reads_of path here words (Err (BadValue at)) some r = r

@@ -68,7 +68,7 @@ pub record IsReady (m : Statements) (path : List Step) (value : Value) : Type 0 
       → IsNoHead here.row here.in_group (last_of path).name
 
 -- the path and the value are of the profile
-pub record Fits (path : List Step) (value : Value) : Type 0 where
+pub record FitsProfile (path : List Step) (value : Value) : Type 0 where
   pub typed : IsTypedPath path
   pub words : (here : Place) → place_of path ≡ Some here → AreWordsOf here.row value.words
 
@@ -83,7 +83,7 @@ pub record IsAlmostFit (path : List Step) (value : Value) : Type 0 where
 -- which of it fails
 abbrev pub IsFitFault : List Step → Value → TreeFault → Type 0
 IsFitFault path value (Unknown refused) = (refused ≡ path) × (place_of path ≡ None)
-IsFitFault path value (BadValue refused) = (refused ≡ path) × IsSome (place_of path) × ¬ (Fits path value)
+IsFitFault path value (BadValue refused) = (refused ≡ path) × IsSome (place_of path) × ¬ (FitsProfile path value)
 IsFitFault path value TooMany = ⊥
 IsFitFault path value NoMemory = Unit {0}
 
@@ -91,8 +91,8 @@ IsFitFault path value NoMemory = Unit {0}
 -- of its kind, and one statement more would be too many
 abbrev pub IsPutFault : Statements → List Step → Value → TreeFault → Type 0
 IsPutFault m path value (Unknown refused) = (refused ≡ path) × (place_of path ≡ None)
-IsPutFault m path value (BadValue refused) = (refused ≡ path) × IsSome (place_of path) × ¬ (Fits path value)
-IsPutFault m path value TooMany = Fits path value × (map.get m path ≡ None) × (size_of m ≡ MAX_STATEMENTS)
+IsPutFault m path value (BadValue refused) = (refused ≡ path) × IsSome (place_of path) × ¬ (FitsProfile path value)
+IsPutFault m path value TooMany = FitsProfile path value × (map.get m path ≡ None) × (size_of m ≡ MAX_STATEMENTS)
 IsPutFault m path value NoMemory = Unit {0}
 
 -- whether a path is new, and there is room for it where it is; or there is none
@@ -103,7 +103,7 @@ HasRoom m path (Err _) = ⊥
 
 -- what a put gives: the value stands at the path, which adds a statement only where there is room
 pub record IsPut (m n : Statements) (path : List Step) (value : Value) : Type 0 where
-  pub fits : Fits path value
+  pub fits : FitsProfile path value
   pub room : map.get m path ≡ None → size_of m < MAX_STATEMENTS
   pub put : n ≡ put_at m path value
 
@@ -113,4 +113,4 @@ pub record IsOther (m : Statements) (path : List Step) (value : Value) : Type 0 
   pub old : Value
   pub found : map.get m path ≡ Some old
   pub order : value.order ≡ old.order
-  pub fits : Fits path value
+  pub fits : FitsProfile path value

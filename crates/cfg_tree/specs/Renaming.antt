@@ -10,16 +10,16 @@ use Rattle.cfg_tree.specs.Statements.{Statements, parent_of, last_of}
 use Rattle.cfg_tree.specs.Change.{with_order, is_ordered, put_last, without}
 
 -- the names after a change
-abbrev pub changed : Change → List ℕ → List (List ℕ) → List (List ℕ)
-changed Last name names = put_last name names
-changed Without name names = without name names
+abbrev pub changed_names : Change → List ℕ → List (List ℕ) → List (List ℕ)
+changed_names Last name names = put_last name names
+changed_names Without name names = without name names
 
 -- the parent's new order, where the parent is there
 pub record HasOrder (m : Statements) (parent : List Step) (name : List ℕ) (change : Change) (reorder : Reorder) : Type 0 where
   pub parent_is : reorder.parent ≡ parent
   pub value : Value
   pub found : map.get m parent ≡ Some value
-  pub order_is : reorder.order ≡ changed change name value.order
+  pub order_is : reorder.order ≡ changed_names change name value.order
 
 abbrev pub IsOrderOfParent : Statements → List Step → List ℕ → Change → Option Reorder → Type 0
 IsOrderOfParent m parent name change None = map.get m parent ≡ None
@@ -33,9 +33,9 @@ IsReorderBy false m path change reorder = reorder ≡ None
 abbrev pub IsReorder : Statements → List Step → Change → Option Reorder → Type 0
 IsReorder m path change reorder = IsReorderBy (is_ordered path) m path change reorder
 
-abbrev pub IsListing : Bool → Statements → List Step → Option Reorder → Type 0
-IsListing true m path reorder = IsReorder m path Last reorder
-IsListing false m path reorder = reorder ≡ None
+abbrev pub IsListedAs : Bool → Statements → List Step → Option Reorder → Type 0
+IsListedAs true m path reorder = IsReorder m path Last reorder
+IsListedAs false m path reorder = reorder ≡ None
 
 -- the statements after the change
 abbrev pub reordered_by : Option Reorder → Statements → Statements

@@ -167,17 +167,17 @@ pub data Reads : List Step → Place → List (List ℕ) → Result Target Words
       → Reads (path ++ step ∷ []) next (drop used words) answer → Reads path here words answer
 
 -- what the words say, or that memory was wanting
-abbrev pub IsReading : List Step → Place → List (List ℕ) → Result Target WordsFault → Type 0
-IsReading path here words (Ok found) = Reads path here words (Ok found)
-IsReading path here words (Err (Unknown at)) = Reads path here words (Err (Unknown at))
-IsReading path here words (Err (BadValue at)) = Reads path here words (Err (BadValue at))
-IsReading path here words (Err (Incomplete at)) = Reads path here words (Err (Incomplete at))
-IsReading path here words (Err (Extra at)) = Reads path here words (Err (Extra at))
-IsReading path here words (Err NoMemory) = Unit {0}
+abbrev pub IsReadingOf : List Step → Place → List (List ℕ) → Result Target WordsFault → Type 0
+IsReadingOf path here words (Ok found) = Reads path here words (Ok found)
+IsReadingOf path here words (Err (Unknown at)) = Reads path here words (Err (Unknown at))
+IsReadingOf path here words (Err (BadValue at)) = Reads path here words (Err (BadValue at))
+IsReadingOf path here words (Err (Incomplete at)) = Reads path here words (Err (Incomplete at))
+IsReadingOf path here words (Err (Extra at)) = Reads path here words (Err (Extra at))
+IsReadingOf path here words (Err NoMemory) = Unit {0}
 
 -- what the words say below a level
 abbrev pub ResolvesTo : List Step → List (List ℕ) → Result Target WordsFault → Type 0
-ResolvesTo level words answer = (here : Place) → place_of level ≡ Some here → IsReading level here words answer
+ResolvesTo level words answer = (here : Place) → place_of level ≡ Some here → IsReadingOf level here words answer
 
 -- the top, or a level that a typed map may have
 pub record IsLevelPath (level : List Step) : Type 0 where

@@ -6,7 +6,7 @@ use Rattle.cfg_base.specs.Order.{path_cmp}
 use Rattle.cfg_base.specs.declared.value.Value.{Value}
 use Rattle.cfg_entries.specs.EntryMap.{Pair}
 use Rattle.cfg_tree.specs.Statements.{Statements, HasParent}
-use Rattle.cfg_tree.specs.Change.{put_at, Fits}
+use Rattle.cfg_tree.specs.Change.{put_at, FitsProfile}
 use Rattle.cfg_tree.specs.Gather.{joined_at}
 pub use Rattle.cfg_tree.specs.Limit.{paths_of, different, IsPathPast}
 
@@ -27,7 +27,7 @@ stated_from_none items = stated (finite.empty {R = path_cmp}) items
 -- as they are said.
 pub record IsSaid (m : Statements) (item : Pair Value) : Type 0 where
   pub parent : HasParent m item.0
-  pub fits : Fits item.0 item.1
+  pub fits : FitsProfile item.0 item.1
   pub order : item.1.order ≡ []
 
 -- each of these may be said when its turn comes

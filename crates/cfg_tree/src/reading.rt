@@ -10,7 +10,7 @@ ghost use Rattle.cfg_schema.specs.Place.{place_of, entered};
 ghost use Rattle.cfg_values.specs.Spelling.{IsSpelling, IsCanonicalOf};
 ghost use Rattle.cfg_tree.specs.Typed.{IsNameOf};
 ghost use Rattle.cfg_tree.specs.Tree.{step_of};
-ghost use Rattle.cfg_tree.specs.Resolve.{first_of, IsNamedLevel, IsLeafWord, AreManyWords, IsStatementOf, SpelledAll, IsBadName, IsBegun, IsFront, IsReading, ResolvesTo, IsTargetBelow, fault_of, IsLevelPath, NamedBy, SpelledBy};
+ghost use Rattle.cfg_tree.specs.Resolve.{first_of, IsNamedLevel, IsLeafWord, AreManyWords, IsStatementOf, SpelledAll, IsBadName, IsBegun, IsFront, IsReadingOf, ResolvesTo, IsTargetBelow, fault_of, IsLevelPath, NamedBy, SpelledBy};
 
 use crate::front::{Front, Why};
 use crate::target::{Target, WordsFault};
@@ -238,7 +238,7 @@ fn longer(path: &Path, step: Step) -> Result<Path, NoMemory>
 
 fn read_on(alloc: Global, path: Path, here: Place, words: &[Word]) -> Result<Target, WordsFault>
     requires { place_of path ≡ Some here }
-    ensures { IsReading path here words.now result }
+    ensures { IsReadingOf path here words.now result }
 {
     if words.is_empty() {
         return Err(WordsFault::Incomplete(path));

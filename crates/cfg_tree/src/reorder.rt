@@ -7,7 +7,7 @@ ghost use Rattle.cfg_schema.specs.Place.{place_of};
 ghost use Rattle.cfg_tree.specs.Shown.{shown};
 ghost use Rattle.cfg_tree.specs.Tree.{ordered_head};
 ghost use Rattle.cfg_tree.specs.Change.{has_head, is_ordered, without, put_last};
-ghost use Rattle.cfg_tree.specs.Renaming.{changed, IsOrderOfParent, IsReorder, IsListing, reordered_by};
+ghost use Rattle.cfg_tree.specs.Renaming.{changed_names, IsOrderOfParent, IsReorder, IsListedAs, reordered_by};
 
 use crate::store::{Entries, set_order};
 use cfg_base::{NoMemory, Path, Step, Word, WordList};
@@ -93,7 +93,7 @@ fn without(order: &WordList, name: &Word) -> Result<WordList, NoMemory>
 }
 
 fn changed(change: Change, order: &WordList, name: &Word) -> Result<WordList, NoMemory>
-    ensures { IfOk result (λ names. names ≡ changed change name.now order.now) }
+    ensures { IfOk result (λ names. names ≡ changed_names change name.now order.now) }
 {
     match change {
         Change::Last => with_last(order, name),
@@ -141,7 +141,7 @@ pub fn listing_of(
     path: &Path,
     new: bool,
 ) -> Result<Option<Reorder>, NoMemory>
-    ensures { IfOk result (λ reorder. IsListing new (shown entries.now) path.now reorder) }
+    ensures { IfOk result (λ reorder. IsListedAs new (shown entries.now) path.now reorder) }
 {
     if new {
         reorder_of(alloc, entries, path, Change::Last)

@@ -4,7 +4,7 @@ ghost use Rattle.std.specs.Prelude.{◌≡◌, ◌<◌, length, IfOk, IfErr, OnO
 ghost use Rattle.cfg_schema.specs.Place.{place_of, place_after, and_then};
 ghost use Rattle.cfg_values.specs.Spelling.{IsCanonical};
 ghost use Rattle.cfg_tree.specs.Typed.{IsOpenKind, IsName, IsNameBy, IsRight, AreCanonical};
-ghost use Rattle.cfg_tree.specs.Change.{Fits, IsAlmostFit, IsFitFault};
+ghost use Rattle.cfg_tree.specs.Change.{FitsProfile, IsAlmostFit, IsFitFault};
 
 use crate::fault::TreeFault;
 use cfg_base::{Kind, NoMemory, Path, Shape, Step, Value, Word, WordList};
@@ -98,7 +98,7 @@ fn is_right(
 /// Tells that a path and a value are of the profile, where they are.
 pub fn check(alloc: Global, path: &Path, value: &Value) -> Result<(), TreeFault>
     requires { IsAlmostFit path.now value.now }
-    ensures ok { OnOk result (Fits path.now value.now) }
+    ensures ok { OnOk result (FitsProfile path.now value.now) }
     ensures err { IfErr result (λ fault. IsFitFault path.now value.now fault) }
 {
     let steps = path.steps();

@@ -11,11 +11,11 @@ use Rattle.std.specs.BTreeSet.{BTreeSet, contains}
 use Rattle.cfg_base.specs.Order.{word_cmp}
 use Rattle.cfg_base.specs.Words.{same_word, lists, Knows}
 use Rattle.clap.specs.Words.{Text}
-use Rattle.command_line.specs.Asked.{AreSessions, IsSession, file_in, user_in}
+use Rattle.command_line.specs.Asked.{AreSessions, IsSessionWord, file_in, user_in}
 
 -- the first words are sessions, with these users and files
 pub record Reads (words : List Text) (at : ℕ) (users files : List Text) (known : BTreeSet (List ℕ)) : Type 0 where
-  pub each : All IsSession (take at words)
+  pub each : All IsSessionWord (take at words)
   pub users_read : users ≡ map user_in (take at words)
   pub files_read : files ≡ map file_in (take at words)
   pub knows : Knows files known
@@ -99,8 +99,8 @@ module _ (words : List Text) (at : ℕ) (users files : List Text) (known : BTree
       ap (map file_in) (cut_at words at d less) ∙ map_cut file_in (take at words) (drop (suc at) words) (get_or words at d)
       ∙ ap₂ (λ fs w. fs ++ file_in w ∷ map file_in (drop (suc at) words)) (sym read.files_read) (sym is_word)
 
-  pub no_session : (IsSession word → ⊥) → AreSessions words → ⊥
-  no_session none are = none (subst IsSession (sym is_word) (are.each at d less))
+  pub no_session : (IsSessionWord word → ⊥) → AreSessions words → ⊥
+  no_session none are = none (subst IsSessionWord (sym is_word) (are.each at d less))
 
   pub no_new_file : (file : Text) → file ≡ file_in word → contains word_cmp known file ≡ true → AreSessions words → ⊥
   no_new_file file is found are =
@@ -113,18 +113,18 @@ module _ (words : List Text) (at : ℕ) (users files : List Text) (known : BTree
   push_map : (f : Text → Text) (so_far : List Text) (x : Text) → so_far ≡ map f (take at words) → x ≡ f word → so_far ++ x ∷ [] ≡ map f (take (at + 1) words)
   push_map f so_far x is e = ap₂ (λ xs y. xs ++ y ∷ []) is e ∙ sym (map_cut f (take at words) [] word) ∙ ap (map f) (sym next)
 
-  one_read : (after : BTreeSet (List ℕ)) (user file : Text) → IsSession word → user ≡ user_in word → file ≡ file_in word → contains word_cmp known file ≡ false
+  one_read : (after : BTreeSet (List ℕ)) (user file : Text) → IsSessionWord word → user ≡ user_in word → file ≡ file_in word → contains word_cmp known file ≡ false
       → ((other : List ℕ) → contains word_cmp after other ≡ (same_word other file || contains word_cmp known other))
       → Reads words (at + 1) (users ++ user ∷ []) (files ++ file ∷ []) after
   one_read after user file is user_is file_is fresh knows = record {
-    each = subst (All IsSession) (sym next) (All-push IsSession (take at words) word read.each is);
+    each = subst (All IsSessionWord) (sym next) (All-push IsSessionWord (take at words) word read.each is);
     users_read = push_map user_in users user read.users_read user_is;
     files_read = push_map file_in files file read.files_read file_is;
     knows = λ other. knows other ∙ ap (λ b. same_word other file || b) (read.knows other) ∙ sym (any_push (same_word other) files file);
     once = IsDistinct-push words_equiv files file read.once (sym (read.knows file) ∙ fresh);
   }
 
-  pub one_more_read : (users_now files_now : List Text) (after : BTreeSet (List ℕ)) (user file : Text) → IsSession word → user ≡ user_in word
+  pub one_more_read : (users_now files_now : List Text) (after : BTreeSet (List ℕ)) (user file : Text) → IsSessionWord word → user ≡ user_in word
       → file ≡ file_in word → contains word_cmp known file ≡ false
       → ((other : List ℕ) → contains word_cmp after other ≡ (same_word other file || contains word_cmp known other))
       → users_now ≡ users ++ user ∷ [] → files_now ≡ files ++ file ∷ [] → Reads words (at + 1) users_now files_now after

@@ -35,7 +35,7 @@ user_in word = before_first (λ b. b == 58) word
 abbrev pub file_in : Text → Text
 file_in word = after_first (λ b. b == 58) word
 
-pub record IsSession (word : Text) : Type 0 where
+pub record IsSessionWord (word : Text) : Type 0 where
   pub colon : word ≡ user_in word ++ 58 ∷ file_in word
   pub user : IsName (user_in word)
   pub file : 0 < length (file_in word)
@@ -43,7 +43,7 @@ pub record IsSession (word : Text) : Type 0 where
 
 -- at most 64 session words, whose files are all different
 pub record AreSessions (words : List Text) : Type 0 where
-  pub each : All IsSession words
+  pub each : All IsSessionWord words
   pub few : length words ≤ 64
   pub once : IsDistinct same_word (map file_in words)
 

@@ -3,7 +3,7 @@
 ghost use Rattle.std.specs.Prelude.{◌≡◌, map, IfOk, IsErrOf};
 ghost use Rattle.std.specs.List.{IsDistinct};
 ghost use Rattle.cfg_base.specs.Kind.{IsName};
-ghost use Rattle.command_line.specs.Asked.{AreSessions, IsSession, file_in, user_in};
+ghost use Rattle.command_line.specs.Asked.{AreSessions, IsSessionWord, file_in, user_in};
 ghost use Rattle.command_line.specs.declared.usage.Usage.TheVariants.{Refused};
 
 use crate::usage::Usage;
@@ -37,8 +37,8 @@ pub(crate) fn user_named(alloc: Global, name: &str) -> Result<UserName, Usage>
 
 /// The session of a session word.
 fn read_session(alloc: Global, word: &str) -> Result<Session, Usage>
-    ensures ok { IfOk result (λ session. IsSession word.now × (session.user ≡ user_in word.now) × (session.file ≡ file_in word.now)) }
-    ensures refused { IsErrOf result Refused → IsSession word.now → ⊥ }
+    ensures ok { IfOk result (λ session. IsSessionWord word.now × (session.user ≡ user_in word.now) × (session.file ≡ file_in word.now)) }
+    ensures refused { IsErrOf result Refused → IsSessionWord word.now → ⊥ }
 {
     let (user, file) = word.split_once(':').ok_or(Usage::Refused)?;
     if file.is_empty() {

@@ -1,7 +1,7 @@
 -- What two files spell that were just made.
 use Rattle.std.proofs.Common.{◌≡◌, ◌≤◌, ◌<◌, ◌⊎◌, inl, inr, ℕ, ◌+◌, ◌-◌, ◌%◌, ◌^◌, ◌==◌, true, false, cond, List, [], ◌∷◌, ◌++◌, length, get_or, refl, sym, ◌∙◌, ap, subst, arith, length-append}
 use Rattle.std.proofs.lemmas.List.{get_or-append_right, get_or_append_left}
-use Rattle.disk_model.specs.Disk.{GoesOn, History, State, contents_of, put}
+use Rattle.disk_model.specs.Disk.{DiskGoesOn, History, DiskState, contents_of, put}
 use Rattle.disk_model.proofs.Images.{put_same, put_other, put_no_shorter}
 use Rattle.disk_model.proofs.States.{length-put}
 use Rattle.record_code.specs.Record.{Record, IsSound, body, gated}
@@ -126,12 +126,12 @@ made_chosen a a0 b b0 image bytes r sound is image_is a_is b_is =
     (made_pair a b a0 (put 0 (front_a ++ bytes) a0) b0 bytes r sound is refl (a_is ∙ ap (λ (l : List ℕ). put 16 (1 ∷ []) (put 0 l a0)) image_is) b_is).chosen
 
 -- a file on which A was made has its record
-module _ (a a' : History) (entry : List ℕ) (r : Record) (sound : IsSound r) (is : entry ≡ gated (body 0 r)) (goes : GoesOn a (making (head_a ++ entry)) a') where
+module _ (a a' : History) (entry : List ℕ) (r : Record) (sound : IsSound r) (is : entry ≡ gated (body 0 r)) (goes : DiskGoesOn a (making (head_a ++ entry)) a') where
   image_is : head_a ++ entry ≡ front_a ++ body 0 r
   image_is = ap (λ (l : List ℕ). head_a ++ l) is
 
   contents_made : contents_of a' ≡ put 16 (1 ∷ []) (put 0 (head_a ++ entry) (contents_of a))
-  contents_made = ap (λ (s : State). s.contents) (goes_state a a' (making (head_a ++ entry)) goes)
+  contents_made = ap (λ (s : DiskState). s.contents) (goes_state a a' (making (head_a ++ entry)) goes)
 
   pub made_settled : IsSettled a' (r ∷ []) (16 + length entry)
   made_settled =
@@ -139,18 +139,18 @@ module _ (a a' : History) (entry : List ℕ) (r : Record) (sound : IsSound r) (i
       record {
         spells = subst (λ (n : ℕ). Spells (contents_of a') (r ∷ []) n) gate
             (made_file (contents_of a') (contents_of a) (head_a ++ entry) (body 0 r) r sound refl image_is contents_made);
-        quiet = λ k. ap (λ (s : State). s.pending k) (goes_state a a' (making (head_a ++ entry)) goes);
+        quiet = λ k. ap (λ (s : DiskState). s.pending k) (goes_state a a' (making (head_a ++ entry)) goes);
       }
 
-  made_is_chosen : (b b' : History) → GoesOn b making_b b' → IsChosen false (contents_of a') (contents_of b')
+  made_is_chosen : (b b' : History) → DiskGoesOn b making_b b' → IsChosen false (contents_of a') (contents_of b')
   made_is_chosen b b' goes_b =
       made_chosen (contents_of a') (contents_of a) (contents_of b') (contents_of b) (head_a ++ entry) (body 0 r) r sound refl image_is contents_made
-      (ap (λ (s : State). s.contents) (goes_state b b' making_b goes_b))
+      (ap (λ (s : DiskState). s.contents) (goes_state b b' making_b goes_b))
 
   -- and so has the journal on it and on B
-  pub made_rests : (b b' : History) → GoesOn b making_b b' → Rests false a' b' (16 + length entry) (r ∷ [])
+  pub made_rests : (b b' : History) → DiskGoesOn b making_b b' → Rests false a' b' (16 + length entry) (r ∷ [])
   made_rests b b' goes_b = record {
     settled = made_settled;
-    other_quiet = λ k. ap (λ (s : State). s.pending k) (goes_state b b' making_b goes_b);
+    other_quiet = λ k. ap (λ (s : DiskState). s.pending k) (goes_state b b' making_b goes_b);
     chosen = made_is_chosen b b' goes_b;
   }

@@ -1,6 +1,6 @@
 -- What calls left of a file, from those that were made.
 use Rattle.std.proofs.Common.{◌≡◌, ◌≤◌, inl, inr, ℕ, IsTrue, List, [], ◌∷◌, ◌++◌, length, true, sym, subst, ap, ◌∙◌, arith}
-use Rattle.disk_model.specs.Disk.{Call, Called, DiskView, GoesOn, History, MadePart, MaySync, State, Sync, Write, after, at_first, contents_of, state_of}
+use Rattle.disk_model.specs.Disk.{Call, Called, DiskView, DiskGoesOn, History, MadePart, MaySync, DiskState, Sync, Write, after, at_first, contents_of, state_of}
 use Rattle.disk_model.proofs.States.{after-append, length-put, state_called}
 use Rattle.commit_journal.specs.Files.{IsReadFile, IsWrittenFile}
 use Rattle.commit_journal.specs.Pair.{FileSettles, IsQuiet}
@@ -12,10 +12,10 @@ may_settles h h' (inl same) = same_settles h h h' (nothing_settles h) same
 may_settles h h' (inr synced) = sync_settles h h' ⊥ synced
 
 pub called_quiet : (h h' : History) → Called h (Sync true) h' → IsQuiet h'
-called_quiet h h' called k = ap (λ (s : State). s.pending k) (state_called h h' (Sync true) called)
+called_quiet h h' called k = ap (λ (s : DiskState). s.pending k) (state_called h h' (Sync true) called)
 
 -- the state after calls
-pub goes_state : (h h' : History) (calls : List Call) → GoesOn h calls h' → state_of h' ≡ after (state_of h) calls
+pub goes_state : (h h' : History) (calls : List Call) → DiskGoesOn h calls h' → state_of h' ≡ after (state_of h) calls
 unfolding state_of
 goes_state h h' calls goes =
     ap (λ (l : List ℕ). after (at_first l) h'.calls) goes.first
@@ -29,8 +29,8 @@ read_written a m a' calls calls' done done' same to read written = record {
   tells = written.tells ∙ read.tells;
   part = λ t. subst (λ (l : List Call). MadePart a.history l a'.history) same
       (subst (λ (h : History). MadePart h calls a'.history) read.history (written.part (subst IsTrue (sym read.tells) t)));
-  made = λ is t. subst (λ (l : List Call). GoesOn a.history l a'.history) same
-      (subst (λ (h : History). GoesOn h calls a'.history) read.history (written.made (to is) (subst IsTrue (sym read.tells) t)));
+  made = λ is t. subst (λ (l : List Call). DiskGoesOn a.history l a'.history) same
+      (subst (λ (h : History). DiskGoesOn h calls a'.history) read.history (written.made (to is) (subst IsTrue (sym read.tells) t)));
 }
 
 -- a file that was written, and then written on
@@ -48,7 +48,7 @@ written_first a a' calls more done done' never first =
     record { tells = first.tells; part = λ t. part_front a.history a'.history calls more (first.part t); made = λ is. absurd (never is) }
 
 -- a file is no shorter than what was written at its start
-pub written_long : (h h' : History) (bytes : List ℕ) → GoesOn h (Write 0 bytes ∷ (Sync true ∷ [])) h' → length bytes ≤ length (contents_of h')
+pub written_long : (h h' : History) (bytes : List ℕ) → DiskGoesOn h (Write 0 bytes ∷ (Sync true ∷ [])) h' → length bytes ≤ length (contents_of h')
 written_long h h' bytes goes =
-    let same = ap (λ (s : State). length s.contents) (goes_state h h' (Write 0 bytes ∷ (Sync true ∷ [])) goes) in
+    let same = ap (λ (s : DiskState). length s.contents) (goes_state h h' (Write 0 bytes ∷ (Sync true ∷ [])) goes) in
     omega (arith, length-put 0 bytes (contents_of h) (omega arith), same)

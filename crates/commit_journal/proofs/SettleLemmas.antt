@@ -1,7 +1,7 @@
 -- What settling leaves of each file.
 use Rattle.std.proofs.Common.{◌≡◌, ◌≢◌, inl, inr, ⊎_elim, ℕ, ◌==◌, Bool, true, false, List, [], ◌∷◌, ◌++◌, refl, sym, ◌∙◌, ap, subst, arith}
 use Rattle.std.proofs.lemmas.Bool.Decides.{nat_tests}
-use Rattle.disk_model.specs.Disk.{Call, Sync, Refused, History, State, settled, step, state_of, contents_of, IsImage, Called, DidNothing, Synced}
+use Rattle.disk_model.specs.Disk.{Call, Sync, Refused, History, DiskState, settled, step, state_of, contents_of, IsImage, Called, DidNothing, Synced}
 use Rattle.disk_model.proofs.Images.{settled_image, started, goes_on_sync, synced_contents, synced_within, contents_image, leaves_now}
 use Rattle.disk_model.proofs.States.{state_called}
 use Rattle.record_code.specs.Record.{Record}
@@ -12,7 +12,7 @@ use Rattle.commit_journal.specs.declared.flight.Flight.{Flight}
 use Rattle.commit_journal.specs.declared.flight.Flight.TheVariants.{Nothing, Record as InFlight}
 use Rattle.commit_journal.proofs.PairLemmas.{either_spells}
 
-settled_quiet : (s : State) (cleared : Bool) → ((k : ℕ) → s.pending k ≡ false) → (k : ℕ) → (settled s cleared).pending k ≡ false
+settled_quiet : (s : DiskState) (cleared : Bool) → ((k : ℕ) → s.pending k ≡ false) → (k : ℕ) → (settled s cleared).pending k ≡ false
 settled_quiet s true quiet k = refl
 settled_quiet s false quiet k = quiet k
 
@@ -20,7 +20,7 @@ sync_still_quiet : (h h' : History) (done : Type 0) → Synced h done h' → IsQ
 sync_still_quiet h h' done synced quiet k = ⊎_elim (called (Sync true) (settled_quiet (state_of h) true quiet k)) (λ failed. ⊎_elim (called (Sync false) (settled_quiet (state_of h) false quiet k)) nothing failed.1) synced
   where
     called : (call : Call) → (step (state_of h) call).pending k ≡ false → Called h call h' → (state_of h').pending k ≡ false
-    called call free is = ap (λ (s : State). s.pending k) (state_called h h' call is) ∙ free
+    called call free is = ap (λ (s : DiskState). s.pending k) (state_called h h' call is) ∙ free
 
     nothing : DidNothing h h' → (state_of h').pending k ≡ false
     nothing (inl is) = called Refused (quiet k) is

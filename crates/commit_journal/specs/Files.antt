@@ -1,6 +1,6 @@
 -- What a call did to one file, by what is told of its disk before and after. A fact on content is of a disk that tells it.
 use Rattle.std.specs.Prelude.{◌≡◌, ◌<◌, ◌^◌, Bool, IsTrue, true, ℕ, List}
-use Rattle.disk_model.specs.Disk.{Call, Called, DiskView, GoesOn, MadePart, MaySync, Sync, contents_of}
+use Rattle.disk_model.specs.Disk.{Call, Called, DiskView, DiskGoesOn, MadePart, MaySync, Sync, contents_of}
 use Rattle.disk_model.specs.Pair.{BothTell, DiskPair}
 use Rattle.record_code.specs.declared.payloads.Placed.{Placed}
 use Rattle.record_code.specs.Listed.{PlacedFrom, records_of}
@@ -22,7 +22,7 @@ pub record IsSyncedFile (before after : DiskView) (done : Type 0) : Type 0 where
 pub record IsWrittenFile (before after : DiskView) (calls : List Call) (done : Type 0) : Type 0 where
   pub tells : after.tells ≡ before.tells
   pub part : IsTrue before.tells → MadePart before.history calls after.history
-  pub made : done → IsTrue before.tells → GoesOn before.history calls after.history
+  pub made : done → IsTrue before.tells → DiskGoesOn before.history calls after.history
 
 -- the records of a file up to its first closed gate
 pub record IsListedFile (file : DiskView) (placed : List Placed) (gate : ℕ) : Type 0 where

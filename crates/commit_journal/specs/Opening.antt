@@ -1,6 +1,6 @@
 -- What a journal that was just made or opened is, and what its disks did meanwhile. A and B are as 1 and 2 in the call.
 use Rattle.std.specs.Prelude.{◌≡◌, ◌≤◌, ◌⊎◌, true, IsTrue, ℕ, List, [], ◌∷◌, ◌++◌}
-use Rattle.disk_model.specs.Disk.{DiskView, Call, Write, Sync, Called, GoesOn, MaySync, MadePart, contents_of}
+use Rattle.disk_model.specs.Disk.{DiskView, Call, Write, Sync, Called, DiskGoesOn, MaySync, MadePart, contents_of}
 use Rattle.record_code.specs.declared.payloads.Placed.{Placed}
 use Rattle.record_code.specs.Record.{Record, bodies, gated}
 use Rattle.record_code.specs.Reading.{first_gate}
@@ -49,8 +49,8 @@ pub record IsCreated (a b : DiskView) (first : List Record) (v : JournalView) : 
   -- each pair of images spells the list of that record, and no other
   pub only : IsTrue a.tells → IsTrue b.tells → (r : Record) → first ≡ r ∷ [] → Only (a_of v) (b_of v) (r ∷ [])
   -- what was written where, and in which order
-  pub made_a : IsTrue a.tells → GoesOn a.history (making_a first) (a_of v)
-  pub made_b : IsTrue b.tells → GoesOn b.history making_b (b_of v)
+  pub made_a : IsTrue a.tells → DiskGoesOn a.history (making_a first) (a_of v)
+  pub made_b : IsTrue b.tells → DiskGoesOn b.history making_b (b_of v)
 
 -- the disks of a journal that couldn't be made, and why not
 pub record IsNotCreated (a b : DiskView) (first : List Record) (why : CreateWhy) (a' b' : DiskView) : Type 0 where
@@ -63,7 +63,7 @@ pub record IsNotCreated (a b : DiskView) (first : List Record) (why : CreateWhy)
   pub part_a : IsTrue a.tells → MadePart a.history (making_a first) a'.history
   pub part_b : IsTrue b.tells → MadePart b.history making_b b'.history
   -- A is written only once B is made
-  pub b_first : IsTrue b.tells → (a'.history ≡ a.history) ⊎ GoesOn b.history making_b b'.history
+  pub b_first : IsTrue b.tells → (a'.history ≡ a.history) ⊎ DiskGoesOn b.history making_b b'.history
   pub tells_a : a'.tells ≡ a.tells
   pub tells_b : b'.tells ≡ b.tells
   -- a disk's fault comes only where its count rose

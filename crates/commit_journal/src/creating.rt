@@ -1,5 +1,5 @@
 ghost use Rattle.std.specs.Prelude.{◌≡◌, ◌≤◌, ◌<◌, ◌+◌, ◌^◌, ◌++◌, ◌∷◌, [], ◌⊎◌, ◌↔◌, true, OnOk, List, ℕ, length, IsTrue, IsOk, IfOk, IfErr, IfSome, IsNone, IsErrOf};
-ghost use Rattle.disk_model.specs.Disk.{contents_of, HasCause, Write, Sync, GoesOn};
+ghost use Rattle.disk_model.specs.Disk.{contents_of, HasCause, Write, Sync, DiskGoesOn};
 ghost use Rattle.commit_journal.specs.Attach.{IsThere, IsHeaderOf};
 ghost use Rattle.commit_journal.specs.Files.{IsReadFile, IsWrittenFile};
 ghost use Rattle.commit_journal.specs.Journal.{PairCause};
@@ -73,7 +73,7 @@ fn write_files<D: Disk>(a: &mut D, b: &mut D, image: &[u8]) -> DiskDone
     ensures a { IsWrittenFile (D.view a.old) (D.view a.new) (making image.now) (result ≡ DiskDone.Done) }
     ensures b { IsWrittenFile (D.view b.old) (D.view b.new) making_b (result ≡ DiskDone.Done) }
     ensures b_first { IsTrue (D.view b.old).tells → ((D.view a.new).history ≡ (D.view a.old).history)
-        ⊎ GoesOn (D.view b.old).history making_b (D.view b.new).history }
+        ⊎ DiskGoesOn (D.view b.old).history making_b (D.view b.new).history }
     ensures bound { result ≡ DiskDone.Done → length image.now ≤ 2 ^ 62 }
     ensures cause { PairCause (D.view a.old).faults (D.view a.new).faults
         (D.view b.old).faults (D.view b.new).faults (result ≡ DiskDone.Failed) }
@@ -98,7 +98,7 @@ pub(crate) fn make_files<D: Disk>(
     ensures a { IsWrittenFile (D.view a.old) (D.view a.new) (making (head_a ++ entry.now)) (IsOk result) }
     ensures b { IsWrittenFile (D.view b.old) (D.view b.new) making_b (IsOk result) }
     ensures b_first { IsTrue (D.view b.old).tells → ((D.view a.new).history ≡ (D.view a.old).history)
-        ⊎ GoesOn (D.view b.old).history making_b (D.view b.new).history }
+        ⊎ DiskGoesOn (D.view b.old).history making_b (D.view b.new).history }
     ensures bound { OnOk result (16 + length entry.now < 2 ^ 62) }
     ensures free { IsTrue (D.view a.old).tells → IsTrue (D.view b.old).tells → OnOk result
         (IsThere (contents_of (D.view a.old).history) (contents_of (D.view b.old).history) → ⊥) }

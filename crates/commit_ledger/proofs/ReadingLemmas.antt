@@ -12,7 +12,7 @@ use Rattle.commit_ledger.specs.declared.entry.Entry.{Entry}
 use Rattle.commit_ledger.specs.declared.entry.Entry.TheVariants.{Commit as CommitOf, Confirm as ConfirmOf}
 use Rattle.commit_ledger.specs.Kept.{Kept, KeepsMaps, BringsMap, opened, append_entry}
 use Rattle.commit_ledger.specs.Payload.{CommitForm, ConfirmForm, form_of, confirm_form, entry_record, payload_bytes}
-use Rattle.commit_ledger.specs.Reading.{IsRecordOf, IsFirst, Opens, GoesOn, IsNextRead, ReadsOn, ReadsAs, IsFirstBad, IsUnread}
+use Rattle.commit_ledger.specs.Reading.{IsRecordOf, IsFirstCommit, Opens, GoesOn, IsNextRead, ReadsOn, ReadsAs, IsFirstBad, IsUnread}
 use Rattle.commit_ledger.specs.Rules.{IsCommit, IsEntry, Follows}
 use Rattle.commit_ledger.proofs.FieldLemmas.{one_form, one_confirm, commit_fits, confirm_fits}
 use Rattle.commit_ledger.proofs.TextLemmas.{one_map}
@@ -118,9 +118,9 @@ pub not_next : (P : Statements → Type 0) (kept : Kept) (r : Record) (e : Entry
 not_next P kept r e is broken next goes = broken (subst (λ x. Follows kept x) (one_entry P r goes.entry e goes.is_record is) goes.follows)
 
 -- a list isn't opened by another entry than a first commit
-pub not_first : (P : Statements → Type 0) (r : Record) (e : Entry) → IsRecordOf P r e → ((c : Commit) → IsFirst e c → ⊥) → (next : Kept) → Opens P r next → ⊥
+pub not_first : (P : Statements → Type 0) (r : Record) (e : Entry) → IsRecordOf P r e → ((c : Commit) → IsFirstCommit e c → ⊥) → (next : Kept) → Opens P r next → ⊥
 not_first P r e is broken next opens =
-    broken opens.commit (subst (λ x. IsFirst x opens.commit) (one_entry P r opens.entry e opens.is_record is) opens.first)
+    broken opens.commit (subst (λ x. IsFirstCommit x opens.commit) (one_entry P r opens.entry e opens.is_record is) opens.first)
 
 abbrev commit_in : Commit → Entry → Commit
 commit_in c (CommitOf d) = d

@@ -18,7 +18,7 @@ pub record IsRecordOf (accepted : Statements → Type 0) (r : Record) (entry : E
   pub is_entry : IsEntry accepted entry
 
 -- a list begins with a commit numbered 1 that needs no confirmation
-pub record IsFirst (entry : Entry) (commit : Commit) : Type 0 where
+pub record IsFirstCommit (entry : Entry) (commit : Commit) : Type 0 where
   pub is : entry ≡ CommitOf commit
   pub number : commit.number ≡ 1
   pub plain : commit.minutes ≡ 0
@@ -28,7 +28,7 @@ pub record Opens (accepted : Statements → Type 0) (r : Record) (kept : Kept) :
   pub entry : Entry
   pub is_record : IsRecordOf accepted r entry
   pub commit : Commit
-  pub first : IsFirst entry commit
+  pub first : IsFirstCommit entry commit
   pub is : kept ≡ opened commit
 
 -- a further record is of an entry that may be the next one

@@ -14,13 +14,13 @@ use Rattle.commit_ledger.specs.Kept.{Kept, RoomFor}
 use Rattle.commit_ledger.specs.Payload.{text_of, most_text}
 
 -- the number of a commit
-abbrev pub IsNumber : ℕ → Type 0
-IsNumber n = (1 ≤ n) × (n < 2 ^ 64)
+abbrev pub IsCommitNumber : ℕ → Type 0
+IsCommitNumber n = (1 ≤ n) × (n < 2 ^ 64)
 
 -- a commit's own fields: a user's name, a printable comment, at most 65,535 minutes, and an accepted configuration, whose
 -- text isn't longer than a payload's may be
 pub record IsCommit (accepted : Statements → Type 0) (commit : Commit) : Type 0 where
-  pub number : IsNumber commit.number
+  pub number : IsCommitNumber commit.number
   pub moment : commit.moment ≤ MOMENT_MAX
   pub user : IsName commit.user
   pub comment : IsText commit.comment
@@ -31,7 +31,7 @@ pub record IsCommit (accepted : Statements → Type 0) (commit : Commit) : Type 
 
 -- a confirmation's own fields
 pub record IsConfirm (confirm : Confirm) : Type 0 where
-  pub number : IsNumber confirm.number
+  pub number : IsCommitNumber confirm.number
   pub moment : confirm.moment ≤ MOMENT_MAX
   pub user : IsName confirm.user
 

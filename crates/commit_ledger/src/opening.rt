@@ -7,7 +7,7 @@ ghost use Rattle.commit_ledger.specs.declared.entry.Commit.{Commit};
 ghost use Rattle.commit_ledger.specs.declared.entry.Entry.{Entry};
 ghost use Rattle.commit_ledger.specs.declared.opening.LedgerFault.{LedgerFault};
 ghost use Rattle.commit_ledger.specs.Kept.{Kept, opened, NumberFits, RoomFor};
-ghost use Rattle.commit_ledger.specs.Reading.{IsFirst, Opens, GoesOn, ReadsOn, ReadsAs, IsFirstBad, IsUnread};
+ghost use Rattle.commit_ledger.specs.Reading.{IsFirstCommit, Opens, GoesOn, ReadsOn, ReadsAs, IsFirstBad, IsUnread};
 ghost use Rattle.commit_ledger.specs.Rules.{Follows, CommitFollows, ConfirmFollows};
 
 use crate::entry::{Commit, Confirm, Entry};
@@ -58,8 +58,8 @@ fn opened(alloc: Global, commit: Commit) -> Result<Ledger, NoMemory>
 }
 
 fn first_commit(entry: Entry) -> Option<Commit>
-    ensures some { IfSome result (IsFirst entry) }
-    ensures none { IsNone result → (commit : Commit) → IsFirst entry commit → ⊥ }
+    ensures some { IfSome result (IsFirstCommit entry) }
+    ensures none { IsNone result → (commit : Commit) → IsFirstCommit entry commit → ⊥ }
 {
     match entry {
         Entry::Commit(commit) if commit.number == 1 && commit.minutes == 0 => Some(commit),

@@ -27,8 +27,8 @@ use Rattle.session_history.proofs.EventLemmas.{Leads-append}
 use Rattle.stored_ledger.specs.Stored.{Spell}
 use Rattle.active_snapshot.specs.States.{ReaderState, WriterState, first_written}
 use Rattle.config_db.specs.View.{DatabaseView, IsSameRun, opened}
-use Rattle.config_db.specs.Numbers.{AreAtMost, AreRising, calls_of, no_calls}
-use Rattle.config_db.specs.Writing.{IsFound, IsWritten, entry_in, flight_after, kept_after, record_in}
+use Rattle.config_db.specs.Numbers.{AreAtMost, AreRising, calls_of, none_called}
+use Rattle.config_db.specs.Writing.{IsFoundOut, IsWritten, entry_in, flight_after, kept_after, record_in}
 use Rattle.config_db.specs.Crash.{AreSpansSafe, InSpan, IsSafeWhile, Spelt, last_calls}
 use Rattle.config_db.specs.Disks.{Holds}
 use Rattle.config_db.specs.Shown.{Shows}
@@ -62,7 +62,7 @@ stands_written j j' kept (Some m) Fault stands written follows =
     record { records = stands.records; reads = stands.reads; holds = written.holds stands.records stands.holds; entry = written.entry }
 
 -- behind a settling
-pub stands_found : (j j' : JournalView) (kept : Kept) (m : Made) (is_kept : Bool) → Stands j kept (Some m) → IsFound (Some is_kept) j j'
+pub stands_found : (j j' : JournalView) (kept : Kept) (m : Made) (is_kept : Bool) → Stands j kept (Some m) → IsFoundOut (Some is_kept) j j'
     → EntryFollows kept m.entry → Stands j' (kept_settled kept m is_kept) None
 stands_found j j' kept m true stands found follows = record {
   records = stands.records ++ entry_record m.entry ∷ [];
@@ -74,7 +74,7 @@ stands_found j j' kept m false stands found follows =
     record { records = stands.records; reads = stands.reads; holds = found.holds stands.records (entry_record m.entry) stands.holds; entry = tt }
 
 -- and behind one that failed
-pub stands_unfound : (j j' : JournalView) (kept : Kept) (m : Made) → Stands j kept (Some m) → IsFound None j j' → Stands j' kept (Some m)
+pub stands_unfound : (j j' : JournalView) (kept : Kept) (m : Made) → Stands j kept (Some m) → IsFoundOut None j j' → Stands j' kept (Some m)
 stands_unfound j j' kept m stands found =
     record { records = stands.records; reads = stands.reads; holds = found.holds stands.records (entry_record m.entry) stands.holds; entry = stands.entry }
 
@@ -110,14 +110,14 @@ pub book_after : (v v' : DatabaseView) (caller moment : ℕ) (event : Event) (ou
 book_after v v' caller moment event outcome reply kept flight book turns leaves grown same later stands safe shows = record {
   began = subst IsSoundKept (sym same.opening) book.began;
   leads = subst (λ s. Leads s v'.events v'.state) (sym (same_opened v v' same)) (subst (λ es. Leads (opened v) es v'.state) (sym grown) leads);
-  at_rest = λ free. subst (λ es. last_calls no_calls es ≡ calls_of v'.journal) (sym grown) (last_push no_calls v.events (noted caller moment event outcome (calls_of v'.journal)));
+  at_rest = λ free. subst (λ es. last_calls none_called es ≡ calls_of v'.journal) (sym grown) (last_push none_called v.events (noted caller moment event outcome (calls_of v'.journal)));
   safe = λ t.
       subst (λ s. IsSafeWhile s v'.events (calls_of v'.journal) (a_of v'.journal) (b_of v'.journal)) (sym (same_opened v v' same))
       (subst (λ es. IsSafeWhile (opened v) es (calls_of v'.journal) (a_of v'.journal) (b_of v'.journal)) (sym grown)
       (safe leads (λ c d t' in_a in_b. spelt_now v'.journal v'.state sound stands' t' c d in_a in_b) t));
-  rising = subst (λ es. AreRising no_calls es (calls_of v'.journal)) (sym grown)
-      (rising_push no_calls v.events (noted caller moment event outcome (calls_of v'.journal)) (calls_of v'.journal)
-      (rising_more no_calls v.events (calls_of v.journal) (calls_of v'.journal) later book.rising) refl);
+  rising = subst (λ es. AreRising none_called es (calls_of v'.journal)) (sym grown)
+      (rising_push none_called v.events (noted caller moment event outcome (calls_of v'.journal)) (calls_of v'.journal)
+      (rising_more none_called v.events (calls_of v.journal) (calls_of v'.journal) later book.rising) refl);
   sound = sound;
   callers = leaves.callers ∙ book.callers ∙ ap length (sym same.users);
   stands = stands';
@@ -144,7 +144,7 @@ book_unsettled v j' book some later stands safe = record {
   leads = book.leads;
   at_rest = λ free. absurd (let no : is_some v.state.flight ≡ false = ap is_some free in cc);
   safe = safe;
-  rising = rising_more no_calls v.events (calls_of v.journal) (calls_of j') later book.rising;
+  rising = rising_more none_called v.events (calls_of v.journal) (calls_of j') later book.rising;
   sound = book.sound;
   callers = book.callers;
   stands = stands;
@@ -178,7 +178,7 @@ book_begins j opening users state events w rs begins start none shown =
       leads = refl;
       at_rest = λ free. sym begins.calls;
       safe = λ t. starts_safe t;
-      rising = subst (λ m. AreAtMost no_calls m) (sym begins.calls) (at_most_same no_calls);
+      rising = subst (λ m. AreAtMost none_called m) (sym begins.calls) (at_most_same none_called);
       sound = begins_sound;
       callers = length-map users _;
       stands = stands;

@@ -1,10 +1,10 @@
 -- Calls that the disks of a journal made, and the numbers that are told of them.
 use Rattle.std.proofs.Common.{◌≡◌, ◌≤◌, ◌+◌, ℕ, Bool, true, false, List, [], ◌++◌, length, refl, sym, ap, subst, ◌∙◌, append_assoc, arith, length-append}
 use Rattle.std.proofs.lemmas.List.{append-nil}
-use Rattle.disk_model.specs.Disk.{Call, DiskView, GoesOn as DiskGoesOn, History}
+use Rattle.disk_model.specs.Disk.{Call, DiskView, DiskGoesOn, History}
 use Rattle.commit_journal.specs.Journal.{JournalView, LeavesBoth, Tell, a_of, b_of, calls_a, calls_b, disk_a, disk_b}
 use Rattle.commit_journal.specs.Pair.{first_of, second_of}
-use Rattle.config_db.specs.Crash.{BothCalled, CallsOn, CountsAgree, CountsOn, IsCounted}
+use Rattle.config_db.specs.Crash.{BothCalled, CallsOn, CountsAgree, CountsOn, IsReckoned}
 use Rattle.config_db.proofs.DiskLemmas.{tell_each}
 
 -- the history of the disk of A, and that of B

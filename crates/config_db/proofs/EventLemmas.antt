@@ -27,10 +27,10 @@ use Rattle.session_history.specs.declared.history.Happened.{Happened}
 use Rattle.session_history.specs.Events.{Leads, is_command}
 use Rattle.active_snapshot.specs.States.{WriterState}
 use Rattle.config_db.specs.View.{DatabaseView, IsSameRun, opened}
-use Rattle.config_db.specs.Numbers.{AreAtMost, calls_of, no_calls}
+use Rattle.config_db.specs.Numbers.{AreAtMost, calls_of, none_called}
 use Rattle.config_db.specs.Crash.{BothCalled, CountsOn, IsSafeWhile, Spelt}
 use Rattle.config_db.specs.Disks.{GoesOn}
-use Rattle.config_db.specs.Writing.{IsFound, IsWritten, flight_after, kept_after, records_after}
+use Rattle.config_db.specs.Writing.{IsFoundOut, IsWritten, flight_after, kept_after, records_after}
 use Rattle.config_db.specs.Shown.{IsShown, Shows, ShowsSettled}
 use Rattle.config_db.specs.Book.{IsBook, Stands}
 use Rattle.config_db.specs.Moves.{Happens, IsUnsettled, Turns, noted}
@@ -90,7 +90,7 @@ module _ (v : DatabaseView) (book : IsBook v)
   notes : (j' : JournalView) (e : Happened) (s' : State) → AreAtMost (calls_of v.journal) (calls_of j') → e.calls ≡ calls_of j' → (Tell j' → IsSafeWhile (opened v) v.events (calls_of j') (a_of j') (b_of j'))
       → Safe j' e s'
   notes j' e s' later told so_far leads now t few_a few_b =
-      noted_safe (opened v) one_state v.events (calls_of j') (a_of j') (b_of j') (rising_more no_calls v.events (calls_of v.journal) (calls_of j') later book.rising) (so_far t few_a few_b)
+      noted_safe (opened v) one_state v.events (calls_of j') (a_of j') (b_of j') (rising_more none_called v.events (calls_of v.journal) (calls_of j') later book.rising) (so_far t few_a few_b)
       v.state s' e told book.leads leads (λ c d in_a in_b. now c d t in_a in_b)
 
   -- the list from before an append, with the entry that the event makes or without
@@ -174,7 +174,7 @@ module _ (v : DatabaseView) (book : IsBook v)
     -- a settling
     pub settled_so : (j' : JournalView) (events' : List Happened) (s' : State) (w' : WriterState) (caller moment : ℕ) (is_kept : Bool) (reply : Reply) (calls : Calls) (plan : Plan)
         → v.state.greatest ≤ moment → IsPrepared v.state caller moment (Settle is_kept) plan
-        → IsFound (Some is_kept) v.journal j' → ShowsSettled is_kept v.shown w' → calls ≡ calls_of j' → s' ≡ applied plan Done v.state → reply ≡ replied plan.effect plan.reply Done
+        → IsFoundOut (Some is_kept) v.journal j' → ShowsSettled is_kept v.shown w' → calls ≡ calls_of j' → s' ≡ applied plan Done v.state → reply ≡ replied plan.effect plan.reply Done
         → events' ≡ v.events ++ noted caller moment (Settle is_kept) Done calls ∷ [] → Comes caller moment (Settle is_kept) Done reply v (next v j' events' s' w')
     settled_so j' events' s' w' caller moment is_kept reply calls plan no_earlier prepared found shown told is replies grown =
         let turned = settling_turns v.state caller moment is_kept plan made is_made (settling_fits v.state caller moment is_kept some no_earlier) prepared in
@@ -189,13 +189,13 @@ module _ (v : DatabaseView) (book : IsBook v)
         (λ leads. shows_settled (opened v) v.events v.state v.shown book.shows (noted caller moment (Settle is_kept) Done (calls_of j') ∷ []) s' leads made is_kept w' is_made shown leaves.kept_is leaves.flight_is)
 
     -- a settling that failed
-    pub unsettled_book : (j' : JournalView) → IsFound None v.journal j' → IsBook (next v j' v.events v.state v.shown)
+    pub unsettled_book : (j' : JournalView) → IsFoundOut None v.journal j' → IsBook (next v j' v.events v.state v.shown)
     unsettled_book j' found =
         book_unsettled v j' book some found.goes.calls
         (subst (λ f. Stands j' v.state.kept f) (sym is_made) (stands_unfound v.journal j' v.state.kept made here found))
         (settles j' found.goes found.counts found.crash)
 
-    pub unsettled_so : (j' : JournalView) → IsFound None v.journal j' → IsUnsettled v (next v j' v.events v.state v.shown)
+    pub unsettled_so : (j' : JournalView) → IsFoundOut None v.journal j' → IsUnsettled v (next v j' v.events v.state v.shown)
     unsettled_so j' found = record { state = refl; events = refl; same = record { opening = refl; users = refl }; goes = found.goes; called = λ t. called_left v.journal j' (WasLeft (a_of v.journal) (b_of v.journal)) t found.counts (found.crash t); rose = found.cause refl }
 
     -- a command while an entry is in flight

@@ -13,7 +13,7 @@ use Rattle.session_history.specs.declared.history.History.{History}
 use Rattle.session_history.specs.Events.{is_command, NoCommand}
 use Rattle.config_db.specs.View.{DatabaseView}
 use Rattle.config_db.specs.Disks.{GoesOn}
-use Rattle.config_db.specs.Faults.{AreCounted, RoseBy, is_failed_command, is_failed_other, is_fault}
+use Rattle.config_db.specs.Faults.{FaultsAreCounted, RoseBy, is_failed_command, is_failed_other, is_fault}
 use Rattle.config_db.specs.Starting.{IsBegun}
 use Rattle.config_db.specs.Moves.{Extends}
 use Rattle.config_db.specs.Closing.{IsClosed}
@@ -66,15 +66,15 @@ rose_none : (p q : DiskPair) → NoneFell p q → RoseBy 0 p q
 rose_none p q on = inr (inr (omega (arith, on.0, on.1)))
 
 -- no event, and no count fell
-none_counted : (p q : DiskPair) → NoneFell p q → AreCounted [] p q
+none_counted : (p q : DiskPair) → NoneFell p q → FaultsAreCounted [] p q
 none_counted p q on = record { commands = rose_none p q on; others = rose_none p q on }
 
-pub counted_none : (p q : DiskPair) → p.a.faults ≤ q.a.faults → p.b.faults ≤ q.b.faults → AreCounted [] p q
+pub counted_none : (p q : DiskPair) → p.a.faults ≤ q.a.faults → p.b.faults ≤ q.b.faults → FaultsAreCounted [] p q
 counted_none p q on_a on_b = none_counted p q (on_a, on_b)
 
 -- events, and then more
 pub counted_more : (own more : List Happened) (p q r : DiskPair) → q.a.faults ≤ r.a.faults → q.b.faults ≤ r.b.faults
-    → AreCounted own p q → AreCounted more q r → AreCounted (own ++ more) p r
+    → FaultsAreCounted own p q → FaultsAreCounted more q r → FaultsAreCounted (own ++ more) p r
 counted_more own more p q r on_a on_b first next = record {
   commands = subst (λ n. RoseBy n p r) (sym (count-append is_failed_command own more))
       (rose_on _ _ p q r (on_a, on_b) first.commands next.commands);
@@ -91,7 +91,7 @@ rose_once true p q on rose =
 
 -- one event
 pub counted_one : (j k : JournalView) (e : Happened) → GoesOn j k → (e.outcome ≡ Fault → FaultOnEither (disks_of j) (disks_of k))
-    → AreCounted (e ∷ []) (disks_of j) (disks_of k)
+    → FaultsAreCounted (e ∷ []) (disks_of j) (disks_of k)
 counted_one j k e goes cause = record {
   commands = by is_failed_command (λ is. cause (failed_by_fault e.outcome (is_command e.event) is));
   others = by is_failed_other (λ is. cause (failed_by_fault e.outcome (not (is_command e.event)) is));
@@ -104,8 +104,8 @@ counted_one j k e goes cause = record {
 
 -- a command behind events of which none is one: a fault before it may be its cause
 pub counted_command : (i j k : JournalView) (own : List Happened) (e : Happened) → GoesOn i j → GoesOn j k → NoCommand own
-    → is_command e.event ≡ true → AreCounted own (disks_of i) (disks_of j)
-    → (e.outcome ≡ Fault → FaultOnEither (disks_of i) (disks_of k)) → AreCounted (own ++ e ∷ []) (disks_of i) (disks_of k)
+    → is_command e.event ≡ true → FaultsAreCounted own (disks_of i) (disks_of j)
+    → (e.outcome ≡ Fault → FaultOnEither (disks_of i) (disks_of k)) → FaultsAreCounted (own ++ e ∷ []) (disks_of i) (disks_of k)
 counted_command i j k own e on more none asks before cause = record {
   commands = subst (λ n. RoseBy n (disks_of i) (disks_of k)) (sym only)
       (rose_once (is_failed_command e) (disks_of i) (disks_of k) fell (λ is. cause (failed_by_fault e.outcome (is_command e.event) is)));
@@ -126,24 +126,24 @@ counted_command i j k own e on more none asks before cause = record {
 
 -- over a run: from the disks that were handed in
 pub counted_begins : (disks : DiskPair) (users : List (List ℕ)) (limit : ℕ) (v : DatabaseView) → IsBegun disks users limit v
-    → AreCounted v.events disks (disks_of v.journal)
+    → FaultsAreCounted v.events disks (disks_of v.journal)
 counted_begins disks users limit v begun =
-    subst (λ es. AreCounted es disks (disks_of v.journal)) (sym begun.no_events)
+    subst (λ es. FaultsAreCounted es disks (disks_of v.journal)) (sym begun.no_events)
     (counted_none disks (disks_of v.journal) begun.opened.later_a begun.opened.later_b)
 
 -- call by call
 pub counted_on : (disks : DiskPair) (caller moment : ℕ) (own : List Happened) (v w : DatabaseView)
-    → AreCounted v.events disks (disks_of v.journal) → Extends caller moment own v w → AreCounted w.events disks (disks_of w.journal)
+    → FaultsAreCounted v.events disks (disks_of v.journal) → Extends caller moment own v w → FaultsAreCounted w.events disks (disks_of w.journal)
 counted_on disks caller moment own v w before extends =
-    subst (λ es. AreCounted es disks (disks_of w.journal)) (sym extends.grown)
+    subst (λ es. FaultsAreCounted es disks (disks_of w.journal)) (sym extends.grown)
     (counted_more v.events own disks (disks_of v.journal) (disks_of w.journal) extends.goes.faults_a extends.goes.faults_b before
     extends.counted)
 
 -- to all events and the disks that are handed back
 pub counted_closed : (disks : DiskPair) (v : DatabaseView) (happened : History) (fault : Bool) (disks' : DiskPair)
-    → AreCounted v.events disks (disks_of v.journal) → IsClosed v happened fault disks' → AreCounted happened.events.items disks disks'
+    → FaultsAreCounted v.events disks (disks_of v.journal) → IsClosed v happened fault disks' → FaultsAreCounted happened.events.items disks disks'
 counted_closed disks v happened fault disks' before closed =
     let w = closed.last in
     let last = counted_on disks 0 v.state.greatest closed.settles.own v w before closed.settles.extends in
-    subst (λ es. AreCounted es disks disks') (sym closed.handed.events)
-    (subst (λ d. AreCounted w.events disks d) (sym closed.handed.disks_are) last)
+    subst (λ es. FaultsAreCounted es disks disks') (sym closed.handed.events)
+    (subst (λ d. FaultsAreCounted w.events disks d) (sym closed.handed.disks_are) last)

@@ -14,7 +14,7 @@ use Rattle.session_history.proofs.EventLemmas.{Leads-append}
 use Rattle.config_db.specs.View.{DatabaseView, IsSameRun}
 use Rattle.config_db.specs.Numbers.{calls_of}
 use Rattle.config_db.specs.Disks.{GoesOn}
-use Rattle.config_db.specs.Faults.{AreCounted}
+use Rattle.config_db.specs.Faults.{FaultsAreCounted}
 use Rattle.config_db.specs.Moves.{Extends, Happens, HasCause, IsUnsettled, noted}
 use Rattle.config_db.proofs.AllLemmas.{All-append, All-map}
 use Rattle.config_db.proofs.CalledLemmas.{called_none, called_then}
@@ -65,7 +65,7 @@ module _ (caller moment : ℕ) where
   -- one event more
   pub extends_event : (u v w : DatabaseView) (own : List Happened) (event : Event) (outcome : Outcome) (reply : Reply) → Extends caller moment own u v
       → Happens caller moment event outcome reply v w → (outcome ≡ Fault → FaultOnEither (disks_of u.journal) (disks_of w.journal))
-      → AreCounted (own ++ noted caller moment event outcome (calls_of w.journal) ∷ []) (disks_of u.journal) (disks_of w.journal)
+      → FaultsAreCounted (own ++ noted caller moment event outcome (calls_of w.journal) ∷ []) (disks_of u.journal) (disks_of w.journal)
       → Extends caller moment (own ++ noted caller moment event outcome (calls_of w.journal) ∷ []) u w
   extends_event u v w own event outcome reply before happens cause counted =
       let e : Happened = noted caller moment event outcome (calls_of w.journal) in

@@ -2,7 +2,7 @@
 use Rattle.std.proofs.Common.{◌≡◌, ◌≤◌, inl, inr, ⊎_elim, ℕ, ◌+◌, Bool, List, [], ◌∷◌, ◌++◌, length, Some, None, refl, sym, ◌∙◌, ap, subst, arith, length-append}
 use Rattle.std.proofs.lemmas.List.{append-nil}
 use Rattle.cfg_base.specs.declared.calls.Calls.{Calls}
-use Rattle.disk_model.specs.Disk.{Call, History, State as DiskState, state_of, contents_of, IsImage, Since, Leaves}
+use Rattle.disk_model.specs.Disk.{Call, History, DiskState, state_of, contents_of, IsImage, Since, Leaves}
 use Rattle.disk_model.proofs.Images.{synced_within, contents_image, state_later}
 use Rattle.commit_journal.specs.Journal.{JournalView, CountsCalls, a_of, b_of, calls_a, calls_b}
 use Rattle.commit_journal.specs.Steps.{Counts}
@@ -10,8 +10,8 @@ use Rattle.commit_journal.specs.Pair.{LeavesPair, WasLeft}
 use Rattle.config_core.specs.State.{State}
 use Rattle.session_history.specs.declared.history.Happened.{Happened}
 use Rattle.session_history.specs.Events.{Leads}
-use Rattle.config_db.specs.Numbers.{AreRising, no_calls}
-use Rattle.config_db.specs.Crash.{CountsOn, InSpan, IsCounted, IsSafeNow, IsSafeWhile, Spelt, CountsAgree, last_calls}
+use Rattle.config_db.specs.Numbers.{AreRising, none_called}
+use Rattle.config_db.specs.Crash.{CountsOn, InSpan, IsReckoned, IsSafeNow, IsSafeWhile, Spelt, CountsAgree, last_calls}
 use Rattle.config_db.proofs.SpanLemmas.{Grows, first_moment, grown_length, last_moment, span_now, span_split}
 use Rattle.config_db.proofs.CrashLemmas.{event_is_safe, settling_is_safe}
 
@@ -24,12 +24,12 @@ counts_on j j' counts = record { told_a = λ t. told_counts (a_of j) (a_of j') (
 pub counts_none : (j : JournalView) → CountsOn j j
 counts_none j = record { told_a = λ t few within longer. omega arith; told_b = λ t few within longer. omega arith }
 
-grows_told : (h h' : History) (m m' : ℕ) (more : List Call) → h'.first ≡ h.first → h'.calls ≡ h.calls ++ more → CountsAgree h h' m m' → IsCounted h' → m ≤ length h.calls → Grows h h' m m' more
+grows_told : (h h' : History) (m m' : ℕ) (more : List Call) → h'.first ≡ h.first → h'.calls ≡ h.calls ++ more → CountsAgree h h' m m' → IsReckoned h' → m ≤ length h.calls → Grows h h' m m' more
 grows_told h h' m m' more first calls told few within =
     let size : length h'.calls ≡ length h.calls + length more = ap length calls ∙ length-append h.calls more in
     record { first = first; calls = calls; counted = omega (arith, told few within (omega (arith, size)), size); within = within }
 
-fewer : (h h' : History) (more : List Call) → h'.calls ≡ h.calls ++ more → IsCounted h' → IsCounted h
+fewer : (h h' : History) (more : List Call) → h'.calls ≡ h.calls ++ more → IsReckoned h' → IsReckoned h
 fewer h h' more calls few = omega (arith, few, ap length calls, length-append h.calls more)
 
 -- a pair of images of this moment is one of images since then
@@ -57,7 +57,7 @@ pair_now a b a' b' P l c d in_a in_b = l.each c d
 
 module _ (first : State) (one_state : (events : List Happened) (s t : State) → Leads first events s → Leads first events t → s ≡ t)
     (events : List Happened) (made made' : Calls) (a b a' b' : History) (told_a : CountsAgree a a' made.a made'.a) (told_b : CountsAgree b b' made.b made'.b)
-    (rising : AreRising no_calls events made) (safe : IsSafeWhile first events made a b) where
+    (rising : AreRising none_called events made) (safe : IsSafeWhile first events made a b) where
   -- calls that only settled
   pub settles_safe : LeavesPair a b a' b' (WasLeft a b) → IsSafeWhile first events made' a' b'
   settles_safe l few_a few_b =
@@ -71,7 +71,7 @@ module _ (first : State) (one_state : (events : List Happened) (s t : State) →
       }
 
   -- calls that began when the last event had come, and one more event
-  pub appends_safe : (s t : State) (e : Happened) (P : List ℕ → List ℕ → Type 0) → e.calls ≡ made' → Leads first events s → Leads first (events ++ e ∷ []) t → last_calls no_calls events ≡ made
+  pub appends_safe : (s t : State) (e : Happened) (P : List ℕ → List ℕ → Type 0) → e.calls ≡ made' → Leads first events s → Leads first (events ++ e ∷ []) t → last_calls none_called events ≡ made
       → LeavesPair a b a' b' P → ((c d : List ℕ) → P c d → Spelt s (Some e) c d) → ((c d : List ℕ) → IsImage (state_of a') c → IsImage (state_of b') d → Spelt t None c d)
       → IsSafeWhile first (events ++ e ∷ []) made' a' b'
   appends_safe s t e P told leads leads' last l spelt now few_a few_b =
@@ -90,15 +90,15 @@ module _ (first : State) (one_state : (events : List Happened) (s t : State) →
       since_b : Grows b b' made.b made'.b l.b_calls → (c : List ℕ) → InSpan b' made'.b made.b made'.b c → Since (state_of b) l.b_calls c
       since_b g c inside = ⊎_elim (λ old. first_moment (state_of b) l.b_calls c (span_now b made.b c g.within old)) (λ new. new) (span_split b b' made.b made'.b l.b_calls made.b c g (omega arith) inside)
 
-      covered : Grows a a' made.a made'.a l.a_calls → Grows b b' made.b made'.b l.b_calls → (c d : List ℕ) → InSpan a' made'.a (last_calls no_calls events).a made'.a c
-          → InSpan b' made'.b (last_calls no_calls events).b made'.b d → Spelt s (Some e) c d
+      covered : Grows a a' made.a made'.a l.a_calls → Grows b b' made.b made'.b l.b_calls → (c d : List ℕ) → InSpan a' made'.a (last_calls none_called events).a made'.a c
+          → InSpan b' made'.b (last_calls none_called events).b made'.b d → Spelt s (Some e) c d
       covered ga gb c d in_a in_b = spelt c d (l.each c d
           (since_a ga c (subst (λ (m : Calls). InSpan a' made'.a m.a made'.a c) last in_a))
           (since_b gb d (subst (λ (m : Calls). InSpan b' made'.b m.b made'.b d) last in_b)))
 
 -- an event without a call
 module _ (first : State) (one_state : (events : List Happened) (s t : State) → Leads first events s → Leads first events t → s ≡ t)
-    (events : List Happened) (made : Calls) (a b : History) (rising : AreRising no_calls events made) (now_safe : IsSafeNow first events made a b) where
+    (events : List Happened) (made : Calls) (a b : History) (rising : AreRising none_called events made) (now_safe : IsSafeNow first events made a b) where
   same_grows : (h : History) (m : ℕ) → m ≤ length h.calls → Grows h h m m []
   same_grows h m within = record { first = refl; calls = sym (append-nil h.calls); counted = omega arith; within = within }
 

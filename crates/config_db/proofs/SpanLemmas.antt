@@ -1,7 +1,7 @@
 -- How the spans of a disk stand when it is called further.
 use Rattle.std.proofs.Common.{◌≡◌, ◌≤◌, ◌⊎◌, inl, inr, ⊎_elim, ℕ, ◌+◌, List, [], ◌∷◌, ◌++◌, length, take, drop, refl, sym, ◌∙◌, ap, subst, arith, length-append}
 use Rattle.std.proofs.lemmas.List.{take-append-le, take-append-drop, drop-append-le}
-use Rattle.disk_model.specs.Disk.{Call, History, State, at_first, step, after, state_of, IsImage, Since, LeftBetween}
+use Rattle.disk_model.specs.Disk.{Call, History, DiskState, at_first, step, after, state_of, IsImage, Since, LeftBetween}
 use Rattle.disk_model.proofs.States.{after-append}
 use Rattle.disk_model.proofs.Images.{since_append}
 use Rattle.config_db.specs.Crash.{count_at, InSpan}
@@ -64,11 +64,11 @@ state_cut : (h : History) (n : ℕ) → after (after (at_first h.first) (take n 
 unfolding state_of
 state_cut h n = sym (after-append (at_first h.first) (take n h.calls) (drop n h.calls)) ∙ ap (after (at_first h.first)) (take-append-drop n h.calls)
 
-pub last_moment : (s : State) (calls : List Call) (c : List ℕ) → IsImage (after s calls) c → Since s calls c
+pub last_moment : (s : DiskState) (calls : List Call) (c : List ℕ) → IsImage (after s calls) c → Since s calls c
 last_moment s [] c image = image
 last_moment s (x ∷ xs) c image = inr (inr (last_moment (step s x) xs c image))
 
-pub first_moment : (s : State) (calls : List Call) (c : List ℕ) → IsImage s c → Since s calls c
+pub first_moment : (s : DiskState) (calls : List Call) (c : List ℕ) → IsImage s c → Since s calls c
 first_moment s [] c image = image
 first_moment s (x ∷ xs) c image = inl image
 
@@ -77,7 +77,7 @@ pub image_in_span : (h : History) (made from : ℕ) (c : List ℕ) → made ≤ 
 image_in_span h made from c within le image =
     let n : ℕ = count_at h made from in
     till_now h n (count_at h made made) c (omega (arith, within))
-    (last_moment (after (at_first h.first) (take n h.calls)) (drop n h.calls) c (subst (λ (s : State). IsImage s c) (sym (state_cut h n)) image))
+    (last_moment (after (at_first h.first) (take n h.calls)) (drop n h.calls) c (subst (λ (s : DiskState). IsImage s c) (sym (state_cut h n)) image))
 
 -- and the span that begins now has nothing else
 pub span_now : (h : History) (made : ℕ) (c : List ℕ) → made ≤ length h.calls → InSpan h made made made c → IsImage (state_of h) c
@@ -85,9 +85,9 @@ span_now h made c within there =
     let n : ℕ = count_at h made made in
     let all : n ≡ length h.calls = omega (arith, within) in
     let none : drop n h.calls ≡ [] = drop_all n h.calls all in
-    let s : State = after (at_first h.first) (take n h.calls) in
+    let s : DiskState = after (at_first h.first) (take n h.calls) in
     let image : IsImage s c = subst (λ (l : List Call). Since s l c) none (since_count h n n c all there) in
-    subst (λ (t : State). IsImage t c) (ap (after s) (sym none) ∙ state_cut h n) image
+    subst (λ (t : DiskState). IsImage t c) (ap (after s) (sym none) ∙ state_cut h n) image
 
 -- a span up to now: what was in it before, and what came since
 pub span_split : (h h' : History) (made made' : ℕ) (more : List Call) (from : ℕ) (c : List ℕ) → Grows h h' made made' more → from ≤ made
@@ -96,12 +96,12 @@ span_split h h' made made' more from c g le there =
     let n : ℕ = count_at h made from in
     let below : n ≤ length h.calls = omega (arith, le, g.within) in
     let whole : count_at h' made' made' ≡ length h'.calls = omega (arith, grown_length h h' made made' more g, g.counted, g.within) in
-    let s : State = after (at_first h.first) (take n h.calls) in
+    let s : DiskState = after (at_first h.first) (take n h.calls) in
     let one : Since (after (at_first h'.first) (take n h'.calls)) (drop n h'.calls) c =
     since_count h' n (count_at h' made' made') c whole (subst (λ (k : ℕ). LeftBetween h' k (count_at h' made' made') c) (same_count h h' made made' more from g) there) in
     let two : Since (after (at_first h.first) (take n h'.calls)) (drop n h'.calls) c = subst (λ (f : List ℕ). Since (after (at_first f) (take n h'.calls)) (drop n h'.calls) c) g.first one in
     let three : Since s (drop n h'.calls) c = subst (λ (l : List Call). Since (after (at_first h.first) l) (drop n h'.calls) c) (ap (take n) g.calls ∙ take-append-le n h.calls more below) two in
     let four : Since s (drop n h.calls ++ more) c = subst (λ (l : List Call). Since s l c) (ap (drop n) g.calls ∙ drop-append-le n h.calls more below) three in
     ⊎_elim (λ old. inl (till_now h n (count_at h made made) c (omega (arith, g.within)) old))
-    (λ new. inr (subst (λ (t : State). Since t more c) (state_cut h n) new))
+    (λ new. inr (subst (λ (t : DiskState). Since t more c) (state_cut h n) new))
     (since_append s (drop n h.calls) more c four)

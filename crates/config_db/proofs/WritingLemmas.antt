@@ -23,7 +23,7 @@ use Rattle.config_core.specs.declared.event.Outcome.{Outcome}
 use Rattle.config_core.specs.declared.event.Outcome.TheVariants.{Done, Fault}
 use Rattle.config_core.specs.State.{Made}
 use Rattle.config_db.specs.Disks.{Holds}
-use Rattle.config_db.specs.Writing.{IsAppend, IsFound, IsWritten}
+use Rattle.config_db.specs.Writing.{IsAppend, IsFoundOut, IsWritten}
 use Rattle.config_db.proofs.SafeLemmas.{counts_none, counts_on}
 use Rattle.config_db.proofs.DiskLemmas.{goes_nowhere, goes_on, tell_back}
 
@@ -48,7 +48,7 @@ module _ (j j' : JournalView) (failed : Type 0)
     crash = λ rs r is held t. safe.crash rs r t (held.1 t) is;
   }
 
-  pub found_kept : IsSettledAs j IsKept j' → IsSettleSafe j j' → IsFound (Some true) j j'
+  pub found_kept : IsSettledAs j IsKept j' → IsSettleSafe j j' → IsFoundOut (Some true) j j'
   found_kept settled safe = record {
     holds = λ rs r held. (settled.idle, λ t. let before = tell_back j j' stays t in settled.has rs r before (held.1 before));
     goes = goes_on j j' failed stays counts cause;
@@ -57,7 +57,7 @@ module _ (j j' : JournalView) (failed : Type 0)
     crash = λ t. safe.crash t;
   }
 
-  pub found_dropped : IsSettledAs j NotKept j' → IsSettleSafe j j' → IsFound (Some false) j j'
+  pub found_dropped : IsSettledAs j NotKept j' → IsSettleSafe j j' → IsFoundOut (Some false) j j'
   found_dropped settled safe = record {
     holds = λ rs r held. (settled.idle, λ t. let before = tell_back j j' stays t in settled.has rs r before (held.1 before));
     goes = goes_on j j' failed stays counts cause;
@@ -66,7 +66,7 @@ module _ (j j' : JournalView) (failed : Type 0)
     crash = λ t. safe.crash t;
   }
 
-  pub not_found : failed → IsSettleFaulted j j' → IsSettleSafe j j' → IsFound None j j'
+  pub not_found : failed → IsSettleFaulted j j' → IsSettleSafe j j' → IsFoundOut None j j'
   not_found fails faulted safe = record {
     holds = λ rs r held. (subst IsInFlight (sym faulted.flight_is) held.0, λ t. let before = tell_back j j' stays t in faulted.awaits rs r before (held.1 before));
     goes = goes_on j j' failed stays counts cause;

@@ -11,7 +11,7 @@ use Rattle.config_core.specs.Soundness.{IsSoundKept, IsSoundState}
 use Rattle.config_core.specs.State.{Made}
 use Rattle.session_history.specs.Events.{Leads}
 use Rattle.config_db.specs.View.{DatabaseView, opened}
-use Rattle.config_db.specs.Numbers.{AreRising, calls_of, no_calls}
+use Rattle.config_db.specs.Numbers.{AreRising, calls_of, none_called}
 use Rattle.config_db.specs.Crash.{IsSafeWhile, last_calls}
 use Rattle.config_db.specs.Disks.{Holds}
 use Rattle.config_db.specs.Writing.{record_in}
@@ -30,9 +30,9 @@ pub record IsBook (v : DatabaseView) : Type 0 where
   -- each event fits the state before it, and all lead to the state
   pub leads : Leads (opened v) v.events v.state
   -- the numbers of calls don't fall from event to event, and none passes what the journal tells
-  pub rising : AreRising no_calls v.events (calls_of v.journal)
+  pub rising : AreRising none_called v.events (calls_of v.journal)
   -- with nothing in flight the last event is this very moment
-  pub at_rest : v.state.flight ≡ None → last_calls no_calls v.events ≡ calls_of v.journal
+  pub at_rest : v.state.flight ≡ None → last_calls none_called v.events ≡ calls_of v.journal
   -- a crash at any moment so far leaves what the state of that moment says
   pub safe : Tell v.journal → IsSafeWhile (opened v) v.events (calls_of v.journal) (a_of v.journal) (b_of v.journal)
   pub sound : IsSoundState v.state
@@ -44,7 +44,7 @@ pub record IsBook (v : DatabaseView) : Type 0 where
 
 -- a journal that was just opened holds the list of this ledger
 pub record IsOpening (j : JournalView) (kept : Kept) : Type 0 where
-  pub calls : calls_of j ≡ no_calls
+  pub calls : calls_of j ≡ none_called
   -- its maps are accepted, commits are numbered from 1, and an unconfirmed run has room for its revert
   pub sound : IsSoundKept kept
   pub records : List Record

@@ -1,7 +1,7 @@
 -- What a crash at any moment of a run may leave on the two disks. This project's own.
 use Rattle.std.specs.Prelude.{◌≡◌, ◌<◌, ◌≤◌, ◌-◌, ◌+◌, ◌^◌, ◌⊎◌, ℕ, Bool, IsTrue, List, [], ◌∷◌, ◌++◌, length, Option, Some, None}
 use Rattle.cfg_base.specs.declared.calls.Calls.{Calls}
-use Rattle.disk_model.specs.Disk.{Call, GoesOn as DiskGoesOn, History, LeftBetween}
+use Rattle.disk_model.specs.Disk.{Call, DiskGoesOn, History, LeftBetween}
 use Rattle.disk_model.specs.Pair.{DiskPair}
 use Rattle.commit_ledger.specs.Kept.{Kept, append_entry}
 use Rattle.commit_journal.specs.Journal.{JournalView, a_of, b_of, calls_a, calls_b, disk_a, disk_b}
@@ -11,11 +11,11 @@ use Rattle.config_core.specs.State.{State, Made}
 use Rattle.session_history.specs.declared.history.Happened.{Happened}
 use Rattle.session_history.specs.Events.{Leads}
 use Rattle.stored_ledger.specs.Stored.{SpellsKept}
-use Rattle.config_db.specs.Numbers.{AreRising, no_calls}
+use Rattle.config_db.specs.Numbers.{AreRising, none_called}
 
 -- a disk's own count of calls isn't at its end
-abbrev pub IsCounted : History → Type 0
-IsCounted h = length h.calls < 2 ^ 64 - 1
+abbrev pub IsReckoned : History → Type 0
+IsReckoned h = length h.calls < 2 ^ 64 - 1
 
 -- a disk's count of calls at a number that was told since the opening: its last count, less the last number, plus that number
 abbrev pub count_at : History → ℕ → ℕ → ℕ
@@ -36,9 +36,9 @@ next_calls made [] = made
 next_calls made (event ∷ events) = event.calls
 
 -- the event that comes next
-abbrev pub next_of : List Happened → Option Happened
-next_of [] = None
-next_of (event ∷ events) = Some event
+abbrev pub next_event : List Happened → Option Happened
+next_event [] = None
+next_event (event ∷ events) = Some event
 
 -- the next event makes that entry
 abbrev pub NextMakes : State → Option Happened → Made → Type 0
@@ -57,16 +57,16 @@ Spelt s next a b =
 abbrev pub AreSpansSafe : State → List Happened → Calls → History → History → Type 0
 AreSpansSafe first events made a b =
     (before after : List Happened) → events ≡ before ++ after → (s : State) → Leads first before s → (c d : List ℕ)
-    → InSpan a made.a (last_calls no_calls before).a (next_calls made after).a c
-    → InSpan b made.b (last_calls no_calls before).b (next_calls made after).b d
-    → Spelt s (next_of after) c d
+    → InSpan a made.a (last_calls none_called before).a (next_calls made after).a c
+    → InSpan b made.b (last_calls none_called before).b (next_calls made after).b d
+    → Spelt s (next_event after) c d
 
 -- a crash at any moment of a run leaves the list as it was told by then, with the entry of that moment or without
 pub record IsCrashSafe (first : State) (events : List Happened) (made : Calls) (a b : History) : Type 0 where
   -- the numbers of calls don't fall
-  pub rising : AreRising no_calls events made
+  pub rising : AreRising none_called events made
   -- a disk whose own count stands at its end can't be reckoned back
-  pub safe : IsCounted a → IsCounted b → AreSpansSafe first events made a b
+  pub safe : IsReckoned a → IsReckoned b → AreSpansSafe first events made a b
 
 -- what holds of the disks as they are now
 pub record IsSafeNow (first : State) (events : List Happened) (made : Calls) (a b : History) : Type 0 where
@@ -75,11 +75,11 @@ pub record IsSafeNow (first : State) (events : List Happened) (made : Calls) (a 
   pub safe : AreSpansSafe first events made a b
 
 abbrev pub IsSafeWhile : State → List Happened → Calls → History → History → Type 0
-IsSafeWhile first events made a b = IsCounted a → IsCounted b → IsSafeNow first events made a b
+IsSafeWhile first events made a b = IsReckoned a → IsReckoned b → IsSafeNow first events made a b
 
 -- a number went on as the disk's own count did
 abbrev pub CountsAgree : History → History → ℕ → ℕ → Type 0
-CountsAgree h h' m m' = IsCounted h' → m ≤ length h.calls → length h.calls ≤ length h'.calls → m' ≡ m + (length h'.calls - length h.calls)
+CountsAgree h h' m m' = IsReckoned h' → m ≤ length h.calls → length h.calls ≤ length h'.calls → m' ≡ m + (length h'.calls - length h.calls)
 
 -- the numbers that a journal tells went on so
 pub record CountsOn (j j' : JournalView) : Type 0 where
@@ -88,7 +88,7 @@ pub record CountsOn (j j' : JournalView) : Type 0 where
 
 -- a disk made more calls, and the number that is told of them went on with them
 abbrev pub CallsOn : History → History → ℕ → ℕ → Type 0
-CallsOn h h' m m' = (more : List Call) × DiskGoesOn h more h' × (IsCounted h' → m ≤ length h.calls → m' ≡ m + length more)
+CallsOn h h' m m' = (more : List Call) × DiskGoesOn h more h' × (IsReckoned h' → m ≤ length h.calls → m' ≡ m + length more)
 
 -- the calls of a journal's disks went on so
 pub record BothCalled (j j' : JournalView) : Type 0 where
@@ -97,7 +97,7 @@ pub record BothCalled (j j' : JournalView) : Type 0 where
 
 -- a disk made so many calls since, where its own count doesn't stand at its end
 abbrev pub HasCalled : History → History → ℕ → Type 0
-HasCalled h h' number = (more : List Call) × DiskGoesOn h more h' × (IsCounted h' → number ≡ length more)
+HasCalled h h' number = (more : List Call) × DiskGoesOn h more h' × (IsReckoned h' → number ≡ length more)
 
 -- two disks made so many calls since
 pub record HaveCalled (start now : DiskPair) (made : Calls) : Type 0 where

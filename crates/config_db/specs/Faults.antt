@@ -26,6 +26,6 @@ RoseBy many before now =
 
 -- the commands that ended with a fault are at most as many as the two disks' counts of faults rose by, and so are the other
 -- events
-pub record AreCounted (events : List Happened) (before now : DiskPair) : Type 0 where
+pub record FaultsAreCounted (events : List Happened) (before now : DiskPair) : Type 0 where
   pub commands : RoseBy (count_by is_failed_command events) before now
   pub others : RoseBy (count_by is_failed_other events) before now

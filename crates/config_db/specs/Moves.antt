@@ -18,7 +18,7 @@ use Rattle.config_db.specs.View.{DatabaseView, IsSameRun}
 use Rattle.config_db.specs.Numbers.{calls_of}
 use Rattle.config_db.specs.Crash.{BothCalled}
 use Rattle.config_db.specs.Disks.{GoesOn}
-use Rattle.config_db.specs.Faults.{AreCounted}
+use Rattle.config_db.specs.Faults.{FaultsAreCounted}
 
 -- an event with its outcome is a step of the machine, with that reply
 pub record Turns (s : State) (caller moment : ℕ) (event : Event) (outcome : Outcome) (reply : Reply) (s' : State) : Type 0 where
@@ -72,7 +72,7 @@ pub record Extends (caller moment : ℕ) (own : List Happened) (v v' : DatabaseV
   pub made : AllByRecursion (IsEventOf caller moment) own
   pub causes : AllByRecursion (HasCause v.journal v'.journal) own
   -- and no more of them have it than the counts rose by
-  pub counted : AreCounted own (disks_of v.journal) (disks_of v'.journal)
+  pub counted : FaultsAreCounted own (disks_of v.journal) (disks_of v'.journal)
   pub same : IsSameRun v v'
   pub goes : GoesOn v.journal v'.journal
   -- the disks made the calls that are told, where they tell what they hold

@@ -5,8 +5,8 @@ use Rattle.commit_journal.specs.Journal.{JournalView, calls_a, calls_b}
 use Rattle.session_history.specs.declared.history.Happened.{Happened}
 
 -- no call was made yet
-abbrev pub no_calls : Calls
-no_calls = record { a = 0; b = 0 }
+abbrev pub none_called : Calls
+none_called = record { a = 0; b = 0 }
 
 -- the numbers that the journal tells
 abbrev pub calls_of : JournalView → Calls

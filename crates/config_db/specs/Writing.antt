@@ -104,7 +104,7 @@ flight_found r None = Some r
 flight_found r (Some is_kept) = None
 
 -- it was found out whether the record in flight is kept, or a disk failed and it is in flight still
-pub record IsFound (answer : Option Bool) (j j' : JournalView)
+pub record IsFoundOut (answer : Option Bool) (j j' : JournalView)
     : Type 0 where
   pub holds : (rs : List Record) (r : Record) → Holds j rs (Some r)
       → Holds j' (records_found rs r answer) (flight_found r answer)

@@ -6,7 +6,7 @@ ghost use Rattle.commit_journal.specs.Journal.{IsIdle, IsInFlight};
 ghost use Rattle.commit_ledger.specs.Payload.{entry_record};
 ghost use Rattle.commit_ledger.specs.Rules.{IsCommit, IsConfirm, IsEntry};
 ghost use Rattle.config_core.specs.Plan.{made_in};
-ghost use Rattle.config_db.specs.Writing.{IsAppend, IsFound, IsWritable, IsWritableCommit, IsWritten};
+ghost use Rattle.config_db.specs.Writing.{IsAppend, IsFoundOut, IsWritable, IsWritableCommit, IsWritten};
 
 use cfg_base::NoMemory;
 use commit_check::accepted_configurations_fit;
@@ -102,7 +102,7 @@ pub(crate) fn write<D: Disk>(
 /// Whether the record in flight is kept; none where a disk failed.
 pub(crate) fn find_out<D: Disk>(journal: &mut Journal<D>) -> Option<bool>
     requires { IsInFlight journal.old.flight }
-    ensures { IsFound result journal.old journal.new }
+    ensures { IsFoundOut result journal.old journal.new }
 {
     match journal.settle() {
         Ok(Settled::Kept) => Some(true),

@@ -29,7 +29,7 @@ use Rattle.curly_grammar.specs.declared.fault.Why.TheVariants.{Unexpected, Unkno
 use Rattle.curly_grammar.specs.declared.phase.Phase.{Phase}
 use Rattle.curly_grammar.specs.declared.phase.Phase.TheVariants.{Between, Marked, Naming, Valuing, Listing, After}
 use Rattle.curly_grammar.specs.Grammar.{sign, Level, Derives, Begins, Reads}
-use Rattle.curly_grammar.specs.Reading.{State, start, IsFinal, Run, silent, and_then, Turn, turned, begun_paths, IsValued, TakesWord, TakesSemicolon, TakesOpenBrace, TakesCloseBrace, TakesOpenBracket, TakesCloseBracket, TakesWordTo, TakesBy, Takes, Goes}
+use Rattle.curly_grammar.specs.Reading.{ReadState, start, IsFinal, Run, silent, and_then, Turn, turned, begun_paths, IsValued, TakesWord, TakesSemicolon, TakesOpenBrace, TakesCloseBrace, TakesOpenBracket, TakesCloseBracket, TakesWordTo, TakesBy, Takes, Goes}
 use Rattle.curly_grammar.specs.Fault.{why_not, paths_met, IsEndOfBeginning, byte_of, IsRefused, HasTooMany, of_lexical, of_reason, IsLeftmostFault}
 use Rattle.curly_grammar.proofs.RunLemmas.{run_of, goes_join, goes_one, goes_once}
 use Rattle.curly_grammar.proofs.GoesLemmas.{derived_goes}
@@ -54,7 +54,7 @@ word_meets (Valuing marks level) here token turn h = valued_meets level token.wo
 word_meets (Listing marks level words) here token turn h = valued_meets level token.word _ turn h (λ word. ([], refl))
 word_meets (After level) here token turn h = (paths_of turn.items ++ begun_paths turn.phase, refl)
 
-module _ (s : State) (run : Run) where
+module _ (s : ReadState) (run : Run) where
   run_meets : (two : Run) → run ≡ two → MeetsMore (begun_paths s.phase) (paths_met two) → MeetsMore (begun_paths s.phase) (paths_met run)
   run_meets two e h = subst (λ (r : Run). MeetsMore (begun_paths s.phase) (paths_met r)) (sym e) h
 
@@ -114,7 +114,7 @@ paths-append : (xs ys : List (Pair Value)) → paths_of (xs ++ ys) ≡ paths_of 
 paths-append [] ys = refl
 paths-append (x ∷ xs) ys = ap (λ (ps : List (List Step)). x.0 ∷ ps) (paths-append xs ys)
 
-goes_meets : (tokens : List Lexed) (s : State) (run : Run) → Goes s tokens run → MeetsMore (begun_paths s.phase) (paths_met run)
+goes_meets : (tokens : List Lexed) (s : ReadState) (run : Run) → Goes s tokens run → MeetsMore (begun_paths s.phase) (paths_met run)
 goes_meets [] s run h = ([], ap paths_met h ∙ sym (append-nil (begun_paths s.phase)))
 goes_meets (token ∷ tokens) s run h =
     let one = by_kind_meets s h.0 token.kind token h.2

@@ -18,7 +18,7 @@ use Rattle.curly_grammar.specs.declared.phase.Marks.{Marks}
 use Rattle.curly_grammar.specs.declared.phase.Phase.{Phase}
 use Rattle.curly_grammar.specs.declared.phase.Phase.TheVariants.{Between, Marked, Naming, Valuing, Listing, After}
 use Rattle.curly_grammar.specs.Grammar.{sign, Level}
-use Rattle.curly_grammar.specs.Reading.{State, state, IsFinal, Run, silent, and_then, Turn, turned, quiet, whole, below, child_at, HasRows, BeginsAs, BeginsStep, NamesAs, NamesStep, TakesWord, Takes, Goes}
+use Rattle.curly_grammar.specs.Reading.{ReadState, state, IsFinal, Run, silent, and_then, Turn, turned, quiet, whole, below, child_at, HasRows, BeginsAs, BeginsStep, NamesAs, NamesStep, TakesWord, Takes, Goes}
 use Rattle.curly_grammar.proofs.RunLemmas.{goes_more}
 use Rattle.curly_grammar.proofs.HeadLemmas.{fixed_begun, row_there}
 use Rattle.curly_grammar.proofs.GoesLemmas.{other_shape}
@@ -26,7 +26,7 @@ use Rattle.curly_grammar.proofs.KindLemmas.{name_spelled, value_spelled}
 use Rattle.curly_grammar.proofs.LeftLemmas.{IsLexed}
 
 -- some tokens lead from a state to an end
-pub record Ending (s : State) : Type 0 where
+pub record Ending (s : ReadState) : Type 0 where
   pub tokens : List Lexed
   pub are : AllByRecursion IsLexed tokens
   pub run : Run
@@ -40,7 +40,7 @@ quoted word = record { kind = kind.Quoted; word = word }
 quoted_lexed : (word : List ℕ) → IsLexed (quoted word)
 quoted_lexed word e = cc
 
-ends_by : (s : State) (token : Lexed) (one : Run) → IsLexed token → Takes s token one → Ending one.state → Ending s
+ends_by : (s : ReadState) (token : Lexed) (one : Run) → IsLexed token → Takes s token one → Ending one.state → Ending s
 ends_by s token one lexed taken end = record {
   tokens = token ∷ end.tokens;
   are = (lexed, end.are);
@@ -49,7 +49,7 @@ ends_by s token one lexed taken end = record {
   final = end.final;
 }
 
-ends_by_word : (s : State) (word : List ℕ) (turn : Turn) → TakesWord s.phase s.here (quoted word) turn → Ending (state s.here s.outer turn.phase) → Ending s
+ends_by_word : (s : ReadState) (word : List ℕ) (turn : Turn) → TakesWord s.phase s.here (quoted word) turn → Ending (state s.here s.outer turn.phase) → Ending s
 ends_by_word s word turn taken end =
     ends_by s (quoted word) (turned s turn) (quoted_lexed word) record { turn = turn; taken = taken; makes = refl } end
 
@@ -94,7 +94,7 @@ module _ (here : Level) (outer : List Level) where
   naming_ends : (marks : Marks) (at : Level) (head : List ℕ) → WantsName at head → Ending (state here outer (Naming marks at head))
   naming_ends marks at head wants = by_shape wants.shape
     where
-      s : State
+      s : ReadState
       s = state here outer (Naming marks at head)
 
       by_shape : ((row_of wants.row).shape ≡ Keyed) ⊎ ((row_of wants.row).shape ≡ Fixed) → Ending (state here outer (Naming marks at head))

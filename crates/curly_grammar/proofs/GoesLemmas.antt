@@ -22,7 +22,7 @@ use Rattle.curly_grammar.specs.declared.phase.Marks.{Marks}
 use Rattle.curly_grammar.specs.declared.phase.Phase.{Phase}
 use Rattle.curly_grammar.specs.declared.phase.Phase.TheVariants.{Between, Marked, Naming, Valuing, Listing, After}
 use Rattle.curly_grammar.specs.Grammar.{sign, IsWord, is_inactive, is_protect, is_replace, is_mark, Part, One, Two, Listed, Text, End, Short, Block, spell_part, spell, head_of, AreWords, word_of, StandsFor, Level, LeadsTo, is_open, said, LeadTo, Says, tagged, Tells, top_level, Derives, next_of}
-use Rattle.curly_grammar.specs.Reading.{no_marks, with_mark, State, state, Run, silent, Turn, turned, quiet, item_of, tag_of, whole, below, child_at, HasRows, BeginsAs, BeginsStep, NamesAs, NamesStep, TakesFirst, TakesAfter, start, TakesWord, TakesWordTo, TakesBy, Takes, Goes}
+use Rattle.curly_grammar.specs.Reading.{no_marks, with_mark, ReadState, state, Run, silent, Turn, turned, quiet, item_of, tag_of, whole, below, child_at, HasRows, BeginsAs, BeginsStep, NamesAs, NamesStep, TakesFirst, TakesAfter, start, TakesWord, TakesWordTo, TakesBy, Takes, Goes}
 use Rattle.curly_grammar.proofs.RunLemmas.{run_of, goes_join, goes_one, goes_more}
 use Rattle.curly_grammar.proofs.HeadLemmas.{row_stands, row_head, row_alone, fixed_wants_name, rows_there}
 
@@ -61,7 +61,7 @@ pub tag_said : (marks : List Lexed) (level : Level) (words : List (List ℕ)) (o
 tag_said marks level words others = ap (λ (b : Bool). cond b (level.path ∷ []) []) (replace_is marks no_marks)
 
 -- a word is taken, whatever its kind
-word_by : (k : TokenKind) (s : State) (token : Lexed) (run : Run) → is_word_kind k ≡ true → TakesWordTo s token run → TakesBy k s token run
+word_by : (k : TokenKind) (s : ReadState) (token : Lexed) (run : Run) → is_word_kind k ≡ true → TakesWordTo s token run → TakesBy k s token run
 word_by kind.Bare s token run h t = t
 word_by kind.Quoted s token run h t = t
 word_by kind.OpenBrace s token run h t = absurd cc
@@ -70,7 +70,7 @@ word_by kind.OpenBracket s token run h t = absurd cc
 word_by kind.CloseBracket s token run h t = absurd cc
 word_by kind.Semicolon s token run h t = absurd cc
 
-pub takes_word : (s : State) (token : Lexed) (turn : Turn) → IsWord token → TakesWord s.phase s.here token turn → Takes s token (turned s turn)
+pub takes_word : (s : ReadState) (token : Lexed) (turn : Turn) → IsWord token → TakesWord s.phase s.here token turn → Takes s token (turned s turn)
 takes_word s token turn word taken = word_by token.kind s token (turned s turn) word record { turn = turn; taken = taken; makes = refl }
 
 mark_by : (k : TokenKind) (word : List ℕ) → is_mark record { kind = k; word = word } ≡ true → is_word_kind k ≡ true
@@ -121,7 +121,7 @@ goes_values [] [] done here outer marks level are h = ap (λ (ws : List (List �
 goes_values [] (word ∷ all) done here outer marks level are h = absurd h
 goes_values (value ∷ values) [] done here outer marks level are h = absurd h
 goes_values (value ∷ values) (word ∷ all) done here outer marks level are h =
-    let s : State = state here outer (Listing marks level done)
+    let s : ReadState = state here outer (Listing marks level done)
     in let next : Run = silent (state here outer (Listing marks level (done ++ word ∷ [])))
     in let taken : Takes s value next = takes_word s value (quiet (Listing marks level (done ++ word ∷ []))) are.0 record { word = word; spelled = h.0; makes = refl }
     in let more = goes_values values all (done ++ word ∷ []) here outer marks level are.1 h.1
@@ -326,7 +326,7 @@ module _ (here : Level) (outer : List Level) (first : Part) (more : List Part) (
   goes_first phase marks opens h =
       let parts = lead_parts here marks first more items last h
       in let m : Marks = with_marks no_marks marks
-      in let s : State = state here outer (After last)
+      in let s : ReadState = state here outer (After last)
       in let told : run_of s (item_of m parts.level parts.words ∷ parts.others) (tag_of m parts.level ++ []) ≡ run_of s (said marks parts.level parts.words ∷ parts.others) (tagged marks (said marks parts.level parts.words ∷ parts.others)) =
       ap (λ (i : Pair Value). run_of s (i ∷ parts.others) (tag_of m parts.level ++ [])) (item_said marks parts.level parts.words)
       ∙ ap (λ (ts : List (List Step)). run_of s (said marks parts.level parts.words ∷ parts.others) ts) (append-nil _ ∙ tag_said marks parts.level parts.words parts.others)
@@ -380,7 +380,7 @@ goes_text End here outer items tags h =
 goes_text (Short marks first more rest) here outer items tags h =
     let own = h.0
     in let last = h.1
-    in let s : State = state here outer Between
+    in let s : ReadState = state here outer Between
     in subst (λ (xs : List (Pair Value)). Goes s (spell (Short marks first more rest)) (run_of s xs tags)) (sym h.6)
     (subst (λ (ts : List (List Step)). Goes s (spell (Short marks first more rest)) (run_of s (own ++ h.2) ts)) (sym h.7)
     (subst (λ (tokens : List Lexed). Goes s tokens (run_of s (own ++ h.2) (tagged marks own ++ h.3)))
@@ -391,8 +391,8 @@ goes_text (Short marks first more rest) here outer items tags h =
 goes_text (Block marks first more body rest) here outer items tags h =
     let own = h.0
     in let last = h.1
-    in let s : State = state here outer Between
-    in let inside : State = state last (here ∷ outer) Between
+    in let s : ReadState = state here outer Between
+    in let inside : ReadState = state last (here ∷ outer) Between
     in subst (λ (xs : List (Pair Value)). Goes s (spell (Block marks first more body rest)) (run_of s xs tags)) (sym h.10)
     (subst (λ (ts : List (List Step)). Goes s (spell (Block marks first more body rest)) (run_of s (own ++ (h.2 ++ h.4)) ts)) (sym h.11)
     (subst (λ (tokens : List Lexed). Goes s tokens (run_of s (own ++ (h.2 ++ h.4)) (tagged marks own ++ (h.3 ++ h.5))))

@@ -21,7 +21,7 @@ use Rattle.curly_grammar.specs.declared.phase.Marks.{Marks}
 use Rattle.curly_grammar.specs.declared.phase.Phase.{Phase}
 use Rattle.curly_grammar.specs.declared.phase.Phase.TheVariants.{Between, Marked, Naming, Valuing, Listing, After}
 use Rattle.curly_grammar.specs.Grammar.{sign, IsWord, is_mark, Part, One, Two, Listed, Text, End, Short, Block, spell_part, spell, head_of, IsValue, AreValues, word_of, StandsFor, Level, top_level, LeadsTo, is_open, said, LeadTo, Says, tagged, Tells, Derives}
-use Rattle.curly_grammar.specs.Reading.{no_marks, with_mark, State, state, start, IsFinal, Run, Turn, quiet, item_of, tag_of, whole, below, child_at, BeginsAs, BeginsStep, NamesAs, NamesStep, TakesFirst, TakesAfter, IsValued, TakesWord, TakesSemicolon, TakesOpenBrace, Leaves, TakesCloseBrace, TakesOpenBracket, TakesCloseBracket, TakesWordTo, TakesBy, Takes, Goes}
+use Rattle.curly_grammar.specs.Reading.{no_marks, with_mark, ReadState, state, start, IsFinal, Run, Turn, quiet, item_of, tag_of, whole, below, child_at, BeginsAs, BeginsStep, NamesAs, NamesStep, TakesFirst, TakesAfter, IsValued, TakesWord, TakesSemicolon, TakesOpenBrace, Leaves, TakesCloseBrace, TakesOpenBracket, TakesCloseBracket, TakesWordTo, TakesBy, Takes, Goes}
 use Rattle.curly_grammar.proofs.HeadLemmas.{row_alone}
 use Rattle.curly_grammar.proofs.GoesLemmas.{with_marks, item_said, tag_said, other_shape}
 
@@ -168,7 +168,7 @@ Left (Valuing marks level) here outer tokens items tags = ValuingLeft marks leve
 Left (Listing marks level words) here outer tokens items tags = ListingLeft marks level words here outer tokens items tags
 Left (After level) here outer tokens items tags = Tail level here outer tokens items tags
 
-abbrev LeftOf : State → List Lexed → List (Pair Value) → List (List Step) → Type 0
+abbrev LeftOf : ReadState → List Lexed → List (Pair Value) → List (List Step) → Type 0
 LeftOf s tokens items tags = Left s.phase s.here s.outer tokens items tags
 
 -- a first step and those behind it
@@ -587,7 +587,7 @@ some_spelled kind [] (word ∷ all) h l = absurd h
 some_spelled kind (value ∷ values) all h l = omega arith
 
 -- what is left behind a run is left behind its tokens
-abbrev LeavesAll : State → List Lexed → Run → List Lexed → List (Pair Value) → List (List Step) → Type 0
+abbrev LeavesAll : ReadState → List Lexed → Run → List Lexed → List (Pair Value) → List (List Step) → Type 0
 LeavesAll s before run tokens items tags = LeftOf run.state tokens items tags → LeftOf s (before ++ tokens) (run.items ++ items) (run.tags ++ tags)
 
 module _ (here : Level) (outer : List Level) (run : Run) (tokens : List Lexed) (items : List (Pair Value)) (tags : List (List Step)) where
@@ -716,7 +716,7 @@ sign_is token k e no_word lexed =
     ap (λ (x : TokenKind). record { kind = x; word = token.word }) e
     ∙ ap (λ (bytes : List ℕ). record { kind = k; word = bytes }) (lexed (ap is_word_kind e ∙ no_word))
 
-module _ (s : State) (token : Lexed) (run : Run) (tokens : List Lexed) (items : List (Pair Value)) (tags : List (List Step)) (lexed : IsLexed token) where
+module _ (s : ReadState) (token : Lexed) (run : Run) (tokens : List Lexed) (items : List (Pair Value)) (tags : List (List Step)) (lexed : IsLexed token) where
   by_sign : (k : TokenKind) → token.kind ≡ k → is_word_kind k ≡ false → LeavesAll s (sign k ∷ []) run tokens items tags → LeavesAll s (token ∷ []) run tokens items tags
   by_sign k e no_word h = subst (λ (t : Lexed). LeavesAll s (t ∷ []) run tokens items tags) (sym (sign_is token k e no_word lexed)) h
 
@@ -738,7 +738,7 @@ module _ (s : State) (token : Lexed) (run : Run) (tokens : List Lexed) (items : 
   taken_left h = by_kind_left token.kind refl h
 
 -- where tokens lead to an end, they are what is left of a text
-goes_left : (tokens : List Lexed) (s : State) (run : Run) → AllByRecursion IsLexed tokens → Goes s tokens run → LeftOf run.state [] [] [] → LeftOf s tokens run.items run.tags
+goes_left : (tokens : List Lexed) (s : ReadState) (run : Run) → AllByRecursion IsLexed tokens → Goes s tokens run → LeftOf run.state [] [] [] → LeftOf s tokens run.items run.tags
 goes_left [] s run are h end = subst (λ (r : Run). LeftOf r.state [] [] [] → LeftOf s [] r.items r.tags) (sym h) (λ left. left) end
 goes_left (token ∷ tokens) s run are h end =
     let more : LeftOf h.0.state tokens h.1.items h.1.tags =
@@ -746,7 +746,7 @@ goes_left (token ∷ tokens) s run are h end =
     in subst (λ (r : Run). LeftOf s (token ∷ tokens) r.items r.tags) (sym h.4) (taken_left s token h.0 tokens h.1.items h.1.tags are.0 h.2 more)
 
 -- a text may end in a final state
-final_left : (s : State) → IsFinal s → LeftOf s [] [] []
+final_left : (s : ReadState) → IsFinal s → LeftOf s [] [] []
 final_left s final =
     subst (λ (p : Phase). Left p s.here s.outer [] [] []) (sym final.whole)
     (subst (λ (o : List Level). Finishes s.here o [] [] []) (sym final.closed) record {

@@ -18,10 +18,10 @@ use Rattle.curly_grammar.specs.declared.phase.Marks.{Marks}
 use Rattle.curly_grammar.specs.declared.phase.Phase.{Phase}
 use Rattle.curly_grammar.specs.declared.phase.Phase.TheVariants.{Between, Marked, Naming, Valuing, Listing, After}
 use Rattle.curly_grammar.specs.Grammar.{Level, is_mark, is_open}
-use Rattle.curly_grammar.specs.Reading.{no_marks, State, Run, silent, and_then, Turn, turned, whole, child_at, IsNamed, BeginsAs, BeginsStep, NamesAs, NamesStep, TakesFirst, TakesAfter, IsValued, TakesWord, TakesSemicolon, TakesOpenBrace, Leaves, TakesCloseBrace, TakesOpenBracket, TakesCloseBracket, TakesWordTo, TakesBy, Takes, Goes}
+use Rattle.curly_grammar.specs.Reading.{no_marks, ReadState, Run, silent, and_then, Turn, turned, whole, child_at, IsNamed, BeginsAs, BeginsStep, NamesAs, NamesStep, TakesFirst, TakesAfter, IsValued, TakesWord, TakesSemicolon, TakesOpenBrace, Leaves, TakesCloseBrace, TakesOpenBracket, TakesCloseBracket, TakesWordTo, TakesBy, Takes, Goes}
 
 -- a run of these parts
-abbrev pub run_of : State → List (Pair Value) → List (List Step) → Run
+abbrev pub run_of : ReadState → List (Pair Value) → List (List Step) → Run
 run_of s items tags = record { state = s; items = items; tags = tags }
 
 pub then-assoc : (a b c : Run) → and_then (and_then a b) c ≡ and_then a (and_then b c)
@@ -35,7 +35,7 @@ then-silent a =
     ∙ ap (λ (xs : List (List Step)). run_of a.state a.items xs) (append-nil a.tags)
 
 -- one run behind another
-pub goes_join : (xs ys : List Lexed) (s : State) (one two : Run) → Goes s xs one → Goes one.state ys two → Goes s (xs ++ ys) (and_then one two)
+pub goes_join : (xs ys : List Lexed) (s : ReadState) (one two : Run) → Goes s xs one → Goes one.state ys two → Goes s (xs ++ ys) (and_then one two)
 goes_join [] ys s one two a b =
     subst (λ (r : Run). Goes r.state ys two → Goes s ys (and_then r two)) (sym a) (λ g. g) b
 goes_join (x ∷ xs) ys s one two a b = (
@@ -47,22 +47,22 @@ goes_join (x ∷ xs) ys s one two a b = (
 )
 
 -- a run over one token
-pub goes_one : (s : State) (token : Lexed) (run : Run) → Takes s token run → Goes s (token ∷ []) run
+pub goes_one : (s : ReadState) (token : Lexed) (run : Run) → Takes s token run → Goes s (token ∷ []) run
 goes_one s token run taken = (run, silent run.state, taken, refl, sym (then-silent run))
 
 -- a token and then more
-pub goes_more : (s : State) (token : Lexed) (tokens : List Lexed) (one more : Run) → Takes s token one → Goes one.state tokens more → Goes s (token ∷ tokens) (and_then one more)
+pub goes_more : (s : ReadState) (token : Lexed) (tokens : List Lexed) (one more : Run) → Takes s token one → Goes one.state tokens more → Goes s (token ∷ tokens) (and_then one more)
 goes_more s token tokens one more taken goes = (one, more, taken, goes, refl)
 
 -- a run in two parts
-pub record Parts (xs ys : List Lexed) (s : State) (run : Run) : Type 0 where
+pub record Parts (xs ys : List Lexed) (s : ReadState) (run : Run) : Type 0 where
   pub one : Run
   pub two : Run
   pub first : Goes s xs one
   pub second : Goes one.state ys two
   pub joined : run ≡ and_then one two
 
-pub goes_split : (xs ys : List Lexed) (s : State) (run : Run) → Goes s (xs ++ ys) run → Parts xs ys s run
+pub goes_split : (xs ys : List Lexed) (s : ReadState) (run : Run) → Goes s (xs ++ ys) run → Parts xs ys s run
 goes_split [] ys s run g = record { one = silent s; two = run; first = refl; second = g; joined = refl }
 goes_split (x ∷ xs) ys s run g =
     let parts = goes_split xs ys g.0.state g.1 g.3
@@ -131,11 +131,11 @@ word_once (Valuing marks level) here token a b h g = valued_once level token.wor
 word_once (Listing marks level words) here token a b h g = valued_once level token.word _ a b h g
 word_once (After level) here token a b h g = after_once (is_open level) level token.word a b h g
 
-word_to_once : (s : State) (token : Lexed) (a b : Run) → TakesWordTo s token a → TakesWordTo s token b → a ≡ b
+word_to_once : (s : ReadState) (token : Lexed) (a b : Run) → TakesWordTo s token a → TakesWordTo s token b → a ≡ b
 word_to_once s token a b h g =
     h.makes ∙ ap (λ (t : Turn). turned s t) (word_once s.phase s.here token h.turn g.turn h.taken g.taken) ∙ sym g.makes
 
-semicolon_once : (phase : Phase) (s : State) (a b : Run) → TakesSemicolon phase s a → TakesSemicolon phase s b → a ≡ b
+semicolon_once : (phase : Phase) (s : ReadState) (a b : Run) → TakesSemicolon phase s a → TakesSemicolon phase s b → a ≡ b
 semicolon_once (After level) s a b h g = h ∙ sym g
 semicolon_once Between s a b h g = absurd h
 semicolon_once (Marked marks) s a b h g = absurd h
@@ -143,7 +143,7 @@ semicolon_once (Naming marks at head) s a b h g = absurd h
 semicolon_once (Valuing marks level) s a b h g = absurd h
 semicolon_once (Listing marks level words) s a b h g = absurd h
 
-open_once : (phase : Phase) (s : State) (a b : Run) → TakesOpenBrace phase s a → TakesOpenBrace phase s b → a ≡ b
+open_once : (phase : Phase) (s : ReadState) (a b : Run) → TakesOpenBrace phase s a → TakesOpenBrace phase s b → a ≡ b
 open_once (After level) s a b h g = h.1 ∙ sym g.1
 open_once Between s a b h g = absurd h
 open_once (Marked marks) s a b h g = absurd h
@@ -155,7 +155,7 @@ leaves_once : (outer : List Level) (a b : Run) → Leaves outer a → Leaves out
 leaves_once [] a b h g = absurd h
 leaves_once (here ∷ outer) a b h g = h ∙ sym g
 
-close_once : (phase : Phase) (s : State) (a b : Run) → TakesCloseBrace phase s a → TakesCloseBrace phase s b → a ≡ b
+close_once : (phase : Phase) (s : ReadState) (a b : Run) → TakesCloseBrace phase s a → TakesCloseBrace phase s b → a ≡ b
 close_once Between s a b h g = leaves_once s.outer a b h g
 close_once (Marked marks) s a b h g = absurd h
 close_once (Naming marks at head) s a b h g = absurd h
@@ -163,7 +163,7 @@ close_once (Valuing marks level) s a b h g = absurd h
 close_once (Listing marks level words) s a b h g = absurd h
 close_once (After level) s a b h g = absurd h
 
-list_once : (phase : Phase) (s : State) (a b : Run) → TakesOpenBracket phase s a → TakesOpenBracket phase s b → a ≡ b
+list_once : (phase : Phase) (s : ReadState) (a b : Run) → TakesOpenBracket phase s a → TakesOpenBracket phase s b → a ≡ b
 list_once (Valuing marks level) s a b h g = h.1 ∙ sym g.1
 list_once Between s a b h g = absurd h
 list_once (Marked marks) s a b h g = absurd h
@@ -171,7 +171,7 @@ list_once (Naming marks at head) s a b h g = absurd h
 list_once (Listing marks level words) s a b h g = absurd h
 list_once (After level) s a b h g = absurd h
 
-listed_once : (phase : Phase) (s : State) (a b : Run) → TakesCloseBracket phase s a → TakesCloseBracket phase s b → a ≡ b
+listed_once : (phase : Phase) (s : ReadState) (a b : Run) → TakesCloseBracket phase s a → TakesCloseBracket phase s b → a ≡ b
 listed_once (Listing marks level words) s a b h g = h.1 ∙ sym g.1
 listed_once Between s a b h g = absurd h
 listed_once (Marked marks) s a b h g = absurd h
@@ -179,7 +179,7 @@ listed_once (Naming marks at head) s a b h g = absurd h
 listed_once (Valuing marks level) s a b h g = absurd h
 listed_once (After level) s a b h g = absurd h
 
-by_kind_once : (kind : TokenKind) (s : State) (token : Lexed) (a b : Run) → TakesBy kind s token a → TakesBy kind s token b → a ≡ b
+by_kind_once : (kind : TokenKind) (s : ReadState) (token : Lexed) (a b : Run) → TakesBy kind s token a → TakesBy kind s token b → a ≡ b
 by_kind_once kind.Semicolon s token a b h g = semicolon_once s.phase s a b h g
 by_kind_once kind.OpenBrace s token a b h g = open_once s.phase s a b h g
 by_kind_once kind.CloseBrace s token a b h g = close_once s.phase s a b h g
@@ -189,11 +189,11 @@ by_kind_once kind.Bare s token a b h g = word_to_once s token a b h g
 by_kind_once kind.Quoted s token a b h g = word_to_once s token a b h g
 
 -- a token leads from a state to one other at most
-pub takes_once : (s : State) (token : Lexed) (a b : Run) → Takes s token a → Takes s token b → a ≡ b
+pub takes_once : (s : ReadState) (token : Lexed) (a b : Run) → Takes s token a → Takes s token b → a ≡ b
 takes_once s token a b h g = by_kind_once token.kind s token a b h g
 
 -- and so do tokens
-pub goes_once : (xs : List Lexed) (s : State) (a b : Run) → Goes s xs a → Goes s xs b → a ≡ b
+pub goes_once : (xs : List Lexed) (s : ReadState) (a b : Run) → Goes s xs a → Goes s xs b → a ≡ b
 goes_once [] s a b h g = h ∙ sym g
 goes_once (x ∷ xs) s a b h g =
     let one = takes_once s x h.0 g.0 h.2 g.2

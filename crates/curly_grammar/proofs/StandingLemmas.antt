@@ -38,7 +38,7 @@ use Rattle.curly_grammar.specs.declared.phase.Phase.{Phase}
 use Rattle.curly_grammar.specs.declared.phase.Phase.TheVariants.{Between, Marked, Naming, Valuing, Listing, After}
 use Rattle.curly_grammar.specs.Grammar.{Level, is_mark, is_open}
 use Rattle.curly_grammar.specs.Reading as reading
-use Rattle.curly_grammar.specs.Reading.{State, start, Run, Turn, turned, quiet, whole, item_of, below, child_at, HasRows, BeginsAs, BeginsStep, NamesAs, NamesStep, TakesFirst, TakesAfter, TakesWord, TakesSemicolon, TakesOpenBrace, Leaves, TakesCloseBrace, TakesOpenBracket, TakesCloseBracket, TakesWordTo, TakesBy, Takes, Goes}
+use Rattle.curly_grammar.specs.Reading.{ReadState, start, Run, Turn, turned, quiet, whole, item_of, below, child_at, HasRows, BeginsAs, BeginsStep, NamesAs, NamesStep, TakesFirst, TakesAfter, TakesWord, TakesSemicolon, TakesOpenBrace, Leaves, TakesCloseBrace, TakesOpenBracket, TakesCloseBracket, TakesWordTo, TakesBy, Takes, Goes}
 use Rattle.curly_grammar.proofs.GoesLemmas.{other_shape}
 use Rattle.curly_grammar.proofs.HeadLemmas.{row_stands, row_head, row_bare, row_name}
 use Rattle.curly_grammar.proofs.LeftLemmas.{shape_many}
@@ -85,7 +85,7 @@ IsSoundPhase m (Listing marks level words) here = ListComes m level words
 IsSoundPhase m (After level) here = Stands m level
 
 -- and of a state, where these statements are there
-pub record IsSound (m : Statements) (s : State) : Type 0 where
+pub record IsSound (m : Statements) (s : ReadState) : Type 0 where
   pub here : Stands m s.here
   pub outer : AllByRecursion (Stands m) s.outer
   pub phase : IsSoundPhase m s.phase s.here
@@ -304,7 +304,7 @@ pub record IsSoundRun (m : Statements) (run : Run) : Type 0 where
   pub said : AreSaid m run.items
   pub state : IsSound (stated m run.items) run.state
 
-module _ (m : Statements) (s : State) (run : Run) (sound : IsSound m s) where
+module _ (m : Statements) (s : ReadState) (run : Run) (sound : IsSound m s) where
   run_is : (two : Run) → run ≡ two → IsSoundRun m two → IsSoundRun m run
   run_is two e h = subst (λ (r : Run). IsSoundRun m r) (sym e) h
 
@@ -381,10 +381,10 @@ module _ (m : Statements) (s : State) (run : Run) (sound : IsSound m s) where
   by_kind_sound kind.Bare token h = word_to_sound token h
   by_kind_sound kind.Quoted token h = word_to_sound token h
 
-pub takes_sound : (m : Statements) (s : State) (token : Lexed) (run : Run) → IsSound m s → Takes s token run → IsSoundRun m run
+pub takes_sound : (m : Statements) (s : ReadState) (token : Lexed) (run : Run) → IsSound m s → Takes s token run → IsSoundRun m run
 takes_sound m s token run sound h = by_kind_sound m s run sound token.kind token h
 
-pub goes_sound : (tokens : List Lexed) (m : Statements) (s : State) (run : Run) → IsSound m s → Goes s tokens run → IsSoundRun m run
+pub goes_sound : (tokens : List Lexed) (m : Statements) (s : ReadState) (run : Run) → IsSound m s → Goes s tokens run → IsSoundRun m run
 goes_sound [] m s run sound h = subst (λ (r : Run). IsSoundRun m r) (sym h) record { said = tt; state = sound }
 goes_sound (token ∷ tokens) m s run sound h =
     let one = takes_sound m s token h.0 sound h.2

@@ -22,7 +22,7 @@ use Rattle.curly_grammar.specs.Answer.{Answers, turn_of}
 use Rattle.curly_grammar.specs.Fault.{why_no_word}
 use Rattle.curly_grammar.specs.Grammar.{Level, is_open}
 use Rattle.curly_grammar.specs.Held.{run_in, state_in, Follows, IsTaken, IsNotTaken, HasTaken, HasTakenWord, HasEntered, HasLeft, IsListed, IsListEnd}
-use Rattle.curly_grammar.specs.Reading.{State, state, Run, Turn, silent, quiet, whole, TakesWord, TakesSemicolon, TakesOpenBrace, Leaves, TakesCloseBrace, TakesOpenBracket, and_then, turned}
+use Rattle.curly_grammar.specs.Reading.{ReadState, state, Run, Turn, silent, quiet, whole, TakesWord, TakesSemicolon, TakesOpenBrace, Leaves, TakesCloseBrace, TakesOpenBracket, and_then, turned}
 use Rattle.curly_grammar.proofs.RunLemmas.{run_of}
 
 -- a reader with another phase
@@ -78,7 +78,7 @@ semicolon_taken old level e = record {
 }
 
 -- a run that says nothing
-silent_said : (run : Run) (s : State) → record { state = s; items = run.items; tags = run.tags } ≡ and_then run (silent s)
+silent_said : (run : Run) (s : ReadState) → record { state = s; items = run.items; tags = run.tags } ≡ and_then run (silent s)
 silent_said run s =
     ap (λ (xs : List (Pair Value)). run_of s xs run.tags) (sym (append-nil run.items)) ∙ ap (λ (ts : List (List Step)). run_of s (run.items ++ []) ts) (sym (append-nil run.tags))
 
@@ -122,7 +122,7 @@ close_taken old new e (Err (Refused reason)) h = record {
 }
 close_taken old new e (Err NoMemory) h = tt
 
-no_brace : (phase : Phase) (s : State) (run : Run) → (phase ≡ Between → ⊥) → TakesCloseBrace phase s run → ⊥
+no_brace : (phase : Phase) (s : ReadState) (run : Run) → (phase ≡ Between → ⊥) → TakesCloseBrace phase s run → ⊥
 no_brace Between s run h t = h refl
 no_brace (Marked marks) s run h t = t
 no_brace (Naming marks at head) s run h t = t

@@ -32,7 +32,7 @@ use Rattle.curly_grammar.specs.declared.phase.Phase.TheVariants.{Between, Marked
 use Rattle.curly_grammar.specs.declared.fault.TextFault.TheVariants as fault
 use Rattle.curly_grammar.specs.declared.fault.Why.TheVariants.{Unexpected, Unknown}
 use Rattle.curly_grammar.specs.Grammar.{Level, Part, One, Two, Listed, Text, End, Short, Block, IsWord, IsValue, LeadTo, LeadsTo, StandsFor, Tells, head_of, is_mark, is_open, said, sign, spell, spell_part, tagged, top_level, word_of}
-use Rattle.curly_grammar.specs.Reading.{BeginsAs, BeginsStep, Goes, HasRows, IsValued, Leaves, NamesAs, NamesStep, Run, State, Takes, TakesAfter, TakesBy, TakesCloseBrace, TakesCloseBracket, TakesFirst, TakesOpenBrace, TakesOpenBracket, TakesSemicolon, TakesWord, TakesWordTo, Turn, and_then, below, child_at, no_marks, quiet, silent, start, state, value_kind_of, whole, with_mark}
+use Rattle.curly_grammar.specs.Reading.{BeginsAs, BeginsStep, Goes, HasRows, IsValued, Leaves, NamesAs, NamesStep, Run, ReadState, Takes, TakesAfter, TakesBy, TakesCloseBrace, TakesCloseBracket, TakesFirst, TakesOpenBrace, TakesOpenBracket, TakesSemicolon, TakesWord, TakesWordTo, Turn, and_then, below, child_at, no_marks, quiet, silent, start, state, value_kind_of, whole, with_mark}
 use Rattle.curly_grammar.specs.Fault.{IsLeftmostFault, paths_met, why_by, why_no_more, why_no_statement, why_no_step, why_no_word, why_not}
 use Rattle.curly_grammar.specs.Unknown.{AreStatements, BeginsStepAt, Enters, InText, IsStatement, IsUnknownAt}
 use Rattle.curly_grammar.proofs.RunLemmas.{goes_join, goes_one, run_of}
@@ -519,7 +519,7 @@ close_comes (Valuing marks level) here outer tokens run r h = absurd h
 close_comes (Listing marks level words) here outer tokens run r h = absurd h
 close_comes (After level) here outer tokens run r h = absurd h
 
-module _ (s : State) (token : Lexed) (run : Run) (tokens : List Lexed) (lexed : IsLexed token) (r : Reached s.phase s.here s.outer tokens) where
+module _ (s : ReadState) (token : Lexed) (run : Run) (tokens : List Lexed) (lexed : IsLexed token) (r : Reached s.phase s.here s.outer tokens) where
   by_sign : (k : TokenKind) → token.kind ≡ k → is_word_kind k ≡ false → ReachedBy run (tokens ++ sign k ∷ []) → ReachedBy run (tokens ++ token ∷ [])
   by_sign k e no_word h = subst (λ (t : Lexed). ReachedBy run (tokens ++ t ∷ [])) (sym (sign_is token k e no_word lexed)) h
 
@@ -537,7 +537,7 @@ module _ (s : State) (token : Lexed) (run : Run) (tokens : List Lexed) (lexed : 
   by_kind_comes kind.Quoted e h = word_to_comes (ap is_word_kind e) h
 
 -- how a text stands behind tokens that are taken one after another
-goes_reached : (tokens : List Lexed) (s : State) (run : Run) (before : List Lexed) → AllByRecursion IsLexed tokens → Reached s.phase s.here s.outer before → Goes s tokens run
+goes_reached : (tokens : List Lexed) (s : ReadState) (run : Run) (before : List Lexed) → AllByRecursion IsLexed tokens → Reached s.phase s.here s.outer before → Goes s tokens run
     → ReachedBy run (before ++ tokens)
 goes_reached [] s run before are r h =
     subst (λ (x : Run). ReachedBy x (before ++ [])) (sym h) (subst (λ (ts : List Lexed). Reached s.phase s.here s.outer ts) (sym (append-nil before)) r)
@@ -587,11 +587,11 @@ module _ (outer : List Level) (here : Level) (tokens : List Lexed) (word : Lexed
   word_untaken (Listing marks level words) r h = cc
   word_untaken (After level) r h = further_untaken (is_open level) level refl r h
 
-record UntakenIn (s : State) (tokens : List Lexed) (token : Lexed) : Type 0 where
+record UntakenIn (s : ReadState) (tokens : List Lexed) (token : Lexed) : Type 0 where
   is_word : IsWord token
   untaken : Untaken s.outer s.here tokens token
 
-kind_untaken : (s : State) (tokens : List Lexed) (token : Lexed) (k : TokenKind) → token.kind ≡ k → Reached s.phase s.here s.outer tokens → why_by k s token ≡ Unknown → UntakenIn s tokens token
+kind_untaken : (s : ReadState) (tokens : List Lexed) (token : Lexed) (k : TokenKind) → token.kind ≡ k → Reached s.phase s.here s.outer tokens → why_by k s token ≡ Unknown → UntakenIn s tokens token
 kind_untaken s tokens token kind.Bare e r h = record { is_word = ap is_word_kind e; untaken = word_untaken s.outer s.here tokens token s.phase r h }
 kind_untaken s tokens token kind.Quoted e r h = record { is_word = ap is_word_kind e; untaken = word_untaken s.outer s.here tokens token s.phase r h }
 kind_untaken s tokens token kind.OpenBrace e r h = cc
@@ -627,19 +627,19 @@ unknown_only text byte h = by_token (slice_get (map (lexed_in text) h.tokens) h.
         }
 
 -- a run that ends in this state
-record RunTo (tokens : List Lexed) (s : State) : Type 0 where
+record RunTo (tokens : List Lexed) (s : ReadState) : Type 0 where
   run : Run
   goes : Goes start tokens run
   ends : run.state ≡ s
 
-run_on : (xs ys : List Lexed) (s : State) (two : Run) → RunTo xs s → Goes s ys two → RunTo (xs ++ ys) two.state
+run_on : (xs ys : List Lexed) (s : ReadState) (two : Run) → RunTo xs s → Goes s ys two → RunTo (xs ++ ys) two.state
 run_on xs ys s two a g = record {
   run = and_then a.run two;
-  goes = goes_join xs ys start a.run two a.goes (subst (λ (x : State). Goes x ys two) (sym a.ends) g);
+  goes = goes_join xs ys start a.run two a.goes (subst (λ (x : ReadState). Goes x ys two) (sym a.ends) g);
   ends = refl;
 }
 
-run_by : (xs ys : List Lexed) (s : State) → ys ≡ xs → RunTo xs s → RunTo ys s
+run_by : (xs ys : List Lexed) (s : ReadState) → ys ≡ xs → RunTo xs s → RunTo ys s
 run_by xs ys s e h = subst (λ (ts : List Lexed). RunTo ts s) (sym e) h
 
 enters_run : (outer : List Level) (here : Level) (tokens : List Lexed) → Enters outer here tokens → RunTo tokens (state here outer Between)
@@ -728,7 +728,7 @@ none_begun parent in_group word none = by_child (schema.child_of parent in_group
     by_child (begun.Row row) (inl b) = absurd (none.0 row b.0)
     by_child (begun.Row row) (inr b) = absurd (none.1 row b.1 b.2)
 
-word_why : (k : TokenKind) (s : State) (token : Lexed) → is_word_kind k ≡ true → why_by k s token ≡ why_no_word s.phase s.here token
+word_why : (k : TokenKind) (s : ReadState) (token : Lexed) → is_word_kind k ≡ true → why_by k s token ≡ why_no_word s.phase s.here token
 word_why kind.Bare s token h = refl
 word_why kind.Quoted s token h = refl
 word_why kind.OpenBrace s token h = absurd cc
@@ -737,7 +737,7 @@ word_why kind.OpenBracket s token h = absurd cc
 word_why kind.CloseBracket s token h = absurd cc
 word_why kind.Semicolon s token h = absurd cc
 
-word_taken : (k : TokenKind) (s : State) (token : Lexed) (run : Run) → is_word_kind k ≡ true → TakesBy k s token run → TakesWordTo s token run
+word_taken : (k : TokenKind) (s : ReadState) (token : Lexed) (run : Run) → is_word_kind k ≡ true → TakesBy k s token run → TakesWordTo s token run
 word_taken kind.Bare s token run h t = t
 word_taken kind.Quoted s token run h t = t
 word_taken kind.OpenBrace s token run h t = absurd cc
@@ -763,7 +763,7 @@ module _ (text : List ℕ) (byte : ℕ) (u : IsUnknownAt text byte) where
     never_taken token there one taken =
         let same : token ≡ u.word = some_is token u.word (sym there ∙ u.there)
         in let by_state : Takes (state u.here u.outer stands.phase) u.word one =
-        subst (λ (t : Lexed). Takes (state u.here u.outer stands.phase) t one) same (subst (λ (s : State). Takes s token one) stands.run_to.ends taken)
+        subst (λ (t : Lexed). Takes (state u.here u.outer stands.phase) t one) same (subst (λ (s : ReadState). Takes s token one) stands.run_to.ends taken)
         in let to = word_taken u.word.kind (state u.here u.outer stands.phase) u.word one u.is_word by_state
         in let begun_step = stands.begins to.turn to.taken
         in subst (λ (c : Child). BeginsStep c u.level begun_step.0 u.word.word to.turn) none begun_step.1
@@ -771,7 +771,7 @@ module _ (text : List ℕ) (byte : ℕ) (u : IsUnknownAt text byte) where
     why_unknown : Unknown ≡ why_not stands.run_to.run.state (slice_get (map (lexed_in text) u.tokens) u.at)
     why_unknown =
         sym (ap (why_not stands.run_to.run.state) u.there
-        ∙ ap (λ (s : State). why_by u.word.kind s u.word) stands.run_to.ends
+        ∙ ap (λ (s : ReadState). why_by u.word.kind s u.word) stands.run_to.ends
         ∙ word_why u.word.kind (state u.here u.outer stands.phase) u.word u.is_word
         ∙ stands.why
         ∙ ap why_no_step none)

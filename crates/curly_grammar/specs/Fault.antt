@@ -23,7 +23,7 @@ use Rattle.curly_grammar.specs.declared.fault.Why.TheVariants.{Unexpected, Unkno
 use Rattle.curly_grammar.specs.declared.phase.Phase.{Phase}
 use Rattle.curly_grammar.specs.declared.phase.Phase.TheVariants.{Between, Marked, Naming, Valuing, Listing, After}
 use Rattle.curly_grammar.specs.Grammar.{Level, is_open, is_mark, Derives, Begins}
-use Rattle.curly_grammar.specs.Reading.{State, Run, start, child_at, Goes, begun_paths}
+use Rattle.curly_grammar.specs.Reading.{ReadState, Run, start, child_at, Goes, begun_paths}
 
 -- a word that doesn't begin a step: no row takes it, or it is a bare name that isn't of its kind
 abbrev pub why_no_step : Child → Why
@@ -50,13 +50,13 @@ why_no_word (Valuing marks level) here token = BadValue
 why_no_word (Listing marks level words) here token = BadValue
 why_no_word (After level) here token = why_no_more (is_open level) level token.word
 
-abbrev pub why_by : TokenKind → State → Lexed → Why
+abbrev pub why_by : TokenKind → ReadState → Lexed → Why
 why_by kind.Bare s token = why_no_word s.phase s.here token
 why_by kind.Quoted s token = why_no_word s.phase s.here token
 why_by _ s token = Unexpected
 
 -- why a token isn't taken in a state; at the end of the text something had to come
-abbrev pub why_not : State → Option Lexed → Why
+abbrev pub why_not : ReadState → Option Lexed → Why
 why_not s None = Unexpected
 why_not s (Some token) = why_by token.kind s token
 

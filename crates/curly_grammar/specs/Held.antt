@@ -15,9 +15,9 @@ use Rattle.curly_grammar.specs.declared.phase.Phase.TheVariants.{Between, Naming
 use Rattle.curly_grammar.specs.Answer.{IsPlaced, turn_of}
 use Rattle.curly_grammar.specs.Fault.{why_by, why_no_word}
 use Rattle.curly_grammar.specs.Grammar.{Level}
-use Rattle.curly_grammar.specs.Reading.{State, state, Run, Turn, turned, whole, and_then, value_kind_of, TakesWord, Takes}
+use Rattle.curly_grammar.specs.Reading.{ReadState, state, Run, Turn, turned, whole, and_then, value_kind_of, TakesWord, Takes}
 
-abbrev pub state_in : Reader → State
+abbrev pub state_in : Reader → ReadState
 state_in reader = record { here = reader.here; outer = reverse reader.outer.items; phase = reader.phase }
 
 abbrev pub run_in : Reader → Run

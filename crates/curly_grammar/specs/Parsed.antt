@@ -34,21 +34,21 @@ IsRefusal paths why byte told =
     ⊎ ((different paths ≤ MAX_STATEMENTS) × (told ≡ of_reason why (min byte 4294967295))))
 
 -- what the statements of a run make
-pub record IsMade (run : Run) (marked : Marked) : Type 0 where
+pub record MakesMarked (run : Run) (marked : Marked) : Type 0 where
   pub tree : marked.tree ≡ stated_from_none run.items
   pub tags : marked.replaced ≡ run.tags
   pub few : different (paths_of run.items) ≤ MAX_STATEMENTS
 
 abbrev pub Makes : Run → Result Marked TextFault → Type 0
-Makes run (Ok marked) = IsMade run marked
+Makes run (Ok marked) = MakesMarked run marked
 Makes run (Err told) = (told ≡ fault.NoMemory) ⊎ ((MAX_STATEMENTS < different (paths_of run.items)) × (told ≡ fault.TooMany))
 
 -- a text's reading
-pub record IsReading (text : List ℕ) (marked : Marked) : Type 0 where
+pub record IsParsedAs (text : List ℕ) (marked : Marked) : Type 0 where
   pub reads : Reads text marked.tree marked.replaced
   pub few : size_of marked.tree ≤ MAX_STATEMENTS
 
 -- what a text says, or its leftmost fault
 abbrev pub Parses : List ℕ → Result Marked TextFault → Type 0
-Parses text (Ok marked) = IsReading text marked
+Parses text (Ok marked) = IsParsedAs text marked
 Parses text (Err told) = told ≢ fault.NoMemory → IsLeftmostFault text told

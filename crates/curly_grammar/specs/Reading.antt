@@ -37,31 +37,31 @@ with_mark marks token = record {
 }
 
 -- between two tokens: the level whose text is read, those around it from the inside, and what has been read of a statement
-pub record State : Type 0 where
+pub record ReadState : Type 0 where
   pub here : Level
   pub outer : List Level
   pub phase : Phase
 
-abbrev pub state : Level → List Level → Phase → State
+abbrev pub state : Level → List Level → Phase → ReadState
 state here outer phase = record { here = here; outer = outer; phase = phase }
 
 -- before the first token
-abbrev pub start : State
+abbrev pub start : ReadState
 start = state top_level [] Between
 
 -- a text may end here
-pub record IsFinal (s : State) : Type 0 where
+pub record IsFinal (s : ReadState) : Type 0 where
   pub closed : s.outer ≡ []
   pub whole : s.phase ≡ Between
 
 -- what tokens lead to, with the statements that they say and the paths that they tag
 pub record Run : Type 0 where
-  pub state : State
+  pub state : ReadState
   pub items : List (Pair Value)
   pub tags : List (List Step)
 
 -- nothing is said
-abbrev pub silent : State → Run
+abbrev pub silent : ReadState → Run
 silent s = record { state = s; items = []; tags = [] }
 
 -- one run after another
@@ -74,7 +74,7 @@ pub record Turn : Type 0 where
   pub items : List (Pair Value)
   pub tags : List (List Step)
 
-abbrev pub turned : State → Turn → Run
+abbrev pub turned : ReadState → Turn → Run
 turned s turn = record { state = state s.here s.outer turn.phase; items = turn.items; tags = turn.tags }
 
 -- nothing is said yet
@@ -169,11 +169,11 @@ TakesWord (Listing marks level words) here token turn =
 TakesWord (After level) here token turn = TakesAfter (is_open level) level token.word turn
 
 -- the signs
-abbrev pub TakesSemicolon : Phase → State → Run → Type 0
+abbrev pub TakesSemicolon : Phase → ReadState → Run → Type 0
 TakesSemicolon (After level) s run = run ≡ silent (state s.here s.outer Between)
 TakesSemicolon _ s run = ⊥
 
-abbrev pub TakesOpenBrace : Phase → State → Run → Type 0
+abbrev pub TakesOpenBrace : Phase → ReadState → Run → Type 0
 TakesOpenBrace (After level) s run = (is_open level ≡ true) × (run ≡ silent (state level (s.here ∷ s.outer) Between))
 TakesOpenBrace _ s run = ⊥
 
@@ -181,26 +181,26 @@ abbrev pub Leaves : List Level → Run → Type 0
 Leaves [] run = ⊥
 Leaves (here ∷ outer) run = run ≡ silent (state here outer Between)
 
-abbrev pub TakesCloseBrace : Phase → State → Run → Type 0
+abbrev pub TakesCloseBrace : Phase → ReadState → Run → Type 0
 TakesCloseBrace Between s run = Leaves s.outer run
 TakesCloseBrace _ s run = ⊥
 
-abbrev pub TakesOpenBracket : Phase → State → Run → Type 0
+abbrev pub TakesOpenBracket : Phase → ReadState → Run → Type 0
 TakesOpenBracket (Valuing marks level) s run =
     (is_many (row_of level.place.row).shape ≡ true) × (run ≡ silent (state s.here s.outer (Listing marks level [])))
 TakesOpenBracket _ s run = ⊥
 
-abbrev pub TakesCloseBracket : Phase → State → Run → Type 0
+abbrev pub TakesCloseBracket : Phase → ReadState → Run → Type 0
 TakesCloseBracket (Listing marks level words) s run = (0 < length words) × (run ≡ turned s (whole marks level (joined [] words)))
 TakesCloseBracket _ s run = ⊥
 
-pub record TakesWordTo (s : State) (token : Lexed) (run : Run) : Type 0 where
+pub record TakesWordTo (s : ReadState) (token : Lexed) (run : Run) : Type 0 where
   pub turn : Turn
   pub taken : TakesWord s.phase s.here token turn
   pub makes : run ≡ turned s turn
 
 -- a token of this kind is taken
-abbrev pub TakesBy : TokenKind → State → Lexed → Run → Type 0
+abbrev pub TakesBy : TokenKind → ReadState → Lexed → Run → Type 0
 TakesBy kind.Semicolon s token run = TakesSemicolon s.phase s run
 TakesBy kind.OpenBrace s token run = TakesOpenBrace s.phase s run
 TakesBy kind.CloseBrace s token run = TakesCloseBrace s.phase s run
@@ -210,11 +210,11 @@ TakesBy kind.Bare s token run = TakesWordTo s token run
 TakesBy kind.Quoted s token run = TakesWordTo s token run
 
 -- a token is taken in a state, and leads to another one
-abbrev pub Takes : State → Lexed → Run → Type 0
+abbrev pub Takes : ReadState → Lexed → Run → Type 0
 Takes s token run = TakesBy token.kind s token run
 
 -- tokens are taken one after another
-abbrev pub Goes : State → List Lexed → Run → Type 0
+abbrev pub Goes : ReadState → List Lexed → Run → Type 0
 Goes s [] run = run ≡ silent s
 Goes s (token ∷ tokens) run = (one : Run) × (more : Run) × Takes s token one × Goes one.state tokens more × (run ≡ and_then one more)
 

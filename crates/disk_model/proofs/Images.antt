@@ -4,7 +4,7 @@ use Rattle.std.proofs.lemmas.List.{append-nil, get_or_append_left, get_or-append
 use Rattle.std.proofs.lemmas.Option.{slice_get-get_or, slice_get_past, get_or_from_slice_get, slice_get_within}
 use Rattle.std.proofs.lemmas.Bool.Decides.{nat_tests}
 use Rattle.std.specs.List.{slice_get}
-use Rattle.disk_model.specs.Disk.{Call, Write, Missed, Sync, Refused, History, State, put, pending_during, at_first, during, written, missed, settled, step, after, state_of, contents_of, IsImage, Since, Leaves, Called, DidNothing, Wrote, Synced}
+use Rattle.disk_model.specs.Disk.{Call, Write, Missed, Sync, Refused, History, DiskState, put, pending_during, at_first, during, written, missed, settled, step, after, state_of, contents_of, IsImage, Since, Leaves, Called, DidNothing, Wrote, Synced}
 use Rattle.disk_model.proofs.States.{after-append, state_called}
 
 -- lists that agree at each place, past their ends too, are one
@@ -19,7 +19,7 @@ same_places (x ∷ xs) (y ∷ ys) same =
     cc
 
 -- what a place that isn't pending while a write is under way was before it
-pub record Calm (s : State) (at count k : ℕ) : Type 0 where
+pub record Calm (s : DiskState) (at count k : ℕ) : Type 0 where
   pub before : s.pending k ≡ false
   pub inside : k < length s.contents
   pub outside : (k < at) ⊎ (at + count ≤ k)
@@ -32,7 +32,7 @@ or_true : (a b : Bool) → b ≡ true → (a || b) ≡ true
 or_true true b is = refl
 or_true false b is = is
 
-pub calm : (s : State) (at count k : ℕ) → pending_during s at count k ≡ false → Calm s at count k
+pub calm : (s : DiskState) (at count k : ℕ) → pending_during s at count k ≡ false → Calm s at count k
 calm s at count k is =
     let first = or_false (s.pending k) _ is in
     let second = or_false (nat_le at k && nat_lt k (at + count)) _ first.1 in
@@ -44,7 +44,7 @@ calm s at count k is =
     apart : (nat_le at k && nat_lt k (at + count)) ≡ false → (k < at) ⊎ (at + count ≤ k)
     apart e = grind (arith, nat_tests)
 
-pub calm_from : (s : State) (at count k : ℕ) → s.pending k ≡ false → k < length s.contents → (k < at) ⊎ (at + count ≤ k) → pending_during s at count k ≡ false
+pub calm_from : (s : DiskState) (at count k : ℕ) → s.pending k ≡ false → k < length s.contents → (k < at) ⊎ (at + count ≤ k) → pending_during s at count k ≡ false
 calm_from s at count k before inside outside =
     ap (λ (b : Bool). b || ((nat_le at k && nat_lt k (at + count)) || nat_le (length s.contents) k)) before ∙ rest
   where
@@ -64,13 +64,13 @@ calm_from s at count k before inside outside =
     rest = ap (λ (b : Bool). b || nat_le (length s.contents) k) range ∙ end
 
 -- all places past the end are pending while a write is under way
-pub past_end : (s : State) (at count k : ℕ) → length s.contents ≤ k → pending_during s at count k ≡ true
+pub past_end : (s : DiskState) (at count k : ℕ) → length s.contents ≤ k → pending_during s at count k ≡ true
 past_end s at count k le = or_true (s.pending k) _ (or_true (nat_le at k && nat_lt k (at + count)) _ end)
   where
     end : nat_le (length s.contents) k ≡ true
     end = grind (arith, nat_tests)
 
-pub still_pending : (s : State) (at count k : ℕ) → s.pending k ≡ true → pending_during s at count k ≡ true
+pub still_pending : (s : DiskState) (at count k : ℕ) → s.pending k ≡ true → pending_during s at count k ≡ true
 still_pending s at count k is = ap (λ (b : Bool). b || ((nat_le at k && nat_lt k (at + count)) || nat_le (length s.contents) k)) is
 
 -- a put changes no other place
@@ -108,7 +108,7 @@ pub put_no_shorter : (at : ℕ) (bytes old : List ℕ) → length old ≤ length
 put_no_shorter at bytes old =
     omega (arith, length-append (take at old ++ bytes) (drop (at + length bytes) old), length-append (take at old) bytes, length-take at old, length-drop (at + length bytes) old)
 
-pub image_byte : (s : State) (c : List ℕ) (k d : ℕ) → IsImage s c → s.pending k ≡ false → get_or c k d ≡ get_or s.contents k d
+pub image_byte : (s : DiskState) (c : List ℕ) (k d : ℕ) → IsImage s c → s.pending k ≡ false → get_or c k d ≡ get_or s.contents k d
 image_byte s c k d image free = ⊎_elim inside past (lt_or_ge k (length s.contents))
   where
     lt_or_ge : (m n : ℕ) → (m < n) ⊎ (n ≤ m)
@@ -122,18 +122,18 @@ image_byte s c k d image free = ⊎_elim inside past (lt_or_ge k (length s.conte
         let none : slice_get c k ≡ None = image.same k free ∙ slice_get_past s.contents k ge in
         ⊎_elim (λ lt. absurd (let some = slice_get-get_or c k d lt in cc)) (λ over. get_or_past c k d over ∙ sym (get_or_past s.contents k d ge)) (lt_or_ge k (length c))
 
-pub image_inside : (s : State) (c : List ℕ) (k : ℕ) → IsImage s c → s.pending k ≡ false → k < length s.contents → k < length c
+pub image_inside : (s : DiskState) (c : List ℕ) (k : ℕ) → IsImage s c → s.pending k ≡ false → k < length s.contents → k < length c
 image_inside s c k image free lt = slice_get_within c k (get_or s.contents k 0) (image.same k free ∙ slice_get-get_or s.contents k 0 lt)
 
 -- where nothing is pending a crash leaves the contents
-pub settled_image : (s : State) (c : List ℕ) → ((k : ℕ) → s.pending k ≡ false) → IsImage s c → c ≡ s.contents
+pub settled_image : (s : DiskState) (c : List ℕ) → ((k : ℕ) → s.pending k ≡ false) → IsImage s c → c ≡ s.contents
 settled_image s c free image = same_places c s.contents (λ k. image.same k (free k))
 
-pub cleared_image : (s : State) (c : List ℕ) → IsImage (settled s true) c → c ≡ s.contents
+pub cleared_image : (s : DiskState) (c : List ℕ) → IsImage (settled s true) c → c ≡ s.contents
 cleared_image s c image = settled_image (settled s true) c (λ k. refl) image
 
 -- nothing shorter than the last sync is in the contents, whatever the calls were
-pub synced_after : (s : State) (calls : List Call) → s.synced ≤ length s.contents → (after s calls).synced ≤ length (after s calls).contents
+pub synced_after : (s : DiskState) (calls : List Call) → s.synced ≤ length s.contents → (after s calls).synced ≤ length (after s calls).contents
 synced_after s [] le = le
 synced_after s (Write at bytes ∷ calls) le = synced_after (written s at bytes) calls (omega (arith, le, put_no_shorter at bytes s.contents))
 synced_after s (Missed at count ∷ calls) le = synced_after (missed s at count) calls le
@@ -146,11 +146,11 @@ unfolding state_of
 synced_within h = synced_after (at_first h.first) h.calls (omega arith)
 
 -- what a read gives is an image
-pub contents_image : (s : State) → s.synced ≤ length s.contents → IsImage s s.contents
+pub contents_image : (s : DiskState) → s.synced ≤ length s.contents → IsImage s s.contents
 contents_image s le = record { long = le; same = λ k free. refl }
 
 -- what a crash after a write may leave, one within it might have left
-pub after_write : (s : State) (at : ℕ) (bytes : List ℕ) (c : List ℕ) → at ≤ length s.contents → IsImage (written s at bytes) c → IsImage (during s (Write at bytes)) c
+pub after_write : (s : DiskState) (at : ℕ) (bytes : List ℕ) (c : List ℕ) → at ≤ length s.contents → IsImage (written s at bytes) c → IsImage (during s (Write at bytes)) c
 after_write s at bytes c le image = record {
   long = image.long;
   same = λ k free. image.same k free ∙ other k (calm s at (length bytes) k free);
@@ -163,15 +163,15 @@ after_write s at bytes c le image = record {
         ∙ sym (slice_get-get_or s.contents k 0 free.inside)
 
 -- and so what one within a write that took no effect, or after it, may leave
-pub missed_write : (s : State) (at : ℕ) (bytes : List ℕ) (c : List ℕ) → IsImage (missed s at (length bytes)) c → IsImage (during s (Write at bytes)) c
+pub missed_write : (s : DiskState) (at : ℕ) (bytes : List ℕ) (c : List ℕ) → IsImage (missed s at (length bytes)) c → IsImage (during s (Write at bytes)) c
 missed_write s at bytes c image = record { long = image.long; same = image.same }
 
 -- what a crash after a sync may leave, one before it might have left
-pub after_sync : (s : State) (cleared : Bool) (c : List ℕ) → s.synced ≤ length s.contents → IsImage (settled s cleared) c → IsImage s c
+pub after_sync : (s : DiskState) (cleared : Bool) (c : List ℕ) → s.synced ≤ length s.contents → IsImage (settled s cleared) c → IsImage s c
 after_sync s false c le image = image
 after_sync s true c le image = subst (λ (l : List ℕ). IsImage s l) (sym (cleared_image s c image)) (contents_image s le)
 
-pub since_append : (s : State) (xs ys : List Call) (c : List ℕ) → Since s (xs ++ ys) c → Since s xs c ⊎ Since (after s xs) ys c
+pub since_append : (s : DiskState) (xs ys : List Call) (c : List ℕ) → Since s (xs ++ ys) c → Since s xs c ⊎ Since (after s xs) ys c
 since_append s [] ys c since = inr since
 since_append s (x ∷ xs) ys c (inl here) = inl (inl here)
 since_append s (x ∷ xs) ys c (inr (inl within)) = inl (inr (inl within))
@@ -199,13 +199,13 @@ goes_on h m h' call P so_far called within next = record {
   calls = so_far.calls ++ call ∷ [];
   first = called.first ∙ so_far.first;
   made = called.calls ∙ ap (λ (l : List Call). l ++ call ∷ []) so_far.made ∙ append_assoc h.calls so_far.calls (call ∷ []);
-  each = λ c since. ⊎_elim (so_far.each c) (λ last. now c (subst (λ (s : State). Since s (call ∷ []) c) (sym (state_later h m P so_far)) last)) (since_append (state_of h) so_far.calls (call ∷ []) c since);
+  each = λ c since. ⊎_elim (so_far.each c) (λ last. now c (subst (λ (s : DiskState). Since s (call ∷ []) c) (sym (state_later h m P so_far)) last)) (since_append (state_of h) so_far.calls (call ∷ []) c since);
 }
   where
     now : (c : List ℕ) → Since (state_of m) (call ∷ []) c → P c
-    now c (inl before) = so_far.each c (last_moment (state_of h) so_far.calls c (subst (λ (s : State). IsImage s c) (state_later h m P so_far) before))
+    now c (inl before) = so_far.each c (last_moment (state_of h) so_far.calls c (subst (λ (s : DiskState). IsImage s c) (state_later h m P so_far) before))
       where
-        last_moment : (s : State) (calls : List Call) (c : List ℕ) → IsImage (after s calls) c → Since s calls c
+        last_moment : (s : DiskState) (calls : List Call) (c : List ℕ) → IsImage (after s calls) c → Since s calls c
         last_moment s [] c image = image
         last_moment s (x ∷ xs) c image = inr (inr (last_moment (step s x) xs c image))
     now c (inr (inl in_call)) = within c in_call
@@ -250,16 +250,16 @@ synced_done h h' done synced is = ⊎_elim (state_called h h' (Sync true)) (λ f
 
 -- a sync changes no contents
 pub synced_contents : (h h' : History) (done : Type 0) → Synced h done h' → contents_of h' ≡ contents_of h
-synced_contents h h' done synced = ⊎_elim (λ called. ap (λ (s : State). s.contents) (state_called h h' (Sync true) called)) (λ failed. ⊎_elim (λ called. ap (λ (s : State). s.contents) (state_called h h' (Sync false) called)) nothing failed.1) synced
+synced_contents h h' done synced = ⊎_elim (λ called. ap (λ (s : DiskState). s.contents) (state_called h h' (Sync true) called)) (λ failed. ⊎_elim (λ called. ap (λ (s : DiskState). s.contents) (state_called h h' (Sync false) called)) nothing failed.1) synced
   where
     nothing : DidNothing h h' → contents_of h' ≡ contents_of h
-    nothing (inl called) = ap (λ (s : State). s.contents) (state_called h h' Refused called)
+    nothing (inl called) = ap (λ (s : DiskState). s.contents) (state_called h h' Refused called)
     nothing (inr stays) = ap contents_of stays.same
 
 -- what a crash may leave now, one since then might have left
 pub leaves_now : (h h' : History) (P : List ℕ → Type 0) → Leaves h h' P → (c : List ℕ) → IsImage (state_of h') c → P c
-leaves_now h h' P so_far c image = so_far.each c (last_moment (state_of h) so_far.calls c (subst (λ (s : State). IsImage s c) (state_later h h' P so_far) image))
+leaves_now h h' P so_far c image = so_far.each c (last_moment (state_of h) so_far.calls c (subst (λ (s : DiskState). IsImage s c) (state_later h h' P so_far) image))
   where
-    last_moment : (s : State) (calls : List Call) (c : List ℕ) → IsImage (after s calls) c → Since s calls c
+    last_moment : (s : DiskState) (calls : List Call) (c : List ℕ) → IsImage (after s calls) c → Since s calls c
     last_moment s [] c image = image
     last_moment s (x ∷ xs) c image = inr (inr (last_moment (step s x) xs c image))

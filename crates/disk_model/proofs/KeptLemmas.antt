@@ -4,7 +4,7 @@ use Rattle.std.proofs.lemmas.List.{take_all, take_min, take-append-le, drop-appe
 use Rattle.std.proofs.lemmas.Bool.Decides.{nat_tests}
 use Rattle.disk_model.specs.declared.kept.Kept.{Kept}
 use Rattle.disk_model.specs.declared.kept.Kept.TheVariants.{Written, Missed as NotWritten, Synced}
-use Rattle.disk_model.specs.Disk.{Call, Write, Missed, Sync, Refused, State, step, after}
+use Rattle.disk_model.specs.Disk.{Call, Write, Missed, Sync, Refused, DiskState, step, after}
 use Rattle.disk_model.specs.Memory.{written_bytes}
 use Rattle.disk_model.specs.Kept.{RecordView, call_of, bytes_after, total_of, calls_of, recorded}
 
@@ -145,17 +145,17 @@ calls_of-take (suc n) [] bytes = refl
 calls_of-take (suc n) (call ∷ kept) bytes = ap (λ (l : List Call). call_of call bytes ∷ l) (calls_of-take n kept (bytes_after call bytes))
 
 -- calls that were refused change no state
-after_refused : (s : State) (n r : ℕ) → after s (take n (replicate r Refused)) ≡ s
+after_refused : (s : DiskState) (n r : ℕ) → after s (take n (replicate r Refused)) ≡ s
 after_refused s zero r = refl
 after_refused s (suc n) zero = refl
 after_refused s (suc n) (suc r) = after_refused s n r
 
-after_take : (s : State) (n : ℕ) (calls : List Call) (r : ℕ) → after s (take n (calls ++ replicate r Refused)) ≡ after s (take n calls)
+after_take : (s : DiskState) (n : ℕ) (calls : List Call) (r : ℕ) → after s (take n (calls ++ replicate r Refused)) ≡ after s (take n calls)
 after_take s zero calls r = refl
 after_take s (suc n) [] r = after_refused s (suc n) r
 after_take s (suc n) (call ∷ calls) r = after_take (step s call) n calls r
 
-pub after_recorded : (s : State) (n : ℕ) (kept : List Kept) (bytes : List ℕ) (refused : ℕ)
+pub after_recorded : (s : DiskState) (n : ℕ) (kept : List Kept) (bytes : List ℕ) (refused : ℕ)
     → after s (calls_of (take (min n (length kept)) kept) bytes) ≡ after s (take n (recorded kept bytes refused))
 unfolding recorded
 after_recorded s n kept bytes refused =

@@ -6,7 +6,7 @@ use Rattle.disk_model.proofs.Replayed.{past}
 use Rattle.std.proofs.lemmas.Option.{slice_get-get_or}
 use Rattle.std.proofs.lemmas.Bool.Decides.{nat_tests}
 use Rattle.std.specs.List.{slice_get}
-use Rattle.disk_model.specs.Disk.{Call, Write, Missed, Sync, Refused, State, pending_during, at_first, written, missed, settled, step, after, state_of, contents_of, IsImage}
+use Rattle.disk_model.specs.Disk.{Call, Write, Missed, Sync, Refused, DiskState, pending_during, at_first, written, missed, settled, step, after, state_of, contents_of, IsImage}
 use Rattle.disk_model.specs.declared.replay.Mark.{Mark}
 use Rattle.disk_model.specs.declared.torn.Torn.{Torn}
 use Rattle.disk_model.specs.Marks.{is_marked}
@@ -29,21 +29,21 @@ none_marked [] free = refl
 none_marked (m ∷ ms) free = absurd (let e : true ≡ false = sym (some_marked m ms) ∙ free m.size in cc)
 
 -- what is true of each state that calls lead to: all is synced, or all places past the last sync are pending
-pub record IsSound (s : State) : Type 0 where
+pub record IsSound (s : DiskState) : Type 0 where
   pub within : s.synced ≤ length s.contents
   pub pending : (((k : ℕ) → s.pending k ≡ false) × (s.synced ≡ length s.contents)) ⊎ ((k : ℕ) → s.synced ≤ k → s.pending k ≡ true)
 
-written_pending : (s : State) (at n : ℕ) → IsSound s → (k : ℕ) → s.synced ≤ k → pending_during s at n k ≡ true
+written_pending : (s : DiskState) (at n : ℕ) → IsSound s → (k : ℕ) → s.synced ≤ k → pending_during s at n k ≡ true
 written_pending s at n sound k le = ⊎_elim (λ calm. past_end s at n k (omega (arith, calm.1))) (λ torn. still_pending s at n k (torn k le)) sound.pending
 
-step_sound : (s : State) (call : Call) → IsSound s → IsSound (step s call)
+step_sound : (s : DiskState) (call : Call) → IsSound s → IsSound (step s call)
 step_sound s (Write at bytes) sound = record { within = omega (arith, sound.within, put_no_shorter at bytes s.contents); pending = inr (written_pending s at (length bytes) sound) }
 step_sound s (Missed at count) sound = record { within = sound.within; pending = inr (written_pending s at count sound) }
 step_sound s (Sync true) sound = record { within = omega arith; pending = inl (λ k. refl, refl) }
 step_sound s (Sync false) sound = sound
 step_sound s Refused sound = sound
 
-after_sound : (s : State) (calls : List Call) → IsSound s → IsSound (after s calls)
+after_sound : (s : DiskState) (calls : List Call) → IsSound s → IsSound (after s calls)
 after_sound s [] sound = sound
 after_sound s (call ∷ calls) sound = after_sound (step s call) calls (step_sound s call sound)
 
@@ -57,7 +57,7 @@ lt_or_ge : (m n : ℕ) → (m < n) ⊎ (n ≤ m)
 lt_or_ge m n = grind arith
 
 -- an image with torn bytes is one that a crash may leave
-torn_is_image : (s : State) (torn : Torn) (image : List ℕ) → s.synced ≤ length s.contents → ((k : ℕ) → s.synced ≤ k → s.pending k ≡ true) → IsTorn s torn image → IsImage s image
+torn_is_image : (s : DiskState) (torn : Torn) (image : List ℕ) → s.synced ≤ length s.contents → ((k : ℕ) → s.synced ≤ k → s.pending k ≡ true) → IsTorn s torn image → IsImage s image
 torn_is_image s torn image within past is = record {
   long = omega (arith, is.size);
   same = λ k free. ⊎_elim (inside k free) (λ ge. absurd (let e : true ≡ false = sym (past k ge) ∙ free in cc)) (lt_or_ge k s.synced);
@@ -71,21 +71,21 @@ torn_is_image s torn image within past is = record {
         ∙ ap (λ (x : ℕ). Some x) (is.each k here ∙ ap (λ (b : Bool). cond b (get_or torn.bytes (pending_below s.pending k) 0) (get_or s.contents k 0)) free)
         ∙ sym (slice_get-get_or s.contents k 0 there)
 
-pub chosen_is_image : (s : State) (torn : Torn) (image : List ℕ) → IsSound s → IsChosenImage s torn image → IsImage s image
+pub chosen_is_image : (s : DiskState) (torn : Torn) (image : List ℕ) → IsSound s → IsChosenImage s torn image → IsImage s image
 chosen_is_image s torn image sound is = ⊎_elim
     (λ calm. subst (λ (l : List ℕ). IsImage s l) (sym (is.calm calm.0)) (contents_image s sound.within))
     (λ past. torn_is_image s torn image sound.within past (is.torn_is s.synced (past s.synced (omega arith))))
     sound.pending
 
 -- no chosen image is longer than the contents and the torn length
-pub chosen_size : (s : State) (torn : Torn) (image : List ℕ) (room : ℕ) → IsSound s → IsChosenImage s torn image → length s.contents ≤ room → torn.length ≤ room → length image ≤ room
+pub chosen_size : (s : DiskState) (torn : Torn) (image : List ℕ) (room : ℕ) → IsSound s → IsChosenImage s torn image → length s.contents ≤ room → torn.length ≤ room → length image ≤ room
 chosen_size s torn image room sound is le torn_le = ⊎_elim
     (λ calm. omega (arith, ap length (is.calm calm.0)))
     (λ past. omega (arith, (is.torn_is s.synced (past s.synced (omega arith))).size, sound.within))
     sound.pending
 
 -- contents never shrink
-pub no_shorter : (s : State) (calls : List Call) → length s.contents ≤ length (after s calls).contents
+pub no_shorter : (s : DiskState) (calls : List Call) → length s.contents ≤ length (after s calls).contents
 no_shorter s [] = omega arith
 no_shorter s (Write at bytes ∷ calls) = omega (arith, put_no_shorter at bytes s.contents, no_shorter (written s at bytes) calls)
 no_shorter s (Missed at count ∷ calls) = no_shorter (missed s at count) calls
@@ -104,4 +104,4 @@ prefix_no_longer first n calls =
     let s = at_first first in
     let whole : after (after s (take n calls)) (drop n calls) ≡ after s calls =
     sym (after-append s (take n calls) (drop n calls)) ∙ ap (λ (l : List Call). after s l) (take-append-drop n calls) in
-    omega (arith, no_shorter (after s (take n calls)) (drop n calls), ap (λ (t : State). length t.contents) whole)
+    omega (arith, no_shorter (after s (take n calls)) (drop n calls), ap (λ (t : DiskState). length t.contents) whole)

@@ -1,7 +1,7 @@
 -- What a disk in memory holds after one call more.
 use Rattle.std.proofs.Common.{◌≡◌, ◌≤◌, ◌<◌, ℕ, nat_lt, ◌+◌, Bool, true, false, cond, IsTrue, nat_le, ◌&&◌, List, [], ◌∷◌, ◌++◌, length, refl, sym, ◌∙◌, ap, arith}
 use Rattle.std.proofs.lemmas.Bool.Decides.{nat_tests}
-use Rattle.disk_model.specs.Disk.{Call, Write, Refused, History, State, put, step, state_of, contents_of}
+use Rattle.disk_model.specs.Disk.{Call, Write, Refused, History, DiskState, put, step, state_of, contents_of}
 use Rattle.disk_model.proofs.States.{state_pushed, length-put}
 use Rattle.disk_model.proofs.KeptLemmas.{both_true}
 
@@ -11,7 +11,7 @@ past first calls = record { first = first; calls = calls }
 module _ (first : List ℕ) (calls : List Call) (bytes : List ℕ) (is : bytes ≡ contents_of (past first calls)) where
   pushed : (calls' : List Call) (call : Call) → calls' ≡ calls ++ call ∷ [] → contents_of (past first calls') ≡ (step (state_of (past first calls)) call).contents
   pushed calls' call more =
-      ap (λ (l : List Call). contents_of (past first l)) more ∙ ap (λ (s : State). s.contents) (state_pushed first calls call)
+      ap (λ (l : List Call). contents_of (past first l)) more ∙ ap (λ (s : DiskState). s.contents) (state_pushed first calls call)
 
   pub written_contents : (calls' : List Call) (at : ℕ) (piece : List ℕ) → calls' ≡ calls ++ Write at piece ∷ [] → put at piece bytes ≡ contents_of (past first calls')
   written_contents calls' at piece more = ap (λ (l : List ℕ). put at piece l) is ∙ sym (pushed calls' (Write at piece) more)
@@ -21,7 +21,7 @@ module _ (first : List ℕ) (calls : List Call) (bytes : List ℕ) (is : bytes �
   same_contents calls' call left more = is ∙ sym left ∙ sym (pushed calls' call more)
 
 -- a call that leaves the contents leaves them as the record keeps it too
-pub still : (s : State) (b : Bool) (call : Call) → (step s call).contents ≡ s.contents → (step s (cond b call Refused)).contents ≡ s.contents
+pub still : (s : DiskState) (b : Bool) (call : Call) → (step s call).contents ≡ s.contents → (step s (cond b call Refused)).contents ≡ s.contents
 still s true call same = same
 still s false call same = refl
 

@@ -1,12 +1,12 @@
 -- How the state of a disk goes on with one call more.
 use Rattle.std.proofs.Common.{◌≡◌, ◌≤◌, ℕ, ◌+◌, max, List, [], ◌∷◌, ◌++◌, length, take, drop, refl, ◌∙◌, ap, arith, length-append, length-take, length-drop}
-use Rattle.disk_model.specs.Disk.{Call, History, State, put, at_first, step, after, state_of, Called}
+use Rattle.disk_model.specs.Disk.{Call, History, DiskState, put, at_first, step, after, state_of, Called}
 
-pub after_push : (s : State) (calls : List Call) (call : Call) → after s (calls ++ call ∷ []) ≡ step (after s calls) call
+pub after_push : (s : DiskState) (calls : List Call) (call : Call) → after s (calls ++ call ∷ []) ≡ step (after s calls) call
 after_push s [] call = refl
 after_push s (c ∷ calls) call = after_push (step s c) calls call
 
-pub after-append : (s : State) (xs ys : List Call) → after s (xs ++ ys) ≡ after (after s xs) ys
+pub after-append : (s : DiskState) (xs ys : List Call) → after s (xs ++ ys) ≡ after (after s xs) ys
 after-append s [] ys = refl
 after-append s (c ∷ xs) ys = after-append (step s c) xs ys
 

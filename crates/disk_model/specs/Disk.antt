@@ -29,7 +29,7 @@ pub record DiskView : Type 0 where
   pub faults : ℕ
 
 -- what a read gives, the places that a crash may change, and the length at the last sync
-pub record State : Type 0 where
+pub record DiskState : Type 0 where
   pub contents : List ℕ
   pub pending : ℕ → Bool
   pub synced : ℕ
@@ -39,48 +39,48 @@ abbrev pub put : ℕ → List ℕ → List ℕ → List ℕ
 put at bytes old = take at old ++ bytes ++ drop (at + length bytes) old
 
 -- pending while a write is under way: what was, the range, and all places past the end
-abbrev pub pending_during : State → ℕ → ℕ → ℕ → Bool
+abbrev pub pending_during : DiskState → ℕ → ℕ → ℕ → Bool
 pending_during s at count k =
     s.pending k || ((nat_le at k && nat_lt k (at + count)) || nat_le (length s.contents) k)
 
 -- nothing was written yet
-abbrev pub at_first : List ℕ → State
+abbrev pub at_first : List ℕ → DiskState
 at_first first = record { contents = first; pending = λ k. false; synced = length first }
 
 -- while a call is under way
-abbrev pub during : State → Call → State
+abbrev pub during : DiskState → Call → DiskState
 during s (Write at bytes) = record { contents = s.contents; pending = pending_during s at (length bytes); synced = s.synced }
 during s (Missed at count) = record { contents = s.contents; pending = pending_during s at count; synced = s.synced }
 during s (Sync cleared) = s
 during s Refused = s
 
 -- once a write is done
-abbrev pub written : State → ℕ → List ℕ → State
+abbrev pub written : DiskState → ℕ → List ℕ → DiskState
 written s at bytes = record { contents = put at bytes s.contents; pending = pending_during s at (length bytes); synced = s.synced }
 
 -- once a write has failed and left the contents: its places are pending all the same
-abbrev pub missed : State → ℕ → ℕ → State
+abbrev pub missed : DiskState → ℕ → ℕ → DiskState
 missed s at count = record { contents = s.contents; pending = pending_during s at count; synced = s.synced }
 
 -- once a sync is done
-abbrev pub settled : State → Bool → State
+abbrev pub settled : DiskState → Bool → DiskState
 settled s true = record { contents = s.contents; pending = λ k. false; synced = length s.contents }
 settled s false = s
 
 -- once a call is done
-abbrev pub step : State → Call → State
+abbrev pub step : DiskState → Call → DiskState
 step s (Write at bytes) = written s at bytes
 step s (Missed at count) = missed s at count
 step s (Sync cleared) = settled s cleared
 step s Refused = s
 
 -- after calls, first to last
-abbrev pub after : State → List Call → State
+abbrev pub after : DiskState → List Call → DiskState
 after s [] = s
 after s (call ∷ calls) = after (step s call) calls
 
 -- the state that a history ends in
-unfoldable pub state_of : History → State
+unfoldable pub state_of : History → DiskState
 state_of h = after (at_first h.first) h.calls
 
 -- what a read gives
@@ -88,12 +88,12 @@ abbrev pub contents_of : History → List ℕ
 contents_of h = (state_of h).contents
 
 -- a crash may leave this: the contents wherever nothing is pending, and no less than the last sync
-pub record IsImage (s : State) (image : List ℕ) : Type 0 where
+pub record IsImage (s : DiskState) (image : List ℕ) : Type 0 where
   pub long : s.synced ≤ length image
   pub same : (k : ℕ) → s.pending k ≡ false → slice_get image k ≡ slice_get s.contents k
 
 -- a crash at some moment of these calls may leave this: before them, within one, or after one
-abbrev pub Since : State → List Call → List ℕ → Type 0
+abbrev pub Since : DiskState → List Call → List ℕ → Type 0
 Since s [] image = IsImage s image
 Since s (call ∷ calls) image = IsImage s image ⊎ (IsImage (during s call) image ⊎ Since (step s call) calls image)
 
@@ -130,7 +130,7 @@ pub record Called (h : History) (call : Call) (h' : History) : Type 0 where
   pub calls : h'.calls ≡ h.calls ++ call ∷ []
 
 -- a history that goes on by these calls
-pub record GoesOn (h : History) (more : List Call) (h' : History) : Type 0 where
+pub record DiskGoesOn (h : History) (more : List Call) (h' : History) : Type 0 where
   pub first : h'.first ≡ h.first
   pub calls : h'.calls ≡ h.calls ++ more
 

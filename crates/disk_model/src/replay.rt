@@ -1,5 +1,5 @@
 ghost use Rattle.std.specs.Prelude.{◌≡◌, ◌≤◌, ◌<◌, ◌+◌, ◌++◌, ◌∷◌, [], true, false, ℕ, length, take, IfOk, OnOk, slice_index, if◌then◌else◌, max};
-ghost use Rattle.disk_model.specs.Disk.{State, written, missed, settled, step, after, at_first};
+ghost use Rattle.disk_model.specs.Disk.{DiskState, written, missed, settled, step, after, at_first};
 ghost use Rattle.disk_model.specs.Kept.{calls_of, total_of, size_of, call_of, bytes_after};
 ghost use Rattle.disk_model.specs.Marks.{covers, is_marked, Knows};
 ghost use Rattle.disk_model.specs.Replay.{IsTorn, IsChosenImage};
@@ -39,7 +39,7 @@ fn is_marked(marks: &[Mark], place: usize) -> bool
 }
 
 fn replay_miss(replay: &mut Replay, at: u64, count: usize) -> Result<(), AllocError>
-    ensures { OnOk result ((s : State)
+    ensures { OnOk result ((s : DiskState)
         → Knows replay.old.bytes.items replay.old.marks.items replay.old.synced s
         → Knows replay.new.bytes.items replay.new.marks.items replay.new.synced (missed s at count)) }
 {
@@ -49,7 +49,7 @@ fn replay_miss(replay: &mut Replay, at: u64, count: usize) -> Result<(), AllocEr
 }
 
 fn replay_write(replay: &mut Replay, at: u64, piece: &[u8]) -> Result<(), AllocError>
-    ensures { OnOk result ((s : State)
+    ensures { OnOk result ((s : DiskState)
         → Knows replay.old.bytes.items replay.old.marks.items replay.old.synced s
         → Knows replay.new.bytes.items replay.new.marks.items replay.new.synced
         (written s at piece.now)) }
@@ -64,7 +64,7 @@ fn replay_write(replay: &mut Replay, at: u64, piece: &[u8]) -> Result<(), AllocE
 }
 
 fn replay_sync(replay: &mut Replay, cleared: bool)
-    ensures { (s : State) → Knows replay.old.bytes.items replay.old.marks.items replay.old.synced s
+    ensures { (s : DiskState) → Knows replay.old.bytes.items replay.old.marks.items replay.old.synced s
         → Knows replay.new.bytes.items replay.new.marks.items replay.new.synced (settled s cleared) }
 {
     if cleared {
@@ -81,7 +81,7 @@ fn replay_call<'a>(
 ) -> Result<&'a [u8], AllocError>
     requires { size_of call.now ≤ length bytes.now }
     ensures rest { IfOk result (λ rest. rest.now ≡ bytes_after call.now bytes.now) }
-    ensures state { OnOk result ((s : State)
+    ensures state { OnOk result ((s : DiskState)
         → Knows replay.old.bytes.items replay.old.marks.items replay.old.synced s
         → Knows replay.new.bytes.items replay.new.marks.items replay.new.synced
         (step s (call_of call.now bytes.now))) }
@@ -129,7 +129,7 @@ pub(crate) fn replayed(
 
 // The bytes that a crash leaves where something is pending.
 fn torn_image(alloc: Global, replay: &Replay, torn: &Torn) -> Result<Vec<u8>, AllocError>
-    ensures { IfOk result (λ image. (s : State)
+    ensures { IfOk result (λ image. (s : DiskState)
         → Knows replay.now.bytes.items replay.now.marks.items replay.now.synced s
         → IsTorn s torn.now image.items) }
 {
@@ -154,7 +154,7 @@ pub(crate) fn chosen_image(
     replay: Replay,
     torn: &Torn,
 ) -> Result<Vec<u8>, AllocError>
-    ensures { IfOk result (λ image. (s : State)
+    ensures { IfOk result (λ image. (s : DiskState)
         → Knows replay.bytes.items replay.marks.items replay.synced s
         → IsChosenImage s torn.now image.items) }
 {

@@ -2,7 +2,7 @@
 
 ghost use Rattle.disk_model.specs.Disk.{HasCause};
 ghost use Rattle.disk_model.specs.File.{untold};
-ghost use Rattle.std.specs.Prelude.{Unit, false};
+ghost use Rattle.std.specs.Prelude.{◌≡◌, false};
 
 use disk_model::{Disk, DiskDone, DiskLen, DiskRead, FileDisk};
 

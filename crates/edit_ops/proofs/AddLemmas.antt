@@ -12,7 +12,7 @@ use Rattle.cfg_tree.specs.Tree.{IsTree}
 use Rattle.cfg_tree.specs.Change.{put_at}
 use Rattle.edit_ops.specs.Value.{is_many_at, words_set, value_set}
 use Rattle.edit_ops.specs.Change.{set_of}
-use Rattle.edit_ops.specs.Made.{IsMade}
+use Rattle.edit_ops.specs.Made.{IsPartMade}
 use Rattle.edit_ops.proofs.NearLemmas.{put_same, set_there}
 
 -- a joined list that is no longer than the old one is that one
@@ -25,7 +25,7 @@ no_longer old given h = by_test (list_all (lists old) given) refl
 
 pub adds_none : (m : Statements) (path : List Step) (old value : Value) (given : List (List ℕ)) → 0 < length path → IsTree m → map.get m path ≡ Some old
     → value ≡ value_set path old given → (is_many_at path && (length value.words == length old.words)) ≡ true
-    → IsMade m (Ok (set_of m path given)) (λ _. ⊥) (Ok None)
+    → IsPartMade m (Ok (set_of m path given)) (λ _. ⊥) (Ok None)
 adds_none m path old value given long tree found e h =
     (ap (λ (x : Statements). Ok x) (set_there m path old given long tree found ∙ ap (put_at m path) same ∙ put_same m path old found), tree.few)
   where

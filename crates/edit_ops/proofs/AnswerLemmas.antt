@@ -8,12 +8,12 @@ use Rattle.edit_ops.specs.declared.fault.EditFault.TheVariants.{Unknown, BadValu
 use Rattle.edit_ops.specs.declared.subject.Subject.{Subject}
 use Rattle.edit_ops.specs.Change.{changed}
 use Rattle.edit_ops.specs.Block.{IsSpared}
-use Rattle.edit_ops.specs.Answer.{Asks, IsChangeFault, IsEditFault}
-use Rattle.edit_ops.specs.Made.{IsMade}
+use Rattle.edit_ops.specs.Answer.{NamesSubject, IsChangeFault, IsEditFault}
+use Rattle.edit_ops.specs.Made.{IsPartMade}
 
-module _ (m : Statements) (level : List Step) (op : Op) (subject : Subject) (asks : Asks level op subject) where
+module _ (m : Statements) (level : List Step) (op : Op) (subject : Subject) (asks : NamesSubject level op subject) where
   abbrev Made : Result (Option Statements) EditFault → Type 0
-  Made result = IsMade m (changed m op subject) (IsSpared op subject.target.path) result
+  Made result = IsPartMade m (changed m op subject) (IsSpared op subject.target.path) result
 
   cause : (fault : EditFault) → Made (Err fault) → IsChangeFault m op subject fault
   cause (Protected p) (next, made, blocked) = record { next = next; made = made; blocked = blocked }

@@ -17,7 +17,7 @@ use Rattle.edit_ops.specs.declared.fault.EditFault.TheVariants.{Unknown, BadValu
 use Rattle.edit_ops.specs.Block.{Blocks}
 use Rattle.edit_ops.specs.Value.{words_without}
 use Rattle.edit_ops.specs.Change.{left_at, deleted_of, marked}
-use Rattle.edit_ops.specs.Made.{IsOpen, IsGuardFault, IsOpenBelow, IsBelowFault, IsMade}
+use Rattle.edit_ops.specs.Made.{IsOpen, IsGuardFault, IsOpenBelow, IsBelowFault, IsPartMade}
 use Rattle.edit_ops.proofs.WayLemmas.{take_below}
 use Rattle.edit_ops.proofs.BlockLemmas.{nothing_spared, on_way_or_below, taken_free, taken_blocked, taken_blocked_below}
 
@@ -57,12 +57,12 @@ module _ (m : Statements) (path : List Step) (long : 0 < length path) (there : I
       in let k = sym found ∙ ap (λ (x : Statements). map.get x path) (sym e) ∙ gone path (below_self path) in cc
 
   pub taken : (n : Statements) → n ≡ removed m path → IsOpen m (length path) path → IsOpenBelow m path
-      → IsMade m (Ok (removed m path)) (λ _. ⊥) (Ok (Some n))
+      → IsPartMade m (Ok (removed m path)) (λ _. ⊥) (Ok (Some n))
   taken n e free below =
-      subst (λ (x : Statements). IsMade m (Ok (removed m path)) (λ _. ⊥) (Ok (Some x))) (sym e)
+      subst (λ (x : Statements). IsPartMade m (Ok (removed m path)) (λ _. ⊥) (Ok (Some x))) (sym e)
       (refl, differs, taken_free m (removed m path) path old.0 old.1 gone near free below)
 
-  pub take_refused : (fault : EditFault) → IsGuardFault m (length path) path fault → IsMade m (Ok (removed m path)) (λ _. ⊥) (Err fault)
+  pub take_refused : (fault : EditFault) → IsGuardFault m (length path) path fault → IsPartMade m (Ok (removed m path)) (λ _. ⊥) (Err fault)
   take_refused (Unknown p) e = absurd e
   take_refused (BadValue p) e = absurd e
   take_refused (Incomplete p) e = absurd e
@@ -76,7 +76,7 @@ module _ (m : Statements) (path : List Step) (long : 0 < length path) (there : I
   take_refused NoMemory e = tt
 
   pub take_refused_below : (fault : EditFault) → IsOpen m (length path) path → IsBelowFault m path fault
-      → IsMade m (Ok (removed m path)) (λ _. ⊥) (Err fault)
+      → IsPartMade m (Ok (removed m path)) (λ _. ⊥) (Err fault)
   take_refused_below (Unknown p) free e = absurd e
   take_refused_below (BadValue p) free e = absurd e
   take_refused_below (Incomplete p) free e = absurd e

@@ -16,7 +16,7 @@ use Rattle.cfg_tree.specs.declared.target.Target.{Target}
 use Rattle.cfg_tree.specs.Statements.{Statements}
 use Rattle.cfg_tree.specs.Typed.{AreCounted, AreCanonical, AreWordsOf}
 use Rattle.cfg_tree.specs.Tree.{lists, IsTree}
-use Rattle.cfg_tree.specs.Change.{Fits}
+use Rattle.cfg_tree.specs.Change.{FitsProfile}
 use Rattle.cfg_tree.specs.Resolve.{AreGiven}
 use Rattle.edit_ops.specs.Value.{no_value, has_words, is_many, at_row, words_set, joined, value_set, words_without}
 use Rattle.edit_ops.specs.Made.{IsTarget, IsEnough, IsOther, IsNewStatement, IsPart}
@@ -69,7 +69,7 @@ canonical_set kind false old given many g = g
 set_fits : (old : Value) (target : Target) → IsTarget target → IsEnough target
     → ((here : Place) → place_of target.path ≡ Some here → is_many (row_of here.row).shape ≡ true
     → IsDistinct same_word old.words × AreCanonical (row_of here.row).value_kind old.words)
-    → Fits target.path (value_set target.path old target.words)
+    → FitsProfile target.path (value_set target.path old target.words)
 set_fits old target is_target enough many = record {
   typed = is_target.typed;
   words = λ here e. subst (λ (b : Bool). AreWordsOf here.row (words_set b old.words target.words)) (sym (row_is is_many target.path here e))

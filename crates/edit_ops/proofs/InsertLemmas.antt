@@ -10,7 +10,7 @@ use Rattle.cfg_schema.proofs.TestLemmas.{not_is_false, same}
 use Rattle.cfg_tree.specs.Statements.{Statements, parent_of, last_of}
 use Rattle.cfg_tree.specs.Typed.{AreWordsOf}
 use Rattle.cfg_tree.specs.Tree.{ordered_head, step_of, IsOrderBy, IsOrderOf, IsTree}
-use Rattle.cfg_tree.specs.Change.{has_head, is_ordered, with_order_of, put_at, IsReady, Fits}
+use Rattle.cfg_tree.specs.Change.{has_head, is_ordered, with_order_of, put_at, IsReady, FitsProfile}
 use Rattle.cfg_tree.proofs.SameLemmas.{same_value}
 use Rattle.cfg_tree.proofs.PathLemmas.{split}
 use Rattle.cfg_tree.proofs.FollowLemmas.{bare_name}
@@ -18,7 +18,7 @@ use Rattle.cfg_tree.proofs.BesideLemmas.{same_heads}
 use Rattle.edit_ops.specs.declared.fault.EditFault.{EditFault}
 use Rattle.edit_ops.specs.declared.fault.EditFault.TheVariants.{Unknown, BadValue, Incomplete, Extra, NotNamed, NotOrdered, NotThere, AlreadyThere, Protected, TooMany, NoMemory}
 use Rattle.edit_ops.specs.Change.{is_name_for, insert_causes, inserted, inserted_at, moved_beside}
-use Rattle.edit_ops.specs.Made.{IsBesidePath, IsUnrefused, IsReordered, IsOpen, IsGuardFault, IsRoomFault, IsMade}
+use Rattle.edit_ops.specs.Made.{IsBesidePath, IsUnrefused, IsReordered, IsOpen, IsGuardFault, IsRoomFault, IsPartMade}
 use Rattle.edit_ops.proofs.WayLemmas.{below_short}
 use Rattle.edit_ops.proofs.NearLemmas.{put_near, put_here, put_same, put_there}
 use Rattle.edit_ops.proofs.BlockLemmas.{nothing_spared, near_on_way}
@@ -34,7 +34,7 @@ module _ (m : Statements) (path : List Step) (old value : Value) (tree : IsTree 
   steps : 0 < length path
   steps = (tree.statements.parents path there).steps
 
-  pub fits_again : Fits path value
+  pub fits_again : FitsProfile path value
   fits_again = record {
     typed = tree.typed.paths path there;
     words = λ here e. subst (λ (ws : List (List ℕ)). AreWordsOf here.row ws) (sym again.words) (tree.typed.words path old here again.found e);
@@ -48,7 +48,7 @@ module _ (m : Statements) (path : List Step) (old value : Value) (tree : IsTree 
     bare = λ here e headless. bare_name path steps (tree.typed.paths path there) here e headless;
   }
 
-  pub order_same : value ≡ old → IsMade m (Ok (put_at m path value)) (λ _. ⊥) (Ok None)
+  pub order_same : value ≡ old → IsPartMade m (Ok (put_at m path value)) (λ _. ⊥) (Ok None)
   order_same e = (ap (λ (x : Statements). Ok x) (put_same m path value (again.found ∙ ap (λ (v : Value). Some v) (sym e))), tree.few)
 
   differs : value ≢ old → map.get m path ≢ map.get (put_at m path value) path
@@ -57,18 +57,18 @@ module _ (m : Statements) (path : List Step) (old value : Value) (tree : IsTree 
       same_some : Some value ≡ Some old → value ≡ old
       same_some f = cc
 
-  pub order_made : value ≢ old → (n : Statements) → n ≡ put_at m path value → IsOpen m (length path) path → IsMade m (Ok (put_at m path value)) (λ _. ⊥) (Ok (Some n))
+  pub order_made : value ≢ old → (n : Statements) → n ≡ put_at m path value → IsOpen m (length path) path → IsPartMade m (Ok (put_at m path value)) (λ _. ⊥) (Ok (Some n))
   order_made h n e free =
-      subst (λ (x : Statements). IsMade m (Ok (put_at m path value)) (λ _. ⊥) (Ok (Some x))) (sym e)
+      subst (λ (x : Statements). IsPartMade m (Ok (put_at m path value)) (λ _. ⊥) (Ok (Some x))) (sym e)
       (let_pass m (put_at m path value) path (length path) nothing_spared (near_on_way m (put_at m path value) path nothing_spared (put_near m path value)) (differs h)
       (λ q on _. below_short q path on) (λ found first f. f) free)
 
-  pub order_refused : value ≢ old → (fault : EditFault) → IsGuardFault m (length path) path fault → IsMade m (Ok (put_at m path value)) (λ _. ⊥) (Err fault)
+  pub order_refused : value ≢ old → (fault : EditFault) → IsGuardFault m (length path) path fault → IsPartMade m (Ok (put_at m path value)) (λ _. ⊥) (Err fault)
   order_refused h =
       refused m (put_at m path value) path (length path) nothing_spared (near_on_way m (put_at m path value) path nothing_spared (put_near m path value)) (differs h)
       (λ q on _. below_short q path on) (λ found first f. f)
 
-  pub order_room : (fault : EditFault) → IsRoomFault m path fault → IsMade m (Ok (put_at m path value)) (λ _. ⊥) (Err fault)
+  pub order_room : (fault : EditFault) → IsRoomFault m path fault → IsPartMade m (Ok (put_at m path value)) (λ _. ⊥) (Err fault)
   order_room TooMany e = let k = sym again.found ∙ e.0 in cc
   order_room NoMemory e = tt
   order_room (Unknown p) e = absurd e

@@ -25,7 +25,7 @@ use Rattle.edit_ops.specs.declared.fault.EditFault.TheVariants.{Unknown, BadValu
 use Rattle.edit_ops.specs.Value.{at_row, has_name}
 use Rattle.edit_ops.specs.Change.{same_row, is_name_for, Cause, unless, move_causes, renamed_to, copied_to}
 use Rattle.edit_ops.specs.Block.{IsProtected, Blocks}
-use Rattle.edit_ops.specs.Made.{IsBesidePath, IsCause, IsUnrefused, IsOpen, IsGuardFault, IsOpenBelow, IsBelowFault, IsMade, fault_of_copy}
+use Rattle.edit_ops.specs.Made.{IsBesidePath, IsCause, IsUnrefused, IsOpen, IsGuardFault, IsOpenBelow, IsBelowFault, IsPartMade, fault_of_copy}
 use Rattle.edit_ops.proofs.WayLemmas.{take_below, below_short, below_trans, comparable, on_way_or_not}
 use Rattle.edit_ops.proofs.BlockLemmas.{nothing_spared, taken_free, taken_blocked, taken_blocked_below}
 use Rattle.edit_ops.proofs.SetLemmas.{let_pass, crowded, refused}
@@ -43,7 +43,7 @@ first_holds_not cause causes none = by_test _ refl
 
 -- a cause that holds refuses the change
 pub cause_refuses : (m n : Statements) (causes : List Cause) (spared : List Step → Type 0) (fault : EditFault) → IsCause causes fault
-    → IsMade m (unless causes n) spared (Err fault)
+    → IsPartMade m (unless causes n) spared (Err fault)
 cause_refuses m n causes spared (Protected p) c = absurd c
 cause_refuses m n causes spared TooMany c = absurd c
 cause_refuses m n causes spared NoMemory c = tt
@@ -189,17 +189,17 @@ module _ (m : Statements) (path other : List Step) (tree : IsTree m) (beside : I
   renamed_differs e =
       let k = sym old.1 ∙ ap (λ (x : Statements). map.get x path) (sym e) ∙ gone path (below_self path) in cc
 
-  made_rename : (r : Result (Option Statements) EditFault) → IsMade m (Ok (renamed m path other)) nothing_spared r → IsMade m (renamed_to m path other) nothing_spared r
-  made_rename r h = subst (λ (g : Result Statements EditFault). IsMade m g nothing_spared r) (sym (allowed (renamed m path other))) h
+  made_rename : (r : Result (Option Statements) EditFault) → IsPartMade m (Ok (renamed m path other)) nothing_spared r → IsPartMade m (renamed_to m path other) nothing_spared r
+  made_rename r h = subst (λ (g : Result Statements EditFault). IsPartMade m g nothing_spared r) (sym (allowed (renamed m path other))) h
 
   pub rename_made : (n : Statements) → n ≡ renamed m path other → IsOpen m (length path) path → IsOpenBelow m path
-      → IsMade m (renamed_to m path other) (λ _. ⊥) (Ok (Some n))
+      → IsPartMade m (renamed_to m path other) (λ _. ⊥) (Ok (Some n))
   rename_made n e free below =
       made_rename (Ok (Some n))
-      (subst (λ (x : Statements). IsMade m (Ok (renamed m path other)) (λ _. ⊥) (Ok (Some x))) (sym e)
+      (subst (λ (x : Statements). IsPartMade m (Ok (renamed m path other)) (λ _. ⊥) (Ok (Some x))) (sym e)
       (refl, renamed_differs, taken_free m (renamed m path other) path old.0 old.1 gone near_or_below free below))
 
-  pub rename_refused : (fault : EditFault) → IsGuardFault m (length path) path fault → IsMade m (renamed_to m path other) (λ _. ⊥) (Err fault)
+  pub rename_refused : (fault : EditFault) → IsGuardFault m (length path) path fault → IsPartMade m (renamed_to m path other) (λ _. ⊥) (Err fault)
   rename_refused (Protected p) first =
       made_rename (Err (Protected p))
       (renamed m path other, refl, taken_blocked m (renamed m path other) path old.0 old.1 gone near_or_below (length path) p first)
@@ -214,7 +214,7 @@ module _ (m : Statements) (path other : List Step) (tree : IsTree m) (beside : I
   rename_refused (AlreadyThere p) e = absurd e
   rename_refused TooMany e = absurd e
 
-  pub rename_refused_below : (fault : EditFault) → IsOpen m (length path) path → IsBelowFault m path fault → IsMade m (renamed_to m path other) (λ _. ⊥) (Err fault)
+  pub rename_refused_below : (fault : EditFault) → IsOpen m (length path) path → IsBelowFault m path fault → IsPartMade m (renamed_to m path other) (λ _. ⊥) (Err fault)
   rename_refused_below (Protected p) free first =
       made_rename (Err (Protected p))
       (renamed m path other, refl, taken_blocked_below m (renamed m path other) path old.0 old.1 gone near_or_below p free first)
@@ -246,24 +246,24 @@ module _ (m : Statements) (path other : List Step) (tree : IsTree m) (beside : I
   copied_differs e =
       let k = sym none ∙ e ∙ ap (map.get (copied m path other)) (sym (append-nil other)) ∙ copy_moves.new [] ∙ ap (map.get m) (append-nil path) ∙ old.1 in cc
 
-  made_copy : (r : Result (Option Statements) EditFault) → IsMade m (Ok (copied m path other)) nothing_spared r → IsMade m (copied_to m path other) nothing_spared r
-  made_copy r h = subst (λ (g : Result Statements EditFault). IsMade m g nothing_spared r) (sym (allowed (copied m path other))) h
+  made_copy : (r : Result (Option Statements) EditFault) → IsPartMade m (Ok (copied m path other)) nothing_spared r → IsPartMade m (copied_to m path other) nothing_spared r
+  made_copy r h = subst (λ (g : Result Statements EditFault). IsPartMade m g nothing_spared r) (sym (allowed (copied m path other))) h
 
   all_guarded : (q : List Step) → is_below q other ≡ true → ¬ ⊥ → length q ≤ length other
   all_guarded q on h = below_short q other on
 
-  pub copy_made : (n : Statements) → n ≡ copied m path other → IsOpen m (length other) other → IsMade m (copied_to m path other) (λ _. ⊥) (Ok (Some n))
+  pub copy_made : (n : Statements) → n ≡ copied m path other → IsOpen m (length other) other → IsPartMade m (copied_to m path other) (λ _. ⊥) (Ok (Some n))
   copy_made n e free =
       made_copy (Ok (Some n))
-      (subst (λ (x : Statements). IsMade m (Ok (copied m path other)) (λ _. ⊥) (Ok (Some x))) (sym e)
+      (subst (λ (x : Statements). IsPartMade m (Ok (copied m path other)) (λ _. ⊥) (Ok (Some x))) (sym e)
       (let_pass m (copied m path other) other (length other) nothing_spared copy_way copied_differs all_guarded (λ found first f. f) free))
 
-  pub copy_refused : (fault : EditFault) → IsGuardFault m (length other) other fault → IsMade m (copied_to m path other) (λ _. ⊥) (Err fault)
+  pub copy_refused : (fault : EditFault) → IsGuardFault m (length other) other fault → IsPartMade m (copied_to m path other) (λ _. ⊥) (Err fault)
   copy_refused fault e =
       made_copy (Err fault)
       (refused m (copied m path other) other (length other) nothing_spared copy_way copied_differs all_guarded (λ found first f. f) fault e)
 
-  pub copy_crowded : (why : CopyFault) → IsOpen m (length other) other → IsCopyFault m path other why → IsMade m (copied_to m path other) (λ _. ⊥) (Err (fault_of_copy why))
+  pub copy_crowded : (why : CopyFault) → IsOpen m (length other) other → IsCopyFault m path other why → IsPartMade m (copied_to m path other) (λ _. ⊥) (Err (fault_of_copy why))
   copy_crowded copy.TooMany free many =
       made_copy (Err TooMany)
       (crowded m (copied m path other) other (length other) nothing_spared copy_way copied_differs all_guarded (λ found first f. f) free many)

@@ -13,7 +13,7 @@ use Rattle.cfg_tree.specs.declared.fault.TreeFault.TheVariants as tree_fault
 use Rattle.cfg_tree.specs.Statements.{Statements, size_of, last_of, is_below, HasParent}
 use Rattle.cfg_tree.specs.Typed.{IsTypedPath}
 use Rattle.cfg_tree.specs.Tree.{IsTree}
-use Rattle.cfg_tree.specs.Change.{is_ordered, put_last, put_at, IsReady, Fits, IsPutFault}
+use Rattle.cfg_tree.specs.Change.{is_ordered, put_last, put_at, IsReady, FitsProfile, IsPutFault}
 use Rattle.cfg_tree.specs.Resolve.{IsLevelPath}
 use Rattle.std.specs.Bool.{Decides}
 use Rattle.cfg_base.specs.contracts.value.ValuePartialEq.TheImpl as equal
@@ -25,13 +25,13 @@ use Rattle.edit_ops.specs.declared.fault.EditFault.TheVariants.{Unknown, BadValu
 use Rattle.edit_ops.specs.Block.{Blocks}
 use Rattle.edit_ops.specs.Value.{no_value}
 use Rattle.edit_ops.specs.Change.{with_level, with_levels}
-use Rattle.edit_ops.specs.Made.{guarded, IsOpen, IsFirstProtected, IsGuardFault, IsMade, IsLevelReady, IsRoomFault, IsLevelsFault, IsOther, IsNewStatement, IsItself, LevelsPut, fault_of_put}
+use Rattle.edit_ops.specs.Made.{guarded, IsOpen, IsFirstProtected, IsGuardFault, IsPartMade, IsLevelReady, IsRoomFault, IsLevelsFault, IsOther, IsNewStatement, IsItself, LevelsPut, fault_of_put}
 use Rattle.edit_ops.proofs.WayLemmas.{below_take, below_short, way_whole}
 use Rattle.edit_ops.proofs.NearLemmas.{IsNear, put_near, put_here, put_by_other, put_same, size_new, put_grows, levels-more, levels_near, levels_grow, take_take, front_parent}
 use Rattle.edit_ops.proofs.BlockLemmas.{near_on_way, near_free, near_blocked}
 
 -- a put is refused only for want of room, where the value fits
-pub put_fault : (m : Statements) (path : List Step) (value : Value) (fault : TreeFault) → Fits path value → IsPutFault m path value fault
+pub put_fault : (m : Statements) (path : List Step) (value : Value) (fault : TreeFault) → FitsProfile path value → IsPutFault m path value fault
     → IsRoomFault m path (fault_of_put fault)
 put_fault m path value (tree_fault.Unknown refused) fits (is, none) =
     let (here, found) = typed_place path _ fits.typed in let k = sym found ∙ none in cc
@@ -48,8 +48,8 @@ pub level_is_ready : (m : Statements) (path : List Step) (value : Value) → IsT
 level_is_ready m path value tree level none e =
     level_ready m path value tree.statements level.level level.parent none (ap (λ (v : Value). v.order) e) (ap (λ (v : Value). v.words) e)
 
-pub level_fits : (m : Statements) (path : List Step) (value : Value) → IsLevelReady m path → value ≡ no_value → Fits path value
-level_fits m path value level e = subst (λ (v : Value). Fits path v) (sym e) record {
+pub level_fits : (m : Statements) (path : List Step) (value : Value) → IsLevelReady m path → value ≡ no_value → FitsProfile path value
+level_fits m path value level e = subst (λ (v : Value). FitsProfile path v) (sym e) record {
   typed = level.level.typed;
   words = λ here f. (level_counted _ (level.level.opens here f), All-nil _);
 }
@@ -149,13 +149,13 @@ module _ (m n : Statements) (path : List Step) (count : ℕ) (spared : List Step
   other_map : n ≢ m
   other_map e = differs (ap (λ (x : Statements). map.get x path) (sym e))
 
-  pub let_pass : IsOpen m count path → IsMade m (Ok n) spared (Ok (Some n))
+  pub let_pass : IsOpen m count path → IsPartMade m (Ok n) spared (Ok (Some n))
   let_pass free = (refl, other_map, near_free m n path spared on_way count free few)
 
-  pub crowded : IsOpen m count path → MAX_STATEMENTS < size_of n → IsMade m (Ok n) spared (Err TooMany)
+  pub crowded : IsOpen m count path → MAX_STATEMENTS < size_of n → IsPartMade m (Ok n) spared (Err TooMany)
   crowded free many = (n, refl, near_free m n path spared on_way count free few, many)
 
-  pub refused : (fault : EditFault) → IsGuardFault m count path fault → IsMade m (Ok n) spared (Err fault)
+  pub refused : (fault : EditFault) → IsGuardFault m count path fault → IsPartMade m (Ok n) spared (Err fault)
   refused (Unknown p) e = absurd e
   refused (BadValue p) e = absurd e
   refused (Incomplete p) e = absurd e
@@ -200,7 +200,7 @@ unspared_found m true path found long first e = too_long (ap (λ (p : List Step)
 
 -- another value for a statement that is there
 module _ (m : Statements) (path : List Step) (value : Value) (spared : Bool) (tree : IsTree m) (other : IsOther m path value) where
-  pub unchanged : map.get m path ≡ Some value → IsMade m (Ok (put_at m path value)) (IsItself spared path) (Ok None)
+  pub unchanged : map.get m path ≡ Some value → IsPartMade m (Ok (put_at m path value)) (IsItself spared path) (Ok None)
   unchanged same = (ap (λ (x : Statements). Ok x) (put_same m path value same), tree.few)
 
   differs : ¬ (map.get m path ≡ Some value) → map.get m path ≢ map.get (put_at m path value) path
@@ -210,20 +210,20 @@ module _ (m : Statements) (path : List Step) (value : Value) (spared : Bool) (tr
   is_ready = kept_ready m path other.old value tree other.found other.order (λ here e. (other.fits.words here e).0)
 
   pub replaced : ¬ (map.get m path ≡ Some value) → IsOpen m (guarded spared (length path)) path
-      → IsMade m (Ok (put_at m path value)) (IsItself spared path) (Ok (Some (put_at m path value)))
+      → IsPartMade m (Ok (put_at m path value)) (IsItself spared path) (Ok (Some (put_at m path value)))
   replaced h free =
       let_pass m (put_at m path value) path (guarded spared (length path)) (IsItself spared path)
       (near_on_way m (put_at m path value) path (IsItself spared path) (put_near m path value)) (differs h)
       (few_guarded spared path) (λ found. unspared_found m spared path found other.steps) free
 
   pub replace_refused : ¬ (map.get m path ≡ Some value) → (fault : EditFault) → IsGuardFault m (guarded spared (length path)) path fault
-      → IsMade m (Ok (put_at m path value)) (IsItself spared path) (Err fault)
+      → IsPartMade m (Ok (put_at m path value)) (IsItself spared path) (Err fault)
   replace_refused h =
       refused m (put_at m path value) path (guarded spared (length path)) (IsItself spared path)
       (near_on_way m (put_at m path value) path (IsItself spared path) (put_near m path value)) (differs h)
       (few_guarded spared path) (λ found. unspared_found m spared path found other.steps)
 
-  pub replace_room : (fault : EditFault) → IsRoomFault m path fault → IsMade m (Ok (put_at m path value)) (IsItself spared path) (Err fault)
+  pub replace_room : (fault : EditFault) → IsRoomFault m path fault → IsPartMade m (Ok (put_at m path value)) (IsItself spared path) (Err fault)
   replace_room (Unknown p) e = absurd e
   replace_room (BadValue p) e = absurd e
   replace_room (Incomplete p) e = absurd e
@@ -286,13 +286,13 @@ module _ (m : Statements) (path : List Step) (value : Value) (new : IsNewStateme
   all_guarded : (q : List Step) → is_below q path ≡ true → ¬ ⊥ → length q ≤ length path
   all_guarded q on h = below_short q path on
 
-  pub added : IsOpen m (length path) path → IsMade m (Ok goal) (λ _. ⊥) (Ok (Some goal))
+  pub added : IsOpen m (length path) path → IsPartMade m (Ok goal) (λ _. ⊥) (Ok (Some goal))
   added free = let_pass m goal path (length path) nothing goal_way goal_differs all_guarded (λ found first e. e) free
 
-  pub add_refused : (fault : EditFault) → IsGuardFault m (length path) path fault → IsMade m (Ok goal) (λ _. ⊥) (Err fault)
+  pub add_refused : (fault : EditFault) → IsGuardFault m (length path) path fault → IsPartMade m (Ok goal) (λ _. ⊥) (Err fault)
   add_refused = refused m goal path (length path) nothing goal_way goal_differs all_guarded (λ found first e. e)
 
-  pub add_crowded : IsOpen m (length path) path → (fault : EditFault) → IsLevelsFault m (length path - 1) path fault → IsMade m (Ok goal) (λ _. ⊥) (Err fault)
+  pub add_crowded : IsOpen m (length path) path → (fault : EditFault) → IsLevelsFault m (length path - 1) path fault → IsPartMade m (Ok goal) (λ _. ⊥) (Err fault)
   add_crowded free (Unknown p) e = absurd e
   add_crowded free (BadValue p) e = absurd e
   add_crowded free (Incomplete p) e = absurd e
@@ -311,7 +311,7 @@ module _ (m : Statements) (path : List Step) (value : Value) (new : IsNewStateme
   add_crowded free NoMemory e = tt
 
   pub add_room : IsOpen m (length path) path → (fault : EditFault) → IsRoomFault (with_levels m (length path - 1) path) path fault
-      → IsMade m (Ok goal) (λ _. ⊥) (Err fault)
+      → IsPartMade m (Ok goal) (λ _. ⊥) (Err fault)
   add_room free (Unknown p) e = absurd e
   add_room free (BadValue p) e = absurd e
   add_room free (Incomplete p) e = absurd e

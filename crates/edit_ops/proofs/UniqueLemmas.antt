@@ -22,7 +22,7 @@ use Rattle.edit_ops.specs.declared.fault.EditFault.TheVariants.{Unknown, BadValu
 use Rattle.edit_ops.specs.declared.subject.Subject.{Subject}
 use Rattle.edit_ops.specs.Change.{words_of, second_words, changed}
 use Rattle.edit_ops.specs.Block.{IsFree, IsSpared, IsBlockedBy}
-use Rattle.edit_ops.specs.Answer.{edit_fault, unwhole, HasNoWords, IsWhole, NamesOther, Asks, IsNameFault, IsOtherFault, IsWordsFault, IsChangeFault, IsChange, IsEditFault}
+use Rattle.edit_ops.specs.Answer.{edit_fault, unwhole, HasNoWords, IsWhole, NamesOther, NamesSubject, IsNameFault, IsOtherFault, IsWordsFault, IsChangeFault, IsChange, IsEditFault}
 
 same_some : {A : Type 0} (a b : A) → Some a ≡ Some b → a ≡ b
 same_some a b e = cc
@@ -195,7 +195,7 @@ module _ (m : Statements) (level : List Step) (op : Op) (is_level : IsLevelPath 
   same_other path (Some given) (Some one) None up a b = absurd b
 
   -- the words name one subject
-  one_subject : (one other : Subject) → Asks level op one → Asks level op other → one ≡ other
+  one_subject : (one other : Subject) → NamesSubject level op one → NamesSubject level op other → one ≡ other
   one_subject one other a b =
       let same = one_named level (words_of op) is_level one.target other.target a.names b.names
       in let seconds = same_other other.target.path (second_words op) one.other other.other
@@ -204,7 +204,7 @@ module _ (m : Statements) (level : List Step) (op : Op) (is_level : IsLevelPath 
       in λ i. record { target = same i; other = seconds i }
 
   -- what is asked isn't refused for its words but for want of memory
-  asked_or_fault : (subject : Subject) (fault : EditFault) → Asks level op subject → IsWordsFault level op fault → fault ≡ NoMemory
+  asked_or_fault : (subject : Subject) (fault : EditFault) → NamesSubject level op subject → IsWordsFault level op fault → fault ≡ NoMemory
   asked_or_fault subject fault asks refused =
       ⊎_elim
       (λ first. name_or_fault level (words_of op) is_level (IsWhole op) (unwhole op) subject.target fault asks.names asks.is_whole first)

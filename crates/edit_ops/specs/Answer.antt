@@ -63,7 +63,7 @@ NamesOther (Some words) path None = ⊥
 NamesOther (Some words) path (Some other) = ResolvesTo (parent_of path) words (Ok (target other []))
 
 -- the change's words name this statement with these words, and the second one
-pub record Asks (level : List Step) (op : Op) (subject : Subject) : Type 0 where
+pub record NamesSubject (level : List Step) (op : Op) (subject : Subject) : Type 0 where
   pub names : ResolvesTo level (words_of op) (Ok subject.target)
   pub is_whole : IsWhole op subject.target
   pub other : NamesOther (second_words op) subject.target.path subject.other
@@ -125,13 +125,13 @@ pub record Makes (m n : Statements) (op : Op) (subject : Subject) : Type 0 where
 -- a change: it is made of what its words name, and tells whether the map changed; or it is refused
 pub record IsChange (m n : Statements) (level : List Step) (op : Op) (told : Bool) : Type 0 where
   pub subject : Subject
-  pub asks : Asks level op subject
+  pub asks : NamesSubject level op subject
   pub makes : Makes m n op subject
   pub tells : Decides told (n ≢ m)
 
 pub record IsRefused (m : Statements) (level : List Step) (op : Op) (fault : EditFault) : Type 0 where
   pub subject : Subject
-  pub asks : Asks level op subject
+  pub asks : NamesSubject level op subject
   pub cause : IsChangeFault m op subject fault
 
 abbrev pub IsEditFault : Statements → List Step → Op → EditFault → Type 0

@@ -18,7 +18,7 @@ use Rattle.cfg_tree.specs.Statements.{Statements, size_of, parent_of, is_below, 
 use Rattle.cfg_tree.specs.Typed.{IsTypedPath, AreCanonical}
 use Rattle.cfg_tree.specs.Tree.{IsOrderOf}
 use Rattle.cfg_tree.specs.Resolve.{AreGiven, IsLevelPath}
-pub use Rattle.cfg_tree.specs.Change.{Fits, IsOther}
+pub use Rattle.cfg_tree.specs.Change.{FitsProfile, IsOther}
 use Rattle.edit_ops.specs.declared.fault.EditFault.{EditFault}
 use Rattle.edit_ops.specs.declared.fault.EditFault.TheVariants.{Unknown, BadValue, Protected, TooMany, NoMemory}
 pub use Rattle.edit_ops.specs.Answer.{IsEnough}
@@ -96,13 +96,13 @@ IsBelowFault m path NoMemory = Unit {0}
 IsBelowFault m path _ = ⊥
 
 -- what a part of a change makes of the statements, beside what it should make: nothing else than was there, or others; or why it is refused
-abbrev pub IsMade : Statements → Result Statements EditFault → (List Step → Type 0) → Result (Option Statements) EditFault → Type 0
-IsMade m goal spared (Ok None) = (goal ≡ Ok m) × (size_of m ≤ MAX_STATEMENTS)
-IsMade m goal spared (Ok (Some n)) = (goal ≡ Ok n) × (n ≢ m) × IsFree m n spared
-IsMade m goal spared (Err (Protected path)) = (n : Statements) × (goal ≡ Ok n) × IsBlockedBy m n spared path
-IsMade m goal spared (Err TooMany) = (n : Statements) × (goal ≡ Ok n) × IsFree m n spared × (MAX_STATEMENTS < size_of n)
-IsMade m goal spared (Err NoMemory) = Unit {0}
-IsMade m goal spared (Err fault) = goal ≡ Err fault
+abbrev pub IsPartMade : Statements → Result Statements EditFault → (List Step → Type 0) → Result (Option Statements) EditFault → Type 0
+IsPartMade m goal spared (Ok None) = (goal ≡ Ok m) × (size_of m ≤ MAX_STATEMENTS)
+IsPartMade m goal spared (Ok (Some n)) = (goal ≡ Ok n) × (n ≢ m) × IsFree m n spared
+IsPartMade m goal spared (Err (Protected path)) = (n : Statements) × (goal ≡ Ok n) × IsBlockedBy m n spared path
+IsPartMade m goal spared (Err TooMany) = (n : Statements) × (goal ≡ Ok n) × IsFree m n spared × (MAX_STATEMENTS < size_of n)
+IsPartMade m goal spared (Err NoMemory) = Unit {0}
+IsPartMade m goal spared (Err fault) = goal ≡ Err fault
 
 -- a level, whose parent is there
 pub record IsLevelReady (m : Statements) (path : List Step) : Type 0 where
@@ -131,12 +131,12 @@ pub record IsNewStatement (m : Statements) (path : List Step) (value : Value) : 
   pub steps : 0 < length path
   pub none : map.get m path ≡ None
   pub order : value.order ≡ []
-  pub fits : Fits path value
+  pub fits : FitsProfile path value
 
 -- what is left of the words of a statement that is there: none, or words that fit
 pub record IsPart (m : Statements) (path : List Step) (value : Value) (left : List (List ℕ)) : Type 0 where
   pub found : map.get m path ≡ Some value
-  pub fits : 0 < length left → Fits path (record value { words = left })
+  pub fits : 0 < length left → FitsProfile path (record value { words = left })
 
 -- why a put is refused as a refusal of the change
 abbrev pub fault_of_put : TreeFault → EditFault

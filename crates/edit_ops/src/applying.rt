@@ -5,7 +5,7 @@ ghost use Rattle.cfg_tree.specs.Resolve.{IsLevelPath};
 ghost use Rattle.edit_ops.specs.Change.{changed};
 ghost use Rattle.edit_ops.specs.Block.{IsSpared};
 ghost use Rattle.edit_ops.specs.Answer.{IsChange, IsEditFault, IsWhole};
-ghost use Rattle.edit_ops.specs.Made.{IsSubject, IsMade};
+ghost use Rattle.edit_ops.specs.Made.{IsSubject, IsPartMade};
 
 use crate::asked::asked;
 use crate::delete::delete;
@@ -24,7 +24,7 @@ use std::alloc::Global;
 fn made(alloc: Global, tree: &Tree, op: &Op, subject: &Subject) -> Result<Option<Tree>, EditFault>
     requires subject { IsSubject subject.now }
     requires whole { IsWhole op.now subject.now.target }
-    ensures { IsMade tree.now (changed tree.now op.now subject.now) (IsSpared op.now subject.now.target.path) result }
+    ensures { IsPartMade tree.now (changed tree.now op.now subject.now) (IsSpared op.now subject.now.target.path) result }
 {
     let path = &subject.target.path;
     match op {

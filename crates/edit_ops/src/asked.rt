@@ -6,7 +6,7 @@ ghost use Rattle.cfg_tree.specs.Statements.{parent_of};
 ghost use Rattle.cfg_tree.specs.Typed.{IsTypedPath};
 ghost use Rattle.cfg_tree.specs.Resolve.{IsLevelPath, ResolvesTo, target};
 ghost use Rattle.edit_ops.specs.Change.{words_of, second_words};
-ghost use Rattle.edit_ops.specs.Answer.{Asks, HasNoWords, IsWhole, IsNameFault, IsWordsFault, unwhole};
+ghost use Rattle.edit_ops.specs.Answer.{NamesSubject, HasNoWords, IsWhole, IsNameFault, IsWordsFault, unwhole};
 ghost use Rattle.edit_ops.specs.Made.{IsTarget, IsBesidePath, IsSubject};
 ghost use Rattle.edit_ops.specs.declared.fault.EditFault.TheVariants.{Extra};
 
@@ -124,7 +124,7 @@ fn second(alloc: Global, path: &Path, words: &Words) -> Result<Path, EditFault>
 /// What the words of a change name.
 pub fn asked(alloc: Global, level: &Path, op: &Op) -> Result<Subject, EditFault>
     requires { IsLevelPath level.now }
-    ensures ok { IfOk result (Asks level.now op.now) }
+    ensures ok { IfOk result (NamesSubject level.now op.now) }
     ensures subject { IfOk result IsSubject }
     ensures err { IfErr result (IsWordsFault level.now op.now) }
 {

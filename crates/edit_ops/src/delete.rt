@@ -5,7 +5,7 @@ ghost use Rattle.std.specs.FinMap as map;
 ghost use Rattle.cfg_tree.specs.Tree.{IsTree};
 ghost use Rattle.cfg_tree.specs.Change.{removed};
 ghost use Rattle.edit_ops.specs.Change.{left_at, deleted_at};
-ghost use Rattle.edit_ops.specs.Made.{IsTarget, IsMade, IsPart};
+ghost use Rattle.edit_ops.specs.Made.{IsTarget, IsPartMade, IsPart};
 
 use crate::fault::EditFault;
 use crate::guard::{guard, guard_below};
@@ -19,7 +19,7 @@ fn take(tree: &Tree, path: &Path) -> Result<Option<Tree>, EditFault>
     requires steps { 0 < length path.now }
     requires tree { IsTree tree.now }
     requires there { IsSome (map.get tree.now path.now) }
-    ensures { IsMade tree.now (Ok (removed tree.now path.now)) (λ _. ⊥) result }
+    ensures { IsPartMade tree.now (Ok (removed tree.now path.now)) (λ _. ⊥) result }
 {
     if let Err(fault) = guard(tree, path, false) {
         return Err(fault);
@@ -36,7 +36,7 @@ fn leave(tree: &Tree, path: &Path, value: &Value, left: WordList) -> Result<Opti
     requires steps { 0 < length path.now }
     requires tree { IsTree tree.now }
     requires part { IsPart tree.now path.now value.now left }
-    ensures { IsMade tree.now (Ok (left_at tree.now path.now value.now left)) (λ _. ⊥) result }
+    ensures { IsPartMade tree.now (Ok (left_at tree.now path.now value.now left)) (λ _. ⊥) result }
 {
     if left.is_empty() {
         return take(tree, path);
@@ -49,7 +49,7 @@ fn leave(tree: &Tree, path: &Path, value: &Value, left: WordList) -> Result<Opti
 /// The statements without the target, or without its words.
 pub fn delete(alloc: Global, tree: &Tree, target: &Target) -> Result<Option<Tree>, EditFault>
     requires { IsTarget target.now }
-    ensures { IsMade tree.now (deleted_at tree.now target.now.path target.now.words) (λ _. ⊥) result }
+    ensures { IsPartMade tree.now (deleted_at tree.now target.now.path target.now.words) (λ _. ⊥) result }
 {
     let value = match tree.at(&target.path) {
         Some(value) => value,

@@ -5,7 +5,7 @@ ghost use Rattle.cfg_schema.specs.Profile.{same_word};
 ghost use Rattle.cfg_tree.specs.Statements.{last_of};
 ghost use Rattle.cfg_tree.specs.Tree.{IsTree};
 ghost use Rattle.edit_ops.specs.Change.{insert_causes, inserted_at, beside, moved_beside};
-ghost use Rattle.edit_ops.specs.Made.{IsBesidePath, IsMade, IsCause, IsUnrefused};
+ghost use Rattle.edit_ops.specs.Made.{IsBesidePath, IsPartMade, IsCause, IsUnrefused};
 
 use crate::asked::parent_of;
 use crate::fault::EditFault;
@@ -140,7 +140,7 @@ pub fn insert(
     anchor: &Path,
 ) -> Result<Option<Tree>, EditFault>
     requires { IsBesidePath path.now anchor.now }
-    ensures { IsMade tree.now (inserted_at tree.now before path.now anchor.now) (λ _. ⊥) result }
+    ensures { IsPartMade tree.now (inserted_at tree.now before path.now anchor.now) (λ _. ⊥) result }
 {
     if let Err(fault) = refuse_insert(tree, path, anchor) {
         return Err(fault);

@@ -2,7 +2,7 @@
 
 ghost use Rattle.std.specs.Prelude.{not};
 ghost use Rattle.edit_ops.specs.Change.{marked_at};
-ghost use Rattle.edit_ops.specs.Made.{IsMade, IsItself};
+ghost use Rattle.edit_ops.specs.Made.{IsPartMade, IsItself};
 
 use crate::fault::EditFault;
 use crate::set::replace;
@@ -11,7 +11,7 @@ use cfg_tree::Tree;
 
 /// The statements with the inactive mark of one set or cleared.
 pub fn mark_inactive(tree: &Tree, path: &Path, mark: bool) -> Result<Option<Tree>, EditFault>
-    ensures { IsMade tree.now (marked_at tree.now path.now (λ value. record value { inactive = mark })) (λ _. ⊥) result }
+    ensures { IsPartMade tree.now (marked_at tree.now path.now (λ value. record value { inactive = mark })) (λ _. ⊥) result }
 {
     match tree.at(path) {
         Some(value) => {
@@ -25,7 +25,7 @@ pub fn mark_inactive(tree: &Tree, path: &Path, mark: bool) -> Result<Option<Tree
 
 /// The statements with the protected mark of one set or cleared.
 pub fn mark_protected(tree: &Tree, path: &Path, mark: bool) -> Result<Option<Tree>, EditFault>
-    ensures { IsMade tree.now (marked_at tree.now path.now (λ value. record value { protected = mark })) (IsItself (not mark) path.now) result }
+    ensures { IsPartMade tree.now (marked_at tree.now path.now (λ value. record value { protected = mark })) (IsItself (not mark) path.now) result }
 {
     match tree.at(path) {
         Some(value) => {

@@ -3,7 +3,7 @@
 ghost use Rattle.std.specs.Prelude.{◌≡◌, OnOk, IfErr};
 ghost use Rattle.cfg_tree.specs.Tree.{IsTree};
 ghost use Rattle.edit_ops.specs.Change.{is_name_for, move_causes, renamed_to, copied_to};
-ghost use Rattle.edit_ops.specs.Made.{IsBesidePath, IsMade, IsCause, IsUnrefused};
+ghost use Rattle.edit_ops.specs.Made.{IsBesidePath, IsPartMade, IsCause, IsUnrefused};
 
 use crate::fault::EditFault;
 use crate::guard::{guard, guard_below};
@@ -49,7 +49,7 @@ fn refuse_move(tree: &Tree, path: &Path, other: &Path) -> Result<(), EditFault>
 /// The statements with one, and all below it, under another name.
 pub fn rename(tree: &Tree, path: &Path, other: &Path) -> Result<Option<Tree>, EditFault>
     requires { IsBesidePath path.now other.now }
-    ensures { IsMade tree.now (renamed_to tree.now path.now other.now) (λ _. ⊥) result }
+    ensures { IsPartMade tree.now (renamed_to tree.now path.now other.now) (λ _. ⊥) result }
 {
     if let Err(fault) = refuse_move(tree, path, other) {
         return Err(fault);
@@ -68,7 +68,7 @@ pub fn rename(tree: &Tree, path: &Path, other: &Path) -> Result<Option<Tree>, Ed
 /// The statements with a copy of one, and of all below it, under another name.
 pub fn copy(tree: &Tree, path: &Path, other: &Path) -> Result<Option<Tree>, EditFault>
     requires { IsBesidePath path.now other.now }
-    ensures { IsMade tree.now (copied_to tree.now path.now other.now) (λ _. ⊥) result }
+    ensures { IsPartMade tree.now (copied_to tree.now path.now other.now) (λ _. ⊥) result }
 {
     if let Err(fault) = refuse_move(tree, path, other) {
         return Err(fault);

@@ -4,10 +4,10 @@ ghost use Rattle.std.specs.Prelude.{◌≡◌, ◌==◌, ◌&&◌, ◌-◌, ◌<
 ghost use Rattle.std.specs.FinMap as map;
 ghost use Rattle.cfg_tree.specs.Typed.{IsTypedPath};
 ghost use Rattle.cfg_tree.specs.Tree.{IsTree};
-ghost use Rattle.cfg_tree.specs.Change.{put_at, IsReady, Fits};
+ghost use Rattle.cfg_tree.specs.Change.{put_at, IsReady, FitsProfile};
 ghost use Rattle.edit_ops.specs.Value.{is_many_at, no_value, value_set};
 ghost use Rattle.edit_ops.specs.Change.{with_level, with_levels, set_of};
-ghost use Rattle.edit_ops.specs.Made.{IsTarget, IsMade, IsReordered, IsLevelReady, IsRoomFault, IsLevelsFault, IsOther, IsNewStatement, IsItself, IsEnough, LevelsPut};
+ghost use Rattle.edit_ops.specs.Made.{IsTarget, IsPartMade, IsReordered, IsLevelReady, IsRoomFault, IsLevelsFault, IsOther, IsNewStatement, IsItself, IsEnough, LevelsPut};
 
 use crate::fault::EditFault;
 use crate::guard::guard;
@@ -29,7 +29,7 @@ fn no_value(alloc: Global) -> Value
 
 fn put(tree: &mut Tree, path: &Path, value: Value) -> Result<(), EditFault>
     requires ready { IsReady tree.old path.now value }
-    requires fits { Fits path.now value }
+    requires fits { FitsProfile path.now value }
     ensures ok { OnOk result (tree.new ≡ put_at tree.old path.now value) }
     ensures err { IfErr result (IsRoomFault tree.old path.now) }
 {
@@ -84,7 +84,7 @@ pub fn replace(
 ) -> Result<Option<Tree>, EditFault>
     requires tree { IsTree tree.now }
     requires other { IsOther tree.now path.now value }
-    ensures { IsMade tree.now (Ok (put_at tree.now path.now value)) (IsItself spared path.now) result }
+    ensures { IsPartMade tree.now (Ok (put_at tree.now path.now value)) (IsItself spared path.now) result }
 {
     if has(tree, path, &value) {
         return Ok(None);
@@ -106,7 +106,7 @@ pub fn reorder(
 ) -> Result<Option<Tree>, EditFault>
     requires tree { IsTree tree.now }
     requires reordered { IsReordered tree.now path.now old.now value }
-    ensures { IsMade tree.now (Ok (put_at tree.now path.now value)) (λ _. ⊥) result }
+    ensures { IsPartMade tree.now (Ok (put_at tree.now path.now value)) (λ _. ⊥) result }
 {
     if *old == value {
         return Ok(None);
@@ -125,7 +125,7 @@ pub fn reorder(
 fn add(alloc: Global, tree: &Tree, path: &Path, value: Value) -> Result<Option<Tree>, EditFault>
     requires tree { IsTree tree.now }
     requires new { IsNewStatement tree.now path.now value }
-    ensures { IsMade tree.now (Ok (put_at (with_levels tree.now (length path.now - 1) path.now) path.now value)) (λ _. ⊥) result }
+    ensures { IsPartMade tree.now (Ok (put_at (with_levels tree.now (length path.now - 1) path.now) path.now value)) (λ _. ⊥) result }
 {
     if let Err(fault) = guard(tree, path, false) {
         return Err(fault);
@@ -162,7 +162,7 @@ fn adds_none(path: &Path, old: &Value, value: &Value) -> bool
 pub fn set(alloc: Global, tree: &Tree, target: &Target) -> Result<Option<Tree>, EditFault>
     requires target { IsTarget target.now }
     requires enough { IsEnough target.now }
-    ensures { IsMade tree.now (Ok (set_of tree.now target.now.path target.now.words)) (λ _. ⊥) result }
+    ensures { IsPartMade tree.now (Ok (set_of tree.now target.now.path target.now.words)) (λ _. ⊥) result }
 {
     match tree.at(&target.path) {
         Some(old) => {

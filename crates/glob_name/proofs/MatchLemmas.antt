@@ -1,6 +1,6 @@
 -- Items against a name: what a star may take, and what another item takes.
 use Rattle.std.proofs.Common.{◌≡◌, ◌⊎◌, inl, inr, ℕ, true, List, [], ◌∷◌, ◌++◌, refl, sym, ap, subst, ◌∙◌}
-use Rattle.glob_name.specs.Glob.{Item, fits_byte, Fits, Matches}
+use Rattle.glob_name.specs.Glob.{Item, fits_byte, FitsPiece, Matches}
 use Rattle.glob_name.specs.Glob.Item.{Star, AnyByte, Class, Byte}
 
 -- some later part of the name fits
@@ -42,7 +42,7 @@ abbrev pub IsOne : Item → Type 0
 IsOne Star = ⊥
 IsOne _ = Unit {0}
 
-one_fits : (item : Item) (b : ℕ) → fits_byte item b ≡ true → Fits item (b ∷ [])
+one_fits : (item : Item) (b : ℕ) → fits_byte item b ≡ true → FitsPiece item (b ∷ [])
 one_fits Star b e = tt
 one_fits AnyByte b e = (b, refl, e)
 one_fits (Class complement inner) b e = (b, refl, e)
@@ -53,7 +53,7 @@ record OneByte (item : Item) (piece : List ℕ) : Type 0 where
   alone : piece ≡ byte ∷ []
   fits : fits_byte item byte ≡ true
 
-one_byte : (item : Item) (piece : List ℕ) → IsOne item → Fits item piece → OneByte item piece
+one_byte : (item : Item) (piece : List ℕ) → IsOne item → FitsPiece item piece → OneByte item piece
 one_byte Star piece h f = absurd h
 one_byte AnyByte piece h (b, e, t) = record { byte = b; alone = e; fits = t }
 one_byte (Class complement inner) piece h (b, e, t) = record { byte = b; alone = e; fits = t }

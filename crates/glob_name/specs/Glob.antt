@@ -75,15 +75,15 @@ fits_byte (Class complement inner) b = (if complement then not (in_class inner b
 fits_byte (Byte x) b = x == b
 
 -- an item fits a piece of a name: a star any piece, another item a piece of one byte
-abbrev pub Fits : Item → List ℕ → Type 0
-Fits Star piece = Unit {0}
-Fits item piece = (b : ℕ) × (piece ≡ b ∷ []) × (fits_byte item b ≡ true)
+abbrev pub FitsPiece : Item → List ℕ → Type 0
+FitsPiece Star piece = Unit {0}
+FitsPiece item piece = (b : ℕ) × (piece ≡ b ∷ []) × (fits_byte item b ≡ true)
 
 -- the name can be cut into as many pieces as there are items, each piece fitting its item
 abbrev pub Matches : List Item → List ℕ → Type 0
 Matches [] name = name ≡ []
 Matches (item ∷ more) name =
-    (piece : List ℕ) × (back : List ℕ) × (name ≡ piece ++ back) × Fits item piece × Matches more back
+    (piece : List ℕ) × (back : List ℕ) × (name ≡ piece ++ back) × FitsPiece item piece × Matches more back
 
 -- the same as a test, item by item. Of a star: the name, or a later part of it, passes
 abbrev pub some_rest : (List ℕ → Bool) → List ℕ → Bool

@@ -2,7 +2,7 @@
 use Rattle.std.proofs.Common.{◌≡◌, ℕ, List, [], ◌++◌, refl, ap, sym, append_assoc, Option, None}
 use Rattle.std.proofs.Common.{Some}
 use Rattle.std.proofs.lemmas.List.{append-nil}
-use Rattle.io_edge.specs.Ends.{onto, behind}
+use Rattle.io_edge.specs.Ends.{onto, held_after}
 
 -- no bytes before what is told
 pub onto-nothing : (told : Option (List ℕ)) → onto [] told ≡ told
@@ -15,11 +15,11 @@ onto-onto a b None = refl
 onto-onto a b (Some left) = ap Some (sym (append_assoc a b left))
 
 -- no bytes behind what is told
-pub behind-nothing : (told : Option (List ℕ)) → behind told [] ≡ told
+pub behind-nothing : (told : Option (List ℕ)) → held_after told [] ≡ told
 behind-nothing None = refl
 behind-nothing (Some held) = ap Some (append-nil held)
 
 -- bytes behind bytes behind what is told
-pub behind-behind : (told : Option (List ℕ)) (a b : List ℕ) → behind (behind told a) b ≡ behind told (a ++ b)
+pub behind-behind : (told : Option (List ℕ)) (a b : List ℕ) → held_after (held_after told a) b ≡ held_after told (a ++ b)
 behind-behind None a b = refl
 behind-behind (Some held) a b = ap Some (append_assoc held a b)

@@ -14,7 +14,7 @@ use Rattle.io_edge.specs.declared.lines.Stop.TheVariants.{Lf, End, Full, Failed}
 use Rattle.io_edge.specs.declared.lines.TheConstants.{MAX_LINE}
 use Rattle.io_edge.specs.Ends.{onto, IsUsedUp, HasMore}
 use Rattle.io_edge.specs.Feed.{Feed}
-use Rattle.io_edge.specs.Line.{HasNoLf, without_cr, line_of, last_line_of, IsEndedLine}
+use Rattle.io_edge.specs.Line.{HasNoLf, without_last_cr, ended_line, last_line_of, IsEndedLine}
 use Rattle.io_edge.specs.Line.{IsLastLine, Gives, TellsBoth, GivesLine}
 use Rattle.io_edge.specs.Reader.{GathersTo, answer_of, end_of}
 use Rattle.io_edge.proofs.EndLemmas.{onto-onto}
@@ -64,11 +64,11 @@ kept_line most long answer part = elim (cases_lt most (length part)) [
 
 -- the answer for a line that an LF ends
 ended_gives : (part rest : List ℕ) (old_room now_room : ℕ) → HasNoLf part → old_room ≡ length part + 1 + now_room →
-    Gives (line_of (take (MAX_LINE + 1) part)) (part ++ 10 ∷ [] ++ rest) old_room rest now_room
+    Gives (ended_line (take (MAX_LINE + 1) part)) (part ++ 10 ∷ [] ++ rest) old_room rest now_room
 ended_gives part rest old_room now_room no_lf room =
     subst (λ answer. Gives answer (part ++ 10 ∷ [] ++ rest) old_room rest now_room)
-    (sym (kept_line MAX_LINE TooLong (λ line. Text (without_cr line)) part))
-    (ended_by (nat_lt MAX_LINE (length part)) (without_cr part) (part ++ 10 ∷ [] ++ rest) rest old_room now_room
+    (sym (kept_line MAX_LINE TooLong (λ line. Text (without_last_cr line)) part))
+    (ended_by (nat_lt MAX_LINE (length part)) (without_last_cr part) (part ++ 10 ∷ [] ++ rest) rest old_room now_room
     (record { line = part; no_lf = no_lf; bytes = append_assoc part (10 ∷ []) rest; room = room; answers = refl }))
 
 -- the first bytes of a line that has some are some
@@ -111,8 +111,8 @@ gives_line Lf kept old now g =
     let h : old.room ≡ length g.gathered.part + g.mid.room = g.gathered.room in
     let k : g.mid.room ≡ now.room + 1 = g.stops.room in
     omega arith in
-    tells_onto (λ before rest. Gives (line_of kept) before old.room rest now.room) (g.gathered.part ++ 10 ∷ []) old.left now.left bytes
-    (λ rest told. subst (λ line. Gives (line_of line) (g.gathered.part ++ 10 ∷ [] ++ rest) old.room rest now.room)
+    tells_onto (λ before rest. Gives (ended_line kept) before old.room rest now.room) (g.gathered.part ++ 10 ∷ []) old.left now.left bytes
+    (λ rest told. subst (λ line. Gives (ended_line line) (g.gathered.part ++ 10 ∷ [] ++ rest) old.room rest now.room)
     (sym g.gathered.is_kept) (ended_gives g.gathered.part rest old.room now.room g.gathered.no_lf room))
 gives_line End kept old now g =
     let bytes : old.left ≡ onto g.gathered.part now.left = g.gathered.bytes ∙ ap (onto g.gathered.part) (sym g.stops.0.bytes) in

@@ -5,7 +5,7 @@ use Rattle.std.proofs.lemmas.List.{append-nil, get_or_append_left, get_or_at, ta
 use Rattle.std.proofs.lemmas.Bool.{cases_order}
 use Rattle.io_edge.specs.declared.lines.Line.{Line}
 use Rattle.io_edge.specs.declared.lines.Line.TheVariants.{Text, TooLong, InputFull, End, Failed}
-use Rattle.io_edge.specs.Line.{HasNoLf, line_of, last_line_of, IsEndedLine, IsLastLine, IsFull}
+use Rattle.io_edge.specs.Line.{HasNoLf, ended_line, last_line_of, IsEndedLine, IsLastLine, IsFull}
 use Rattle.io_edge.specs.Line.{Gives}
 
 -- an answer, what it leaves and the room that it leaves are those of another
@@ -50,7 +50,7 @@ module _ (old : List ℕ) (room : ℕ) where
       let r : room ≡ length x.line + 1 + room' = x.room in
       let r' : room ≡ length y.line + 1 + room'' = y.room in
       record {
-        answers = x.answers ∙ ap line_of (same_part x.line (10 ∷ left) y.line (10 ∷ left') same long) ∙ sym y.answers;
+        answers = x.answers ∙ ap ended_line (same_part x.line (10 ∷ left) y.line (10 ∷ left') same long) ∙ sym y.answers;
         lefts = ap (drop 1) rest;
         rooms = omega arith;
       }

@@ -18,8 +18,8 @@ abbrev pub onto : List ℕ → Option (List ℕ) → Option (List ℕ)
 onto bytes told = option_map (λ rest. bytes ++ rest) told
 
 -- what is told, and then these bytes
-abbrev pub behind : Option (List ℕ) → List ℕ → Option (List ℕ)
-behind told bytes = option_map (λ held. held ++ bytes) told
+abbrev pub held_after : Option (List ℕ) → List ℕ → Option (List ℕ)
+held_after told bytes = option_map (λ held. held ++ bytes) told
 
 -- nothing is left, where that is told
 abbrev pub IsUsedUp : Option (List ℕ) → Type 0

@@ -13,12 +13,12 @@ abbrev pub HasNoLf : List ℕ → Type 0
 HasNoLf bytes = All (λ byte. byte ≢ 10) bytes
 
 -- the line without the CR at its end, where it has one
-abbrev pub without_cr : List ℕ → List ℕ
-without_cr line = if slice_index line (length line - 1) == 13 then take (length line - 1) line else line
+abbrev pub without_last_cr : List ℕ → List ℕ
+without_last_cr line = if slice_index line (length line - 1) == 13 then take (length line - 1) line else line
 
 -- the answer for a line that an LF ends
-abbrev pub line_of : List ℕ → Line
-line_of line = if nat_lt MAX_LINE (length line) then TooLong else Text (without_cr line)
+abbrev pub ended_line : List ℕ → Line
+ended_line line = if nat_lt MAX_LINE (length line) then TooLong else Text (without_last_cr line)
 
 -- the answer for a line that the end of the input ends
 abbrev pub last_line_of : List ℕ → Line
@@ -30,7 +30,7 @@ pub record IsEndedLine (answer : Line) (old : List ℕ) (old_room : ℕ) (now : 
   pub no_lf : HasNoLf line
   pub bytes : old ≡ line ++ 10 ∷ now
   pub room : old_room ≡ length line + 1 + now_room
-  pub answers : answer ≡ line_of line
+  pub answers : answer ≡ ended_line line
 
 -- all that was left is one line without an LF, it was taken, and the answer is that line's
 pub record IsLastLine (answer : Line) (old : List ℕ) (old_room : ℕ) (now : List ℕ) (now_room : ℕ) : Type 0 where

@@ -4,7 +4,7 @@ use Rattle.std.specs.Prelude.{if◌then◌else◌}
 use Rattle.io_edge.specs.Ends.{onto, IsUsedUp, HasMore}
 use Rattle.cfg_base.specs.Counts.{Rose}
 use Rattle.io_edge.specs.Feed.{Feed}
-use Rattle.io_edge.specs.Line.{HasNoLf, line_of, last_line_of}
+use Rattle.io_edge.specs.Line.{HasNoLf, ended_line, last_line_of}
 use Rattle.io_edge.specs.declared.lines.Line.{Line}
 use Rattle.io_edge.specs.declared.lines.Line.TheVariants.{InputFull, End as AtEnd}
 use Rattle.io_edge.specs.declared.lines.Line.TheVariants.{Failed as AtFault}
@@ -75,7 +75,7 @@ end_of line = if length line == 0 then AtEnd else last_line_of line
 
 -- the answer for the bytes of a line up to its stop
 abbrev pub answer_of : Stop → List ℕ → Line
-answer_of Lf line = line_of line
+answer_of Lf line = ended_line line
 answer_of End line = end_of line
 answer_of Full line = InputFull
 answer_of Failed line = AtFault

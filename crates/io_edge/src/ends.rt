@@ -1,5 +1,5 @@
 ghost use Rattle.std.specs.Prelude.{◌≡◌, ◌<◌, ◌≤◌, ℕ, List, Bool, Option, length};
-ghost use Rattle.io_edge.specs.Ends.{SinkView, SourceView, onto, behind, IsUsedUp, TakesAnswer};
+ghost use Rattle.io_edge.specs.Ends.{SinkView, SourceView, onto, held_after, IsUsedUp, TakesAnswer};
 ghost use Rattle.cfg_base.specs.Counts.{Rose};
 ghost use Rattle.io_edge.specs.Taken.{taken, TakesAtMost};
 ghost use Rattle.io_edge.specs.Written.{written, GivesAtMost};
@@ -50,7 +50,7 @@ pub trait Sink {
         requires { 0 < length piece.now }
         ensures count { GivesAtMost result (length piece.now) }
         // What it holds now is what it held and what was written.
-        ensures bytes { (view self.new).held ≡ behind (view self.old).held (written result piece.now) }
+        ensures bytes { (view self.new).held ≡ held_after (view self.old).held (written result piece.now) }
         ensures later { (view self.old).faults ≤ (view self.new).faults }
         ensures failed { result ≡ Put.Failed → Rose (view self.old).faults (view self.new).faults };
 }

@@ -6,7 +6,7 @@ ghost use Rattle.cfg_base.specs.Counts.{Rose};
 ghost use Rattle.io_edge.specs.Taken.{taken, TakesAtMost};
 ghost use Rattle.io_edge.specs.Reader.{IsFilled, IsTakenAs, Takes, GathersTo, end_of, answer_of};
 ghost use Rattle.io_edge.specs.declared.lines.TheConstants.{MAX_LINE, KEPT};
-ghost use Rattle.io_edge.specs.Line.{GivesLine, Falls, ReadAhead, without_cr, line_of, last_line_of};
+ghost use Rattle.io_edge.specs.Line.{GivesLine, Falls, ReadAhead, without_last_cr, ended_line, last_line_of};
 
 use crate::ends::{Got, Source};
 use cfg_base::{Bytes, Limits, NoMemory};
@@ -126,7 +126,7 @@ fn keep(kept: &mut Vec<u8>, byte: u8)
 
 /// The bytes without the CR at their end, where they have one.
 fn without_cr(mut line: Vec<u8>) -> Bytes
-    ensures { result ≡ without_cr line.items }
+    ensures { result ≡ without_last_cr line.items }
 {
     if line.last() == Some(&CR) {
         line.truncate(line.len() - 1);
@@ -136,7 +136,7 @@ fn without_cr(mut line: Vec<u8>) -> Bytes
 
 /// The answer for a line that an LF ends.
 fn line_of(line: Vec<u8>) -> Line
-    ensures { result ≡ line_of line.items }
+    ensures { result ≡ ended_line line.items }
 {
     if line.len() > MAX_LINE {
         Line::TooLong

@@ -1,5 +1,5 @@
 ghost use Rattle.std.specs.Prelude.{Some, ◌≡◌, ◌<◌, ◌≤◌, ◌↔◌, ◌+◌, [], length, IfOk};
-ghost use Rattle.io_edge.specs.Ends.{behind};
+ghost use Rattle.io_edge.specs.Ends.{held_after};
 ghost use Rattle.cfg_base.specs.Counts.{Rose};
 ghost use Rattle.io_edge.specs.Written.{written, GivesAtMost, TakesWhatFits};
 ghost use Rattle.io_edge.specs.Calls.{next_count, no_calls};
@@ -60,7 +60,7 @@ impl Sink for VecSink {
     fn write(&mut self, piece: &[u8]) -> Put
         requires { 0 < length piece.now }
         ensures count { GivesAtMost result (length piece.now) }
-        ensures bytes { Some self.new.held ≡ behind (Some self.old.held) (written result piece.now) }
+        ensures bytes { Some self.new.held ≡ held_after (Some self.old.held) (written result piece.now) }
         ensures later { self.old.calls.faults ≤ self.new.calls.faults }
         ensures failed { result ≡ Put.Failed → Rose self.old.calls.faults self.new.calls.faults }
         // Only the calls of the stated numbers fail, and those for which there is no room.

@@ -23,7 +23,7 @@ whole_typed : (items : List Item) (end : ℕ) (change : Op) → Spells (tokens_o
 whole_typed [] end change line = let none = line.joined in cc
 whole_typed (item ∷ items) end change line = inl (typed (item ∷ items) change line)
 
-line_typed : (line : List ℕ) (change : Op) → set.Asks line change → IsReading true line (change_answer change)
+line_typed : (line : List ℕ) (change : Op) → set.AsksChange line change → IsReading true line (change_answer change)
 line_typed line change asks = record {
   tokens = asks.tokens;
   fault = None;
@@ -36,7 +36,7 @@ whole_loaded [] end change e = cc
 whole_loaded (item ∷ items) end change (inl asks) = loaded (item ∷ items) change asks
 whole_loaded (item ∷ items) end change (inr misfit) = let no = misfit.1.is in cc
 
-line_loaded : (line : List ℕ) (change : Op) (tokens : List Token) (fault : Option LexFault) → IsCut line tokens fault → Answers true (map (item_in line) tokens) fault (length line) (change_answer change) → set.Asks line change
+line_loaded : (line : List ℕ) (change : Op) (tokens : List Token) (fault : Option LexFault) → IsCut line tokens fault → Answers true (map (item_in line) tokens) fault (length line) (change_answer change) → set.AsksChange line change
 line_loaded line change tokens None cut answers = record {
   tokens = tokens;
   cut = cut;
@@ -44,7 +44,7 @@ line_loaded line change tokens None cut answers = record {
 }
 line_loaded line change tokens (Some fault) cut answers = let no = answers.is in cc
 
-pub same_change : (line : List ℕ) (change : Op) → set.Asks line change ↔ IsReading true line (Ok (Some (Whole (command.Change change))))
+pub same_change : (line : List ℕ) (change : Op) → set.AsksChange line change ↔ IsReading true line (Ok (Some (Whole (command.Change change))))
 same_change line change = (line_typed line change, λ reading. line_loaded line change reading.tokens reading.fault reading.cut reading.answers)
 
 line_skipped : (line : List ℕ) (tokens : List Token) (fault : Option LexFault) → IsCut line tokens fault → Answers true (map (item_in line) tokens) fault (length line) (Ok None) → set.IsSkipped line

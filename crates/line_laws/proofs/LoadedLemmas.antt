@@ -21,7 +21,7 @@ use Rattle.shell_words.proofs.Names.{Row, any, neither, plain, bracketed, around
 use Rattle.shell_words.specs.declared.making.Words0.{Words0}
 use Rattle.shell_words.specs.declared.making.Words0.TheVariants.{Whole}
 use Rattle.shell_words.specs.Item.{Item}
-use Rattle.shell_words.specs.Form.{is_of, parts_of, Fits, forms_of}
+use Rattle.shell_words.specs.Form.{is_of, parts_of, FitsParts, forms_of}
 use Rattle.shell_words.specs.Made.{made_by}
 use Rattle.shell_words.specs.Pair.{change_in}
 use Rattle.shell_words.proofs.SymbolLemmas.{same_is}
@@ -31,7 +31,7 @@ use Rattle.line_laws.proofs.TypedLemmas.{IsTyped}
 
 -- the lines of a form of configuration mode that are changes are set lines
 abbrev RowLoaded : Row → Type 0
-RowLoaded form = (items : List Item) (words : List (List ℕ)) (change : Op) → Fits (parts_of form) items words → Whole (command.Change change) ≡ made_by form.makes items words → Spells (tokens_of items) change
+RowLoaded form = (items : List Item) (words : List (List ℕ)) (change : Op) → FitsParts (parts_of form) items words → Whole (command.Change change) ≡ made_by form.makes items words → Spells (tokens_of items) change
 
 same_change : (one other : Op) → Whole (command.Change one) ≡ Whole (command.Change other) → one ≡ other
 same_change one other e = cc

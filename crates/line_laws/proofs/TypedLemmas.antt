@@ -21,13 +21,13 @@ use Rattle.shell_words.proofs.Names.{change_key, move_key, mark_key, any, neithe
 use Rattle.shell_words.specs.declared.making.Words0.TheVariants.{Whole}
 use Rattle.shell_words.specs.Item.{Item}
 use Rattle.shell_words.specs.Form.{is_keyword, is_mark, is_of, parts_of, forms_of}
-use Rattle.shell_words.specs.Reading.{Asks}
+use Rattle.shell_words.specs.Reading.{AsksByForm}
 use Rattle.line_laws.proofs.TokenLemmas.{tokens_of, kinds_in, words_in, AreWords, split, kinds_told, words_by_kind, words_all, bracketed_words}
 use Rattle.line_laws.proofs.RowLemmas.{at_row, found_in, names_are, neither_words, mark_found, IsApart, two_sides}
 
 -- tokens of a line that ask this change in configuration mode
 abbrev pub IsTyped : List Item → Op → Type 0
-IsTyped items change = Asks true items (Ok (Some (Whole (command.Change change))))
+IsTyped items change = AsksByForm true items (Ok (Some (Whole (command.Change change))))
 
 plain_typed : (verb : Verb) → Contains (forms_of true) (plain verb) → (first : Item) (behind : List Item) (change : Op) → is_keyword (change_key verb) first ≡ true → AreWords behind → 0 < length behind → change ≡ op_of verb (words_in behind) → IsTyped (first ∷ behind) change
 plain_typed verb served first [] change is all some asked = absurd (omega arith)

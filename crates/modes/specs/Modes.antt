@@ -1,7 +1,7 @@
 -- What comes of a mode that serves no session: its status, what it writes, and the disks. This project's own.
 use Rattle.std.specs.Prelude.{◌≡◌, ◌⊎◌, ℕ, List}
 use Rattle.cfg_base.specs.Counts.{Rose}
-use Rattle.io_edge.specs.Ends.{SinkView, behind}
+use Rattle.io_edge.specs.Ends.{SinkView, held_after}
 use Rattle.io_edge.specs.Wrote.{WrotePart}
 use Rattle.disk_model.specs.Pair.{DiskPair}
 use Rattle.stored_ledger.specs.declared.why.StartWhy.{StartWhy}
@@ -22,14 +22,14 @@ start_status NoMemory = 9
 start_status (BadRecord offset) = 10
 
 -- a part of the text, from its beginning, was written, and the sink's count of faults rose
-pub record IsCut (text : List ℕ) (old new : SinkView) (status : ℕ) : Type 0 where
+pub record IsTextCut (text : List ℕ) (old new : SinkView) (status : ℕ) : Type 0 where
   pub status_is : status ≡ 6
   pub rose : Rose old.faults new.faults
   pub part : WrotePart text old.held new.held
 
 -- the whole text was written after what the sink held, with status 0; or it was cut
 abbrev pub IsTold : List ℕ → SinkView → SinkView → ℕ → Type 0
-IsTold text old new status = ((status ≡ 0) × (new.held ≡ behind old.held text)) ⊎ IsCut text old new status
+IsTold text old new status = ((status ≡ 0) × (new.held ≡ held_after old.held text)) ⊎ IsTextCut text old new status
 
 -- nothing was written, for a cause that has a status of its own; `Untouched` says that the sink wasn't called
 pub record IsRefusedFor (Untouched : Type 0) (cause : StartWhy) (status : ℕ) (why : StartWhy0) : Type 0 where

@@ -1,7 +1,7 @@
 //! The ends of the sessions that the words of the command line name: standard input and output, or files.
 
 ghost use Rattle.std.specs.Prelude.{◌≡◌, IfOk};
-ghost use Rattle.session_threads.specs.Results.{users_of};
+ghost use Rattle.session_threads.specs.Results.{users_of_ends};
 
 use cfg_base::{NoMemory, UserName, Word};
 use command_line::Asked;
@@ -149,7 +149,7 @@ where
     R: Files + Clock + AllocGlobal + Clone + Drop,
     I: Read + Drop,
     O: Write + Drop,
-    ensures { IfOk result (λ ends. users_of ends.items ≡ asked.now.users) }
+    ensures { IfOk result (λ ends. users_of_ends ends.items ≡ asked.now.users) }
 {
     let mut standard = Some((input, output));
     let mut files = asked.files.as_slice().iter();

@@ -1,7 +1,7 @@
 //! Runs of the service, over the ends and the ticker that the stage makes and the script's disks.
 
 ghost use Rattle.std.specs.Prelude.{◌≡◌, IfOk};
-ghost use Rattle.session_threads.specs.Results.{users_of};
+ghost use Rattle.session_threads.specs.Results.{users_of_ends};
 ghost use Rattle.service.specs.Run.{AreEnds};
 
 use crate::disks::Disks;
@@ -43,7 +43,7 @@ fn ends_of(
     users: &[UserName],
     parts: &mut IntoIter<Part>,
 ) -> Result<Vec<StagedEnd>, Fault>
-    ensures { IfOk result (λ ends. users_of ends.items ≡ users.now) }
+    ensures { IfOk result (λ ends. users_of_ends ends.items ≡ users.now) }
 {
     let mut ends = Vec::new(alloc);
     for user in users {

@@ -12,7 +12,7 @@ use Rattle.config_core.specs.declared.reply.Reply.TheVariants.{Done as SaysDone}
 use Rattle.config_core.specs.State.{State}
 use Rattle.config_db.specs.declared.answer.Answered.TheVariants.{Kept as DoneAt, NoMemory as Wanting}
 use Rattle.io_edge.specs.declared.lines.Line.{Line}
-use Rattle.io_edge.specs.Ends.{behind}
+use Rattle.io_edge.specs.Ends.{held_after}
 use Rattle.reply_text.specs.declared.fault.ShellFault.{ShellFault}
 use Rattle.session_history.specs.declared.history.Happened.{Happened}
 use Rattle.session_history.specs.Events.{IsAt, Leads}
@@ -24,10 +24,10 @@ use Rattle.session_shell.specs.declared.reading.Reading.{Reading}
 use Rattle.session_shell.specs.declared.reading.Reading.TheVariants.{Operational, Configuring, Collecting, Spoilt, Out}
 use Rattle.session_shell.specs.declared.turn.How.{How}
 use Rattle.session_shell.specs.declared.turn.How.TheVariants.{Clean, InputFull}
-use Rattle.session_shell.specs.Exchange.{Exchange, Asked, Refused, after, item_of, moment_of, text_of, turn_of}
-use Rattle.session_shell.specs.Items.{Continues, ReadsAs}
+use Rattle.session_shell.specs.Exchange.{Exchange, Asked, Refused, reading_after, item_asked, moment_in, text_written, turn_taken}
+use Rattle.session_shell.specs.Items.{Continues, ReadsThrough}
 use Rattle.session_shell.specs.Law.{SeeAlike}
-use Rattle.session_shell.specs.Transcript.{GoesBy, LogsOut, SessionView, Texts, Wrote}
+use Rattle.session_shell.specs.Transcript.{GoesBy, LogsOut, SessionView, Texts, WroteTexts}
 use Rattle.session_shell.proofs.LawLemmas.{Peels}
 use Rattle.session_threads.proofs.ListLemmas.{some_is}
 use Rattle.service.proofs.AloneLemmas.{FollowsPlain, turns_once}
@@ -50,49 +50,49 @@ FollowsBlind opening caller events command answer (Seen front reply) events' = (
 FollowsBlind opening caller events command answer NoMemory events' = FollowsPlain opening caller events command answer Wanting events'
 
 -- what a view said changes nothing else of an item
-blind_item : (exchange : Exchange) → item_of (blind exchange) ≡ item_of exchange
+blind_item : (exchange : Exchange) → item_asked (blind exchange) ≡ item_asked exchange
 blind_item (Asked moment command given) = refl
 blind_item (Refused moment fault) = refl
 
-blind_after : (reading : Reading) (exchange : Exchange) → after reading (blind exchange) ≡ after reading exchange
+blind_after : (reading : Reading) (exchange : Exchange) → reading_after reading (blind exchange) ≡ reading_after reading exchange
 blind_after reading (Asked moment command (KeptAt place reply)) = refl
 blind_after reading (Asked moment command (Seen front reply)) = refl
 blind_after reading (Asked moment command NoMemory) = refl
 blind_after reading (Refused moment fault) = refl
 
-blind_turn : (exchange : Exchange) → turn_of (blind exchange) ≡ turn_of exchange
+blind_turn : (exchange : Exchange) → turn_taken (blind exchange) ≡ turn_taken exchange
 blind_turn (Asked moment command (KeptAt place reply)) = refl
 blind_turn (Asked moment command (Seen front reply)) = refl
 blind_turn (Asked moment command NoMemory) = refl
 blind_turn (Refused moment fault) = refl
 
-blind_moment : (exchange : Exchange) → moment_of (blind exchange) ≡ moment_of exchange
+blind_moment : (exchange : Exchange) → moment_in (blind exchange) ≡ moment_in exchange
 blind_moment (Asked moment command given) = refl
 blind_moment (Refused moment fault) = refl
 
-pub blind_turns : (exchanges : List Exchange) → map turn_of (map blind exchanges) ≡ map turn_of exchanges
+pub blind_turns : (exchanges : List Exchange) → map turn_taken (map blind exchanges) ≡ map turn_taken exchanges
 blind_turns [] = refl
 blind_turns (exchange ∷ exchanges) =
-    ap (λ t. t ∷ map turn_of (map blind exchanges)) (blind_turn exchange) ∙ ap (λ l. turn_of exchange ∷ l) (blind_turns exchanges)
+    ap (λ t. t ∷ map turn_taken (map blind exchanges)) (blind_turn exchange) ∙ ap (λ l. turn_taken exchange ∷ l) (blind_turns exchanges)
 
-pub blind_moments : (exchanges : List Exchange) → map moment_of (map blind exchanges) ≡ map moment_of exchanges
+pub blind_moments : (exchanges : List Exchange) → map moment_in (map blind exchanges) ≡ map moment_in exchanges
 blind_moments [] = refl
 blind_moments (exchange ∷ exchanges) =
-    ap (λ t. t ∷ map moment_of (map blind exchanges)) (blind_moment exchange) ∙ ap (λ l. moment_of exchange ∷ l) (blind_moments exchanges)
+    ap (λ t. t ∷ map moment_in (map blind exchanges)) (blind_moment exchange) ∙ ap (λ l. moment_in exchange ∷ l) (blind_moments exchanges)
 
-pub blind_reads : (lines : List Line) (reading last : Reading) (exchanges : List Exchange) → ReadsAs lines reading exchanges last → ReadsAs lines reading (map blind exchanges) last
+pub blind_reads : (lines : List Line) (reading last : Reading) (exchanges : List Exchange) → ReadsThrough lines reading exchanges last → ReadsThrough lines reading (map blind exchanges) last
 blind_reads [] reading last exchanges reads = (ap (map blind) reads.0, reads.1)
 blind_reads (line ∷ lines) reading last exchanges reads =
     record { came = reads.came; is_read = reads.is_read; comes = reads.comes; goes = on reads.came (λ next xs r. blind_reads lines next last xs r) exchanges reads.goes }
   where
-    on : (came : Option Item × Reading) → ((next : Reading) (xs : List Exchange) → ReadsAs lines next xs last → ReadsAs lines next (map blind xs) last) → (xs : List Exchange)
-        → Continues (λ next rest. ReadsAs lines next rest last) came xs → Continues (λ next rest. ReadsAs lines next rest last) came (map blind xs)
+    on : (came : Option Item × Reading) → ((next : Reading) (xs : List Exchange) → ReadsThrough lines next xs last → ReadsThrough lines next (map blind xs) last) → (xs : List Exchange)
+        → Continues (λ next rest. ReadsThrough lines next rest last) came xs → Continues (λ next rest. ReadsThrough lines next rest last) came (map blind xs)
     on (None, next) again xs goes = again next xs goes
     on (Some item, next) again [] goes = absurd goes
     on (Some item, next) again (x ∷ xs) goes =
-        (blind_item x ∙ goes.0, subst (λ r. ReadsAs lines r (map blind xs) last) (sym (blind_after next x)) (again (after next x) xs goes.1))
+        (blind_item x ∙ goes.0, subst (λ r. ReadsThrough lines r (map blind xs) last) (sym (blind_after next x)) (again (reading_after next x) xs goes.1))
 
-logout_blind : (final : List Exchange) → ((logout : Exchange) × (final ≡ logout ∷ []) × (item_of logout ≡ Ask Logout)) → ((logout : Exchange) × (map blind final ≡ logout ∷ []) × (item_of logout ≡ Ask Logout))
+logout_blind : (final : List Exchange) → ((logout : Exchange) × (final ≡ logout ∷ []) × (item_asked logout ≡ Ask Logout)) → ((logout : Exchange) × (map blind final ≡ logout ∷ []) × (item_asked logout ≡ Ask Logout))
 logout_blind final is = (blind is.0, ap (map blind) is.1, blind_item is.0 ∙ is.2)
 
 pub blind_logs_out : (reading : Reading) (final : List Exchange) → LogsOut reading final → LogsOut reading (map blind final)
@@ -104,17 +104,17 @@ blind_logs_out Out final out = ap (map blind) out
 
 -- a session's view, where its sink holds the texts of these items
 abbrev pub view_of : List Exchange → List Exchange → SessionView → SessionView
-view_of asked final view = record view { held = behind (Some []) (flat_map text_of asked ++ flat_map text_of final) }
+view_of asked final view = record view { held = held_after (Some []) (flat_map text_written asked ++ flat_map text_written final) }
 
 pub texts_of : (how : How) (asked final : List Exchange) (old view : SessionView) → old.held ≡ Some [] → (how ≡ Clean) ⊎ (how ≡ InputFull) → Texts how asked final old (view_of asked final view)
 texts_of how asked final old view empty ended = by_how ended
   where
-    wrote : Wrote (flat_map text_of asked) (flat_map text_of final) old (view_of asked final view)
+    wrote : WroteTexts (flat_map text_written asked) (flat_map text_written final) old (view_of asked final view)
     wrote = record {
-      part = flat_map text_of final;
+      part = flat_map text_written final;
       rest = [];
-      is_second = sym (append-nil (flat_map text_of final));
-      held = ap (λ h. behind h (flat_map text_of asked ++ flat_map text_of final)) (sym empty);
+      is_second = sym (append-nil (flat_map text_written final));
+      held = ap (λ h. held_after h (flat_map text_written asked ++ flat_map text_written final)) (sym empty);
       whole = inl refl;
     }
 
@@ -140,7 +140,7 @@ pub record BeganAlike (opening : State) (caller : ℕ) (e e' : List Happened) (x
   pub start : List Happened
   pub went : GoesBy (FollowsBlind opening caller) xs start e
   pub went' : GoesBy (FollowsBlind opening caller) ys start e'
-  pub seen : SeeAlike (map turn_of xs) (map turn_of ys)
+  pub seen : SeeAlike (map turn_taken xs) (map turn_taken ys)
 
 module _ (opening : State) (caller : ℕ) (e e' : List Happened)
     (leads_once : (events : List Happened) (one other : State) → Leads opening events one → Leads opening events other → one ≡ other)

@@ -13,7 +13,7 @@ use Rattle.modes.specs.Texts.{gen_text}
 use Rattle.session_history.specs.declared.history.Happened.{Happened}
 use Rattle.session_history.specs.declared.history.History.{History}
 use Rattle.session_history.specs.Events.{Leads}
-use Rattle.service.specs.Generating.{Generates, IsCounted, IsDone, IsGenerated, IsMadeFor}
+use Rattle.service.specs.Generating.{Generates, IsToldOf, IsDone, IsGenerated, IsMadeFor}
 use Rattle.service.proofs.GeneratingLemmas.{leads_on}
 
 -- one state, and one list of events
@@ -46,7 +46,7 @@ module _ (from : State) (one_state : (events : List Happened) (s t : State) → 
 
 -- and what is told of a list is one text
 counted_once : ((m : Statements) (full other : Expansion) → IsExpansion m full → IsExpansion m other → full ≡ other)
-    → (kept : Kept) (text other : List ℕ) → IsCounted kept text → IsCounted kept other → text ≡ other
+    → (kept : Kept) (text other : List ℕ) → IsToldOf kept text → IsToldOf kept other → text ≡ other
 counted_once one_full kept text other c d =
     c.told ∙ ap (λ full. gen_text (size_of (active_of kept)) (map.len full) (length (printed (active_of kept) [])) (kept_commits kept)) (one_full (active_of kept) c.full d.full c.expansion d.expansion) ∙ sym d.told
 
@@ -56,4 +56,4 @@ pub generated_once : ((events : List Happened) (users : List (List ℕ)) (s t : 
 generated_once one_state one_full number users one other text text2 g h =
     let same : g.made.last ≡ h.made.last =
     generates_once (opening_of factory users) (λ events. one_state events users) number g.made.last h.made.last one.events.items other.events.items g.made.generates h.made.generates in
-    counted_once one_full h.made.last.kept text text2 (subst (λ s. IsCounted s.kept text) same g.made.counted) h.made.counted
+    counted_once one_full h.made.last.kept text text2 (subst (λ s. IsToldOf s.kept text) same g.made.counted) h.made.counted

@@ -18,7 +18,7 @@ use Rattle.session_history.specs.declared.history.History.{History}
 use Rattle.session_history.specs.Events.{IsLegal, Leads}
 use Rattle.session_history.proofs.EventLemmas.{Leads-append}
 use Rattle.service.specs.Taking.{Happens, done_event}
-use Rattle.service.specs.Generating.{Generates, IsCounted, IsDone, IsGenerated, IsMadeFor}
+use Rattle.service.specs.Generating.{Generates, IsToldOf, IsDone, IsGenerated, IsMadeFor}
 
 -- an event leads on to the state that it leaves
 pub leads_on : (caller moment : ℕ) (event : Event) (reply : Reply) (from s s' : State) (events events' : List Happened) → Leads from events s
@@ -57,18 +57,18 @@ replied_so command reply wanted s s' events events' is done = subst (λ (r : Rep
 
 -- what was made over the factory commit
 pub made_for : (number : ℕ) (users : List (List ℕ)) (before events : List Happened) (text : List ℕ) (start kept : Kept) (s last : State) → s ≡ opening_of start users → start ≡ factory
-    → before ≡ [] → Generates number s last before events → kept ≡ last.kept → IsCounted kept text → IsMadeFor number users events text
+    → before ≡ [] → Generates number s last before events → kept ≡ last.kept → IsToldOf kept text → IsMadeFor number users events text
 made_for number users before events text start kept s last begins is none generates same counted = record {
   last = last;
   generates = subst (λ (t : State). Generates number t last [] events) (begins ∙ ap (λ (k : Kept). opening_of k users) is)
       (subst (λ (l : List Happened). Generates number s last l events) none generates);
-  counted = subst (λ (k : Kept). IsCounted k text) same counted;
+  counted = subst (λ (k : Kept). IsToldOf k text) same counted;
 }
 
 -- what is told of a list whose active configuration is accepted
 pub counted_by : (kept : Kept) (m : Statements) (full : Expansion) (text : List ℕ) (statements expanded bytes commits : ℕ) → m ≡ active_of kept → IsAccepted m full
     → length (printed m []) ≤ 1048576 → statements ≡ size_of m → expanded ≡ map.len full → bytes ≡ min (length (printed m [])) 18446744073709551615 → commits ≡ kept_commits kept
-    → text ≡ gen_text statements expanded bytes commits → IsCounted kept text
+    → text ≡ gen_text statements expanded bytes commits → IsToldOf kept text
 counted_by kept m full text statements expanded bytes commits is accepted short statements_are expanded_are bytes_are commits_are told = record {
   full = full;
   expansion = subst (λ (x : Statements). IsExpansion x full) is accepted.expansion;

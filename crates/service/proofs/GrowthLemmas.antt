@@ -9,15 +9,15 @@ use Rattle.session_history.specs.declared.history.Happened.{Happened}
 use Rattle.session_history.specs.Kept.{WasKept}
 use Rattle.session_shell.specs.declared.door.Given0.TheVariants.{Kept as KeptAt, Seen, NoMemory}
 use Rattle.session_shell.specs.declared.turn.Turn.{Turn}
-use Rattle.session_shell.specs.Exchange.{Exchange, Asked, Refused, turn_of}
+use Rattle.session_shell.specs.Exchange.{Exchange, Asked, Refused, turn_taken}
 use Rattle.session_shell.specs.Transcript.{EndView, GoesBy}
-use Rattle.session_threads.specs.History.{Follows, Known, known_first}
+use Rattle.session_threads.specs.History.{FollowsAsked, Known, known_first}
 use Rattle.session_threads.specs.Results.{IsResult, SessionResult}
 use Rattle.service.specs.Serving.{FrontsGo}
 
 module _ (opening : State) (caller : ℕ) (final : List Happened) where
   -- a session's events only grow
-  pub more_events : (exchanges : List Exchange) (d e : Known) → GoesBy (Follows opening caller final) exchanges d e → (more : List Happened) × (e.events ≡ d.events ++ more)
+  pub more_events : (exchanges : List Exchange) (d e : Known) → GoesBy (FollowsAsked opening caller final) exchanges d e → (more : List Happened) × (e.events ≡ d.events ++ more)
   more_events [] d e goes = ([], ap (λ (k : Known). k.events) goes ∙ sym (append-nil d.events))
   more_events (Asked moment command (KeptAt place reply) ∷ exchanges) d e goes =
       let grows = goes.1.turn.grows in
@@ -33,7 +33,7 @@ module _ (opening : State) (caller : ℕ) (final : List Happened) where
 
   module _ (most : ℕ) (bound : (kept : Kept) → WasKept opening final kept → kept.count ≤ most) where
     -- what it is shown never has fewer entries than what it was answered from before, nor more than the run has
-    fronts_go : (exchanges : List Exchange) (least : ℕ) (d e : Known) → least ≤ d.front → GoesBy (Follows opening caller final) exchanges d e → FrontsGo least most (map turn_of exchanges)
+    fronts_go : (exchanges : List Exchange) (least : ℕ) (d e : Known) → least ≤ d.front → GoesBy (FollowsAsked opening caller final) exchanges d e → FrontsGo least most (map turn_taken exchanges)
     fronts_go [] least d e reached goes = tt
     fronts_go (Asked moment command (KeptAt place reply) ∷ exchanges) least d e reached goes =
         fronts_go exchanges least goes.0 e (omega (arith, reached, goes.1.front, le-max_left d.front goes.1.after.kept.count)) goes.2

@@ -9,16 +9,16 @@ use Rattle.config_core.specs.State.{State}
 use Rattle.config_db.specs.declared.answer.Answered.{Answered}
 use Rattle.config_db.specs.declared.answer.Answered.TheVariants.{Kept as DoneAt, NoMemory as Wanting}
 use Rattle.session_history.specs.declared.history.Happened.{Happened}
-use Rattle.session_history.specs.Events.{IsAsked, IsAt, IsLegal, Leads, is_asked_by, is_command, places_from, IsEventOf}
+use Rattle.session_history.specs.Events.{IsAskedAt, IsAt, IsLegal, Leads, is_asked_by, is_command, places_from, IsEventOf}
 use Rattle.session_history.specs.Kept.{WasKept}
 use Rattle.session_shell.specs.declared.door.Given0.{Given0}
 use Rattle.session_shell.specs.declared.door.Given0.TheVariants.{Kept as KeptAt, Seen, NoMemory}
 use Rattle.session_shell.specs.declared.reading.Reading.TheVariants.{Operational}
 use Rattle.session_shell.specs.Exchange.{Exchange, Asked, Refused}
 use Rattle.session_shell.specs.Law.{Agree, SeeAlike, Undisturbed, front_at}
-use Rattle.session_shell.specs.Transcript.{Following, GoesBy, SessionView, TakesAnswers, Turns}
+use Rattle.session_shell.specs.Transcript.{Following, GoesBy, SessionView, TakesAnswers, TakesTurns}
 use Rattle.session_shell.proofs.LawLemmas.{Once, all_same, outcome_same}
-use Rattle.session_threads.specs.History.{Follows, FollowsTurn, HasEvent, HasView, IsTurn, Known, Names, ShowsKept, known_first, places_answered}
+use Rattle.session_threads.specs.History.{FollowsAsked, FollowsTurn, HasEvent, HasView, IsTurn, Known, Names, ShowsKept, known_first, places_answered}
 use Rattle.session_threads.proofs.ListLemmas.{all_back, some_is}
 use Rattle.service.specs.Alone.{AreAlike, IsAlone, IsCalm, uncounted}
 use Rattle.service.proofs.AloneLemmas.{FollowsPlain, IsPlain, Leads-split}
@@ -46,7 +46,7 @@ plain_places place caller [] = refl
 plain_places place caller (event ∷ events) =
     ap (λ l. if is_asked_by caller event then place ∷ l else l) (plain_places (place + 1) caller events)
 
-plain_asked : (opening : State) (events : List Happened) (place caller answer : ℕ) (command : Command) (reply : Reply) → IsAsked opening events place caller answer command reply → IsAsked opening (plain events) place caller answer command reply
+plain_asked : (opening : State) (events : List Happened) (place caller answer : ℕ) (command : Command) (reply : Reply) → IsAskedAt opening events place caller answer command reply → IsAskedAt opening (plain events) place caller answer command reply
 plain_asked opening events place caller answer command reply asked = record {
   before = asked.before;
   event = uncounted asked.event;
@@ -140,7 +140,7 @@ plain_viewed opening final (Asked moment command given) view = plain_given openi
 plain_viewed opening final (Refused moment fault) view = tt
 
 -- each of these items that was answered from a view
-pub all_viewed : (opening : State) (caller : ℕ) (final : List Happened) (exchanges : List Exchange) (d e : Known) → GoesBy (Follows opening caller final) exchanges d e → AllByRecursion (IsViewed opening (plain final)) exchanges
+pub all_viewed : (opening : State) (caller : ℕ) (final : List Happened) (exchanges : List Exchange) (d e : Known) → GoesBy (FollowsAsked opening caller final) exchanges d e → AllByRecursion (IsViewed opening (plain final)) exchanges
 all_viewed opening caller final [] d e goes = tt
 all_viewed opening caller final (Asked moment command (KeptAt place reply) ∷ exchanges) d e goes = (tt, all_viewed opening caller final exchanges goes.0 e goes.2)
 all_viewed opening caller final (Asked moment command (Seen front reply) ∷ exchanges) d e goes =
@@ -163,11 +163,11 @@ module _ (opening : State) (caller : ℕ) where
       }
 
   module _ (final : List Happened) where
-    alone_before : (exchanges : List Exchange) (d e : Known) → GoesBy (Follows opening caller final) exchanges d e → IsAlone opening caller e.events → IsAlone opening caller d.events
+    alone_before : (exchanges : List Exchange) (d e : Known) → GoesBy (FollowsAsked opening caller final) exchanges d e → IsAlone opening caller e.events → IsAlone opening caller d.events
     alone_before exchanges d e goes alone =
         let more = more_events opening caller final exchanges d e goes in alone_front opening caller d.events more.0 (subst (IsAlone opening caller) more.1 alone)
 
-    goes_blind : (exchanges : List Exchange) (d e : Known) → IsAlone opening caller e.events → GoesBy (Follows opening caller final) exchanges d e → GoesBy (FollowsBlind opening caller) (map blind exchanges) (plain d.events) (plain e.events)
+    goes_blind : (exchanges : List Exchange) (d e : Known) → IsAlone opening caller e.events → GoesBy (FollowsAsked opening caller final) exchanges d e → GoesBy (FollowsBlind opening caller) (map blind exchanges) (plain d.events) (plain e.events)
     goes_blind [] d e alone goes = ap (λ (k : Known). plain k.events) goes
     goes_blind (Asked moment command (KeptAt place reply) ∷ exchanges) d e alone goes =
         (plain goes.0.events, follows_alone d.events command moment (DoneAt place reply) goes.0.events (alone_before exchanges goes.0 e goes.2 alone) goes.1.turn, goes_blind exchanges goes.0 e alone goes.2)
@@ -178,7 +178,7 @@ module _ (opening : State) (caller : ℕ) where
     goes_blind (Refused moment fault ∷ exchanges) d e alone goes = goes_blind exchanges d e alone goes
 
   module _ (limit : ℕ) (bytes : List ℕ) (coming : ℕ → ℕ) (after : Known) (view : SessionView)
-      (quiet : Undisturbed (Follows opening caller after.events) limit bytes coming (known_first opening []) after view)
+      (quiet : Undisturbed (FollowsAsked opening caller after.events) limit bytes coming (known_first opening []) after view)
       (alone : IsAlone opening caller after.events) where
     abbrev pub blind_view : SessionView
     blind_view = view_of (map blind quiet.session.asked) (map blind quiet.session.final) view
@@ -189,7 +189,7 @@ module _ (opening : State) (caller : ℕ) where
     abbrev all : List Exchange
     all = quiet.session.asked ++ quiet.session.final
 
-    pub whole_turns : Turns (FollowsBlind opening caller) (map blind all) [] (plain after.events) old blind_view
+    pub whole_turns : TakesTurns (FollowsBlind opening caller) (map blind all) [] (plain after.events) old blind_view
     whole_turns = record {
       moments = subst (λ l. TakesAnswers (Some coming) l view.coming) (sym (blind_moments all)) quiet.session.turns.moments;
       turned = quiet.session.turns.turned ∙ sym (blind_turns all);
@@ -210,7 +210,7 @@ module _ (opening : State) (caller : ℕ) where
         reads = blind_reads quiet.session.lines Operational quiet.session.reading quiet.session.asked quiet.session.reads;
         input = quiet.session.input;
         logs_out = blind_logs_out quiet.session.reading quiet.session.final quiet.session.logs_out;
-        turns = subst (λ l. Turns (FollowsBlind opening caller) l [] (plain after.events) old blind_view) (map-append blind quiet.session.asked quiet.session.final) whole_turns;
+        turns = subst (λ l. TakesTurns (FollowsBlind opening caller) l [] (plain after.events) old blind_view) (map-append blind quiet.session.asked quiet.session.final) whole_turns;
         texts = texts_of quiet.how (map blind quiet.session.asked) (map blind quiet.session.final) old view refl quiet.ended;
       };
       ended = quiet.ended;
@@ -317,8 +317,8 @@ module _ (opening : State) (kept_once : (events : List Happened) (one other : Ke
       (leads_once : (events : List Happened) (one other : State) → Leads opening events one → Leads opening events other → one ≡ other)
       (at_once : (events : List Happened) (place : ℕ) (before again : State) (event same : Happened) (one other : Reply) → IsAt opening events place before event one → IsAt opening events place again same other → (event ≡ same) × (before ≡ again) × (one ≡ other))
       (limit : ℕ) (bytes : List ℕ) (coming : ℕ → ℕ) (after after' : Known) (one other : SessionView)
-      (first : Undisturbed (Follows opening caller after.events) limit bytes coming (known_first opening []) after one) (alone : IsAlone opening caller after.events)
-      (second : Undisturbed (Follows opening caller after'.events) limit bytes coming (known_first opening []) after' other) (alone' : IsAlone opening caller after'.events)
+      (first : Undisturbed (FollowsAsked opening caller after.events) limit bytes coming (known_first opening []) after one) (alone : IsAlone opening caller after.events)
+      (second : Undisturbed (FollowsAsked opening caller after'.events) limit bytes coming (known_first opening []) after' other) (alone' : IsAlone opening caller after'.events)
       (seen : SeeAlike one.turns other.turns) where
     abbrev xs : List Exchange
     xs = first.session.asked ++ first.session.final
@@ -357,6 +357,6 @@ module _ (opening : State) (kept_once : (events : List Happened) (one other : Ke
     pub one_text : (one.turns ≡ other.turns) × (one.held ≡ other.held) × AreAlike after.events after'.events
     one_text =
         let out = outcome_same FollowsAny once limit bytes coming (known_first opening []) after (known_first opening []) after' one other
-        (of_any (Follows opening caller after.events) limit bytes coming (known_first opening []) after one first)
-        (of_any (Follows opening caller after'.events) limit bytes coming (known_first opening []) after' other second) all_one in
+        (of_any (FollowsAsked opening caller after.events) limit bytes coming (known_first opening []) after one first)
+        (of_any (FollowsAsked opening caller after'.events) limit bytes coming (known_first opening []) after' other second) all_one in
         (out.0, out.1, alike)

@@ -19,7 +19,7 @@ use Rattle.session_history.specs.declared.history.History.{History}
 use Rattle.session_shell.specs.declared.end.End.{End}
 use Rattle.stored_ledger.specs.declared.why.StartWhy.{StartWhy}
 use Rattle.stored_ledger.specs.declared.why.StartWhy.TheVariants.{Exists, NotAJournal, Damaged, BadRecord, DiskFault, NoMemory}
-use Rattle.session_threads.specs.Results.{users_of}
+use Rattle.session_threads.specs.Results.{users_of_ends}
 use Rattle.service.specs.Modes.{IsGen, RunsIn, RunsMode}
 use Rattle.service.specs.World.{Told, Views, World}
 
@@ -41,11 +41,11 @@ one_user words asked asks other = ⊎_elim
     asks.meant.served
 
 -- as many ends as users
-pub ends_are : {S K C : Type 0} (ends : List (End S K C)) (users : List (List ℕ)) → users_of ends ≡ users → length ends ≡ length users
+pub ends_are : {S K C : Type 0} (ends : List (End S K C)) (users : List (List ℕ)) → users_of_ends ends ≡ users → length ends ≡ length users
 ends_are ends users is = sym (length-map ends (λ end. end.user)) ∙ ap length is
 
 -- and one end
-pub one_end : {S K C : Type 0} (words : List (List ℕ)) (ends : List (End S K C)) (asked : Asked) → users_of ends ≡ asked.users
+pub one_end : {S K C : Type 0} (words : List (List ℕ)) (ends : List (End S K C)) (asked : Asked) → users_of_ends ends ≡ asked.users
     → Asks words asked → asked.mode ≢ Serve → length ends ≡ 1
 one_end words ends asked are asks other = ends_are ends asked.users are ∙ one_user words asked asks other
 

@@ -8,9 +8,9 @@ use Rattle.commit_ledger.specs.Kept.{Kept}
 use Rattle.stored_ledger.specs.declared.why.StartWhy.{StartWhy}
 use Rattle.stored_ledger.specs.Starting.{Explains, IsByBytes}
 use Rattle.stored_ledger.specs.Stored.{SpellsKept}
-use Rattle.service.specs.Run.{AsksFor, EachEnd, IsAsking, IsFaultless, IsUndone, IsUntouched}
-use Rattle.service.specs.Running.{IsRun, Ran, RanIn, Serves}
-use Rattle.service.specs.Serving.{AreSound}
+use Rattle.service.specs.Run.{WordsAsk, EachEnd, IsAsking, IsFaultless, IsUndone, NothingWasDone}
+use Rattle.service.specs.Running.{IsRunOf, Ran, RanIn, IsServeRun}
+use Rattle.service.specs.Serving.{HaveNoFault}
 use Rattle.service.specs.World.{Told, Views, World}
 use Rattle.service.proofs.ModeLemmas.{mode_is_not_1}
 use Rattle.service.proofs.ServingLemmas.{serves_complete, serves_is_not_1}
@@ -21,7 +21,7 @@ module _ {E T D : Type 0} (see : Views E T D) (SinkAlone : E → E → Type 0) (
       → Ran see SinkAlone (Some asked) before after told
   ran_as asked mode is ran = inr (subst (λ (m : RunMode). RanIn see SinkAlone m asked before after told) (sym is) ran)
 
-  pub ran_served : (asked : Asked) → asked.mode ≡ Serve → IsUndone before after told ⊎ Serves see asked before after told
+  pub ran_served : (asked : Asked) → asked.mode ≡ Serve → IsUndone before after told ⊎ IsServeRun see asked before after told
       → Ran see SinkAlone (Some asked) before after told
   ran_served asked is (inl undone) = inl undone
   ran_served asked is (inr served) = ran_as asked Serve is served
@@ -42,27 +42,27 @@ module _ {E T D : Type 0} (see : Views E T D) (SinkAlone : E → E → Type 0) (
   -- what was read of the words is what they ask, whatever that is
   pub ran_for : ((words : List (List ℕ)) (one other : Asked) → Asks words one → Asks words other → one ≡ other)
       → (words : List (List ℕ)) (asked : Asked) → Asks words asked → Ran see SinkAlone (Some asked) before after told
-      → (other : Option Asked) → AsksFor words other → Ran see SinkAlone other before after told
+      → (other : Option Asked) → WordsAsk words other → Ran see SinkAlone other before after told
   ran_for one_thing words asked asks ran None nothing = absurd (nothing (asked, asks))
   ran_for one_thing words asked asks ran (Some other) also =
       subst (λ (x : Asked). Ran see SinkAlone (Some x) before after told) (one_thing words asked other asks also) ran
 
   -- words that ask nothing
-  pub ran_refused : (words : List (List ℕ)) → (IsAsking words → ⊥) → told.status ≡ 1 → IsUntouched before after told
-      → (other : Option Asked) → AsksFor words other → Ran see SinkAlone other before after told
+  pub ran_refused : (words : List (List ℕ)) → (IsAsking words → ⊥) → told.status ≡ 1 → NothingWasDone before after told
+      → (other : Option Asked) → WordsAsk words other → Ran see SinkAlone other before after told
   ran_refused words nothing is untouched None also = (inl is, untouched)
   ran_refused words nothing is untouched (Some other) asks = absurd (nothing (other, asks))
 
   -- memory was wanting for the words
-  pub ran_without : (words : List (List ℕ)) → told.status ≡ 9 → IsUntouched before after told → (other : Option Asked)
-      → AsksFor words other → Ran see SinkAlone other before after told
+  pub ran_without : (words : List (List ℕ)) → told.status ≡ 9 → NothingWasDone before after told → (other : Option Asked)
+      → WordsAsk words other → Ran see SinkAlone other before after told
   ran_without words is untouched None also = (inr is, untouched)
   ran_without words is untouched (Some other) asks = inl (is, untouched)
 
   -- without a fault and within the limit mode serve comes to the status 0 or 9
   pub ran_complete : ((a b : List ℕ) (kept : Kept) (why : StartWhy) → SpellsKept a b kept → IsByBytes why → Explains a b why → ⊥)
       → (asked : Asked) → asked.mode ≡ Serve → Ran see SinkAlone (Some asked) before after told
-      → AreSound (see.disks before.a before.b) (see.disks after.a after.b)
+      → HaveNoFault (see.disks before.a before.b) (see.disks after.a after.b)
       → EachEnd (λ old new. IsFaultless asked.limits.input (see.end old) (see.end new)) before.ends after.ends
       → (told.status ≡ 0) ⊎ (told.status ≡ 9)
   ran_complete spelled_once asked is (inl undone) sound each = inr undone.0
@@ -74,7 +74,7 @@ module _ {E T D : Type 0} (see : Views E T D) (SinkAlone : E → E → Type 0) (
   pub run_of : ((words : List (List ℕ)) (one other : Asked) → Asks words one → Asks words other → one ≡ other)
       → ((a b : List ℕ) (kept : Kept) (why : StartWhy) → SpellsKept a b kept → IsByBytes why → Explains a b why → ⊥)
       → (words : List (List ℕ)) (asked : Asked) → Asks words asked → Ran see SinkAlone (Some asked) before after told
-      → IsRun see SinkAlone words before after told
+      → IsRunOf see SinkAlone words before after told
   run_of one_thing spelled_once words asked asks ran = record {
     ran = for;
     usage = (
@@ -84,12 +84,12 @@ module _ {E T D : Type 0} (see : Views E T D) (SinkAlone : E → E → Type 0) (
     complete = λ other also serve sound each. ran_complete spelled_once other serve (for (Some other) also) sound each;
   }
     where
-      for : (other : Option Asked) → AsksFor words other → Ran see SinkAlone other before after told
+      for : (other : Option Asked) → WordsAsk words other → Ran see SinkAlone other before after told
       for = ran_for one_thing words asked asks ran
 
   -- and one of words that ask nothing
-  pub run_refused : (words : List (List ℕ)) → (IsAsking words → ⊥) → told.status ≡ 1 → IsUntouched before after told
-      → IsRun see SinkAlone words before after told
+  pub run_refused : (words : List (List ℕ)) → (IsAsking words → ⊥) → told.status ≡ 1 → NothingWasDone before after told
+      → IsRunOf see SinkAlone words before after told
   run_refused words nothing is untouched = record {
     ran = ran_refused words nothing is untouched;
     usage = (λ one. ((λ nine. omega (arith, is, nine)), nothing), λ both. is);
@@ -97,8 +97,8 @@ module _ {E T D : Type 0} (see : Views E T D) (SinkAlone : E → E → Type 0) (
   }
 
   -- and one for whose words memory was wanting
-  pub run_without : (words : List (List ℕ)) → told.status ≡ 9 → IsUntouched before after told
-      → IsRun see SinkAlone words before after told
+  pub run_without : (words : List (List ℕ)) → told.status ≡ 9 → NothingWasDone before after told
+      → IsRunOf see SinkAlone words before after told
   run_without words is untouched = record {
     ran = ran_without words is untouched;
     usage = (λ one. absurd (omega (arith, is, one)), λ both. absurd (both.0 is));

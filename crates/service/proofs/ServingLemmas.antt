@@ -13,9 +13,9 @@ use Rattle.config_core.specs.State.{State, opening_of}
 use Rattle.config_db.specs.Closing.{IsHandedBack, SettlesLast}
 use Rattle.cfg_base.specs.declared.calls.Calls.{Calls}
 use Rattle.config_db.specs.Crash.{CallsOn, HasCalled, HaveCalled, IsCrashSafe}
-use Rattle.config_db.specs.Faults.{AreCounted, RoseBy, is_failed_command, is_failed_other}
+use Rattle.config_db.specs.Faults.{FaultsAreCounted, RoseBy, is_failed_command, is_failed_other}
 use Rattle.config_db.specs.Moves.{HasCause}
-use Rattle.config_db.specs.Numbers.{AreRising, calls_of, no_calls}
+use Rattle.config_db.specs.Numbers.{AreRising, calls_of, none_called}
 use Rattle.config_db.specs.Starting.{IsBegun}
 use Rattle.config_db.specs.View.{DatabaseView, opened}
 use Rattle.config_db.proofs.DiskLemmas.{tell_ab}
@@ -40,8 +40,8 @@ use Rattle.io_edge.proofs.RoseLemmas.{rose_since}
 use Rattle.session_threads.proofs.LogLemmas.{AddsUp-then}
 use Rattle.service.specs.Run.{EachEnd, IsFaultless}
 use Rattle.service.specs.ServedOver.{IsServedOver, status_over}
-use Rattle.service.specs.Running.{Serves}
-use Rattle.service.specs.Serving.{AreSessions, AreSound, AreStored, AreTheirs, FrontsGo, HasHappened, HaveCauses, IsEnded, IsServed, status_at_end}
+use Rattle.service.specs.Running.{IsServeRun}
+use Rattle.service.specs.Serving.{HaveSessions, HaveNoFault, AreStored, AreTheirs, FrontsGo, HasHappened, HaveCauses, IsEnded, IsServed, status_at_end}
 use Rattle.service.specs.World.{Told, Views, World}
 use Rattle.service.proofs.GrowthLemmas.{each_turns, result_fronts}
 use Rattle.service.proofs.ListLemmas.{slice_get-map}
@@ -84,7 +84,7 @@ end_is_not_1 false hows is = status_is_not_1 hows is
 
 -- a start over disks that spell a list, and that don't fail, is refused only for want of memory
 refused_for_memory : (spelled_once : (a b : List ℕ) (kept : Kept) (why : StartWhy) → SpellsKept a b kept → IsByBytes why → Explains a b why → ⊥)
-    (before after : DiskPair) (why : StartWhy) → IsNotFound before why after → AreSound before after
+    (before after : DiskPair) (why : StartWhy) → IsNotFound before why after → HaveNoFault before after
     → (start_status why ≡ 0) ⊎ (start_status why ≡ 9)
 refused_for_memory spelled_once before after Exists not sound = absurd (not.not_there refl)
 refused_for_memory spelled_once before after NotAJournal not sound = absurd (spelled_once _ _ sound.kept NotAJournal sound.spelled tt (not.explained sound.tell))
@@ -154,7 +154,7 @@ module _ {E T D : Type 0} (see : Views E T D) (asked : Asked) (before after : Wo
     nobodys : AllByRecursion (λ (event : Happened). event.caller ≡ 0) settles.own
     nobodys = All-weaker _ (λ (event : Happened). event.caller ≡ 0) settles.own (λ event made. made.0) settles.extends.made
 
-    sessions : AreSessions see.end opening asked.limits.input before.ends after.ends told.turns told.history.events.items hows
+    sessions : HaveSessions see.end opening asked.limits.input before.ends after.ends told.turns told.history.events.items hows
     sessions = record {
       results = served.results;
       old = served.old;
@@ -232,7 +232,7 @@ module _ {E T D : Type 0} (see : Views E T D) (asked : Asked) (before after : Wo
       tells_a = tells_a;
       tells_b = tells_b;
       called = called;
-      rising = subst (λ m. AreRising no_calls told.history.events.items m) (sym handed.made) (subst (λ l. AreRising no_calls l (calls_of last.journal)) (sym handed.events) handed.rising);
+      rising = subst (λ m. AreRising none_called told.history.events.items m) (sym handed.made) (subst (λ l. AreRising none_called l (calls_of last.journal)) (sym handed.events) handed.rising);
       crash_safe = λ tell. subst (λ l. IsCrashSafe opening l told.history.made back.a.history back.b.history) (sym handed.events)
           (subst (λ o. IsCrashSafe o last.events told.history.made back.a.history back.b.history) opens_last (handed.crash_safe (told_back tell)));
       held = λ tell. handed.held (told_back tell);
@@ -246,14 +246,14 @@ module _ {E T D : Type 0} (see : Views E T D) (asked : Asked) (before after : Wo
     from_start = subst (NoneFell (disks_of first.journal)) (sym handed.disks_are) (whole.goes.faults_a, whole.goes.faults_b)
 
     -- no more events end with a fault than the counts rose by, from the disks that the start was handed on
-    counted_by : (events : List Happened) (w : DatabaseView) → AddsUp events first w → AreCounted events given (disks_of w.journal)
+    counted_by : (events : List Happened) (w : DatabaseView) → AddsUp events first w → FaultsAreCounted events given (disks_of w.journal)
     counted_by events w adds =
         counted_more [] events given (disks_of first.journal) (disks_of w.journal) adds.goes.faults_a adds.goes.faults_b
         (counted_none given (disks_of first.journal) begun.opened.later_a begun.opened.later_b) adds.counted
 
-    counted : AreCounted told.history.events.items given back
-    counted = subst (λ l. AreCounted l given back) (sym events_are)
-        (subst (λ (d : DiskPair). AreCounted (v.events ++ settles.own) given d) (sym handed.disks_are) (counted_by (v.events ++ settles.own) last whole))
+    counted : FaultsAreCounted told.history.events.items given back
+    counted = subst (λ l. FaultsAreCounted l given back) (sym events_are)
+        (subst (λ (d : DiskPair). FaultsAreCounted (v.events ++ settles.own) given d) (sym handed.disks_are) (counted_by (v.events ++ settles.own) last whole))
 
     causes : HaveCauses given back told.history.events.items
     causes = record {
@@ -301,18 +301,18 @@ module _ {E T D : Type 0} (see : Views E T D) (asked : Asked) (before after : Wo
     }
 
   -- mode serve doesn't come to the status of words that ask nothing
-  pub serves_is_not_1 : Serves see asked before after told → told.status ≡ 1 → ⊥
+  pub serves_is_not_1 : IsServeRun see asked before after told → told.status ≡ 1 → ⊥
   serves_is_not_1 (inl refused) one = refused_is_not_1 refused.cause (sym refused.status_is ∙ one)
   serves_is_not_1 (inr served) one =
       end_is_not_1 (is_some served.happened.last.flight) served.hows (sym served.ended.status_is ∙ one)
 
   -- sessions that no fault disturbs, over disks that don't fail
-  served_quietly : IsServed see asked before after told → AreSound given back
+  served_quietly : IsServed see asked before after told → HaveNoFault given back
       → EachEnd (λ old new. IsFaultless asked.limits.input (see.end old) (see.end new)) before.ends after.ends
       → (told.status ≡ 0) ⊎ (told.status ≡ 9)
   served_quietly served sound each = subst (λ n. (n ≡ 0) ⊎ (n ≡ 9)) (sym served.ended.status_is) (by_flight (is_some served.happened.last.flight) refl)
     where
-      s : AreSessions see.end (opening_of served.kept asked.users) asked.limits.input before.ends after.ends told.turns told.history.events.items served.hows
+      s : HaveSessions see.end (opening_of served.kept asked.users) asked.limits.input before.ends after.ends told.turns told.history.events.items served.hows
       s = served.sessions
 
       each_quiet : (status_of_all served.hows ≡ 0) ⊎ (status_of_all served.hows ≡ 9)
@@ -327,7 +327,7 @@ module _ {E T D : Type 0} (see : Views E T D) (asked : Asked) (before after : Wo
 
   module _ (spelled_once : (a b : List ℕ) (kept : Kept) (why : StartWhy) → SpellsKept a b kept → IsByBytes why → Explains a b why → ⊥) where
     -- without a fault and within the limit the status is 0 or 9
-    pub serves_complete : Serves see asked before after told → AreSound given back
+    pub serves_complete : IsServeRun see asked before after told → HaveNoFault given back
         → EachEnd (λ old new. IsFaultless asked.limits.input (see.end old) (see.end new)) before.ends after.ends
         → (told.status ≡ 0) ⊎ (told.status ≡ 9)
     serves_complete (inl refused) sound each = subst (λ n. (n ≡ 0) ⊎ (n ≡ 9)) (sym refused.status_is)

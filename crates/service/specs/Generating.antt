@@ -27,7 +27,7 @@ IsDone command reply s s' events events' = Happens 1 s.greatest (CommandOf comma
 
 -- what is told of a list: the statements of its active configuration, the paths of their expansion, the bytes of their text,
 -- and the commits that are kept
-pub record IsCounted (kept : Kept) (text : List ℕ) : Type 0 where
+pub record IsToldOf (kept : Kept) (text : List ℕ) : Type 0 where
   pub full : Expansion
   pub expansion : IsExpansion (active_of kept) full
   pub told : text ≡ gen_text (size_of (active_of kept)) (map.len full) (length (printed (active_of kept) [])) (kept_commits kept)
@@ -47,7 +47,7 @@ pub record Generates (number : ℕ) (s s' : State) (events events' : List Happen
 pub record IsMadeFor (number : ℕ) (users : List (List ℕ)) (events : List Happened) (text : List ℕ) : Type 0 where
   pub last : State
   pub generates : Generates number (opening_of factory users) last [] events
-  pub counted : IsCounted last.kept text
+  pub counted : IsToldOf last.kept text
 
 -- and it is all that happened
 pub record IsGenerated (number : ℕ) (users : List (List ℕ)) (history : History) (text : List ℕ) : Type 0 where

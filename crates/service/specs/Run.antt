@@ -7,7 +7,7 @@ use Rattle.modes.specs.declared.did.StartWhy0.TheVariants.{None as NoWhy}
 use Rattle.session_history.specs.declared.history.History.{History}
 use Rattle.session_shell.specs.declared.end.End.{End}
 use Rattle.session_shell.specs.Transcript.{EndView}
-use Rattle.session_threads.specs.Results.{users_of}
+use Rattle.session_threads.specs.Results.{users_of_ends}
 use Rattle.service.specs.World.{Told, World}
 
 -- the words ask something
@@ -15,13 +15,13 @@ abbrev pub IsAsking : List (List ℕ) → Type 0
 IsAsking words = (asked : Asked) × Asks words asked
 
 -- what the words ask, which may be nothing
-abbrev pub AsksFor : List (List ℕ) → Option Asked → Type 0
-AsksFor words None = IsAsking words → ⊥
-AsksFor words (Some asked) = Asks words asked
+abbrev pub WordsAsk : List (List ℕ) → Option Asked → Type 0
+WordsAsk words None = IsAsking words → ⊥
+WordsAsk words (Some asked) = Asks words asked
 
 -- the words ask for these ends: one for each user, in order
 abbrev pub AreEnds : {S K C : Type 0} → List (List ℕ) → List (End S K C) → Type 0
-AreEnds words ends = (asked : Asked) → Asks words asked → users_of ends ≡ asked.users
+AreEnds words ends = (asked : Asked) → Asks words asked → users_of_ends ends ≡ asked.users
 
 -- a history of nothing
 pub record IsEmpty (history : History) : Type 0 where
@@ -31,23 +31,23 @@ pub record IsEmpty (history : History) : Type 0 where
   pub no_calls : history.made ≡ record { a = 0; b = 0 }
 
 -- nothing happened: no session was begun, and no disk was called
-pub record IsIdle (told : Told) : Type 0 where
+pub record NothingHappened (told : Told) : Type 0 where
   pub no_turns : told.turns ≡ []
   pub nothing : IsEmpty told.history
 
 -- nothing was done: all objects come back as they were given, and no start was refused
-pub record IsUntouched {E T D : Type 0} (before after : World E T D) (told : Told) : Type 0 where
-  pub idle : IsIdle told
+pub record NothingWasDone {E T D : Type 0} (before after : World E T D) (told : Told) : Type 0 where
+  pub idle : NothingHappened told
   pub why : told.why ≡ NoWhy
   pub same : after ≡ before
 
 -- memory was wanting before anything was done
 abbrev pub IsUndone : {E T D : Type 0} → World E T D → World E T D → Told → Type 0
-IsUndone before after told = (told.status ≡ 9) × IsUntouched before after told
+IsUndone before after told = (told.status ≡ 9) × NothingWasDone before after told
 
 -- words that ask nothing were refused, or memory was wanting for them
-abbrev pub IsRefused : {E T D : Type 0} → World E T D → World E T D → Told → Type 0
-IsRefused before after told = ((told.status ≡ 1) ⊎ (told.status ≡ 9)) × IsUntouched before after told
+abbrev pub IsUsageRefused : {E T D : Type 0} → World E T D → World E T D → Told → Type 0
+IsUsageRefused before after told = ((told.status ≡ 1) ⊎ (told.status ≡ 9)) × NothingWasDone before after told
 
 -- an input that is told and no longer than the limit
 abbrev pub IsWithinLimit : ℕ → Option (List ℕ) → Type 0

@@ -9,8 +9,8 @@ use Rattle.config_core.specs.declared.event.Outcome.TheVariants.{Fault}
 use Rattle.config_core.specs.State.{State, opening_of}
 use Rattle.config_db.specs.Answers.{IsOneSettling}
 use Rattle.config_db.specs.Crash.{HaveCalled, IsCrashSafe}
-use Rattle.config_db.specs.Faults.{AreCounted, RoseBy, is_failed_command, is_failed_other}
-use Rattle.config_db.specs.Numbers.{AreRising, no_calls}
+use Rattle.config_db.specs.Faults.{FaultsAreCounted, RoseBy, is_failed_command, is_failed_other}
+use Rattle.config_db.specs.Numbers.{AreRising, none_called}
 use Rattle.config_db.specs.Writing.{entry_in}
 use Rattle.disk_model.specs.Disk.{contents_of}
 use Rattle.disk_model.specs.Pair.{BothTell, DiskPair, FaultOnEither, NoneFell}
@@ -28,7 +28,7 @@ use Rattle.stored_ledger.specs.Starting.{IsFound, IsNotFound}
 use Rattle.stored_ledger.specs.Stored.{HoldsKept, SpellsKept}
 use Rattle.session_threads.specs.Looks.{HasTicked, TickerView}
 use Rattle.session_threads.specs.Results.{IsResult, SessionResult, status_of_all}
-use Rattle.service.specs.Run.{IsIdle}
+use Rattle.service.specs.Run.{NothingHappened}
 use Rattle.service.specs.World.{Told, Views, World}
 
 -- the start was refused, for a cause that has a status of its own: nothing happened, and the ends and the ticker are as they were
@@ -37,13 +37,13 @@ pub record IsNotStarted {E T D : Type 0} (see : Views E T D) (before after : Wor
   pub cause : StartWhy
   pub why : told.why ≡ Why cause
   pub status_is : told.status ≡ start_status cause
-  pub idle : IsIdle told
+  pub idle : NothingHappened told
   pub ends_same : after.ends ≡ before.ends
   pub ticker_same : after.ticker ≡ before.ticker
   pub disks : IsNotFound (see.disks before.a before.b) cause (see.disks after.a after.b)
 
 -- the sessions of these ends, as callers 1, 2 and so on, over these events: they ended so
-pub record AreSessions {E : Type 0} (view : E → EndView) (opening : State) (limit : ℕ) (ends ends' : List E)
+pub record HaveSessions {E : Type 0} (view : E → EndView) (opening : State) (limit : ℕ) (ends ends' : List E)
     (turns : List (List Turn)) (events : List Happened) (hows : List How) : Type 0 where
   pub results : List (SessionResult E)
   pub old : map (λ result. result.old) results ≡ ends
@@ -91,7 +91,7 @@ pub record AreStored (before start : DiskPair) (opening last : State) (happened 
   -- they made the calls since the start that the history tells
   pub called : BothTell before → HaveCalled start after happened.made
   -- the numbers of calls don't fall from event to event
-  pub rising : AreRising no_calls happened.events.items happened.made
+  pub rising : AreRising none_called happened.events.items happened.made
   -- a crash at any moment since the start leaves the list of that moment, with the entry of that moment or without
   pub crash_safe : BothTell before → IsCrashSafe opening happened.events.items happened.made after.a.history after.b.history
   -- they hold the list at the end, and of an entry that is in flight still it isn't known
@@ -102,7 +102,7 @@ pub record AreStored (before start : DiskPair) (opening last : State) (happened 
 pub record HaveCauses (before after : DiskPair) (events : List Happened) : Type 0 where
   pub later : NoneFell before after
   pub causes : AllByRecursion (λ event. event.outcome ≡ Fault → FaultOnEither before after) events
-  pub counted : AreCounted events before after
+  pub counted : FaultsAreCounted events before after
 
 -- the status of a run whose sessions ended so, by whether an entry is in flight at its end
 abbrev pub status_at_end : Bool → List How → ℕ
@@ -123,7 +123,7 @@ pub record IsServed {E T D : Type 0} (see : Views E T D) (asked : Asked) (before
   pub start : DiskPair
   pub found : IsFound (see.disks before.a before.b) start kept
   pub hows : List How
-  pub sessions : AreSessions see.end (opening_of kept asked.users) asked.limits.input before.ends after.ends told.turns
+  pub sessions : HaveSessions see.end (opening_of kept asked.users) asked.limits.input before.ends after.ends told.turns
       told.history.events.items hows
   pub happened : HasHappened kept asked.users (see.ticker before.ticker) (see.ticker after.ticker) told.history
   -- what each session was shown has no fewer entries than the list at the opening, and no more than that at the end
@@ -136,7 +136,7 @@ pub record IsServed {E T D : Type 0} (see : Views E T D) (asked : Asked) (before
   pub why : told.why ≡ NoWhy
 
 -- both disks tell what they hold, their files spell a list, and neither's count of faults rose
-pub record AreSound (before after : DiskPair) : Type 0 where
+pub record HaveNoFault (before after : DiskPair) : Type 0 where
   pub tell : BothTell before
   pub kept : Kept
   pub spelled : SpellsKept (contents_of before.a.history) (contents_of before.b.history) kept

@@ -8,7 +8,7 @@ ghost use Rattle.commands.specs.declared.command.Mode.TheVariants.{Shared};
 ghost use Rattle.config_core.specs.Callers.{IsCaller};
 ghost use Rattle.config_core.specs.declared.reply.Reply.TheVariants.{Entered, Loaded, Committed};
 ghost use Rattle.commit_ledger.specs.Kept.{factory};
-ghost use Rattle.service.specs.Generating.{Generates, IsCounted, IsDone, IsGenerated, IsMadeFor};
+ghost use Rattle.service.specs.Generating.{Generates, IsToldOf, IsDone, IsGenerated, IsMadeFor};
 
 use crate::closed::NO_CALLS;
 use crate::taking::take;
@@ -112,7 +112,7 @@ fn commit(core: &mut Core, events: &mut Trace<Happened>, comment: Word) -> Resul
 
 /// What is told of the active configuration.
 fn counted(alloc: Global, ledger: &Ledger) -> Result<Bytes, NoMemory>
-    ensures { IfOk result (IsCounted ledger.now) }
+    ensures { IfOk result (IsToldOf ledger.now) }
 {
     accepted_configurations_fit();
     let tree = ledger.active();

@@ -8,12 +8,12 @@ ghost use Rattle.modes.specs.declared.did.StartWhy0.TheVariants.{Why};
 ghost use Rattle.modes.specs.Modes.{start_status};
 ghost use Rattle.config_db.specs.View.{opened};
 ghost use Rattle.session_shell.specs.Opened.{end_view};
-ghost use Rattle.session_threads.specs.Results.{users_of};
+ghost use Rattle.session_threads.specs.Results.{users_of_ends};
 ghost use Rattle.session_threads.specs.Rows.{HasRoom};
 ghost use Rattle.session_threads.specs.Served.{HasReaders};
 ghost use Rattle.service.specs.Modes.{IsSinkAlone};
-ghost use Rattle.service.specs.Run.{AreEnds, IsIdle, IsUndone, IsUntouched};
-ghost use Rattle.service.specs.Running.{IsRun, Ran, RanIn, Serves};
+ghost use Rattle.service.specs.Run.{AreEnds, NothingHappened, IsUndone, NothingWasDone};
+ghost use Rattle.service.specs.Running.{IsRunOf, Ran, RanIn, IsServeRun};
 ghost use Rattle.service.specs.ServedOver.{IsServedOver, status_over};
 ghost use Rattle.service.specs.World.{Views, World, told_of, views, world_of};
 
@@ -46,7 +46,7 @@ fn idle<S, K, C, B, D>(
 ) -> Closed<S, K, C, B, D>
     ensures status { result.status ≡ status }
     ensures untouched { let before : World _ _ _ = record { ends = ends.items; ticker = ticker; a = disk_a; b = disk_b } in
-        IsUntouched before (world_of result) (told_of result) }
+        NothingWasDone before (world_of result) (told_of result) }
 {
     Closed {
         status,
@@ -69,7 +69,7 @@ fn refused<S, K, C, B, D>(
 ) -> Closed<S, K, C, B, D>
     ensures status { result.status ≡ start_status fault.why }
     ensures why { result.why ≡ Why fault.why }
-    ensures idle { IsIdle (told_of result) }
+    ensures idle { NothingHappened (told_of result) }
     ensures ends { (result.ends ≡ ends) × (result.ticker ≡ ticker) }
     ensures disks { (result.disk_a ≡ fault.a) × (result.disk_b ≡ fault.b) }
 {
@@ -117,7 +117,7 @@ where
     D: Disk + Send,
     J: Naming + Send + Sync,
     requires fresh { (database.events ≡ []) × (database.state ≡ opened database) }
-    requires users { database.users ≡ users_of ends.items }
+    requires users { database.users ≡ users_of_ends ends.items }
     requires room { HasRoom (length ends.items) room }
     requires few { length ends.items ≤ 64 }
     requires readers { HasReaders database.opening (length ends.items) database.readers }
@@ -172,12 +172,12 @@ where
     D: Disk + Send,
     J: Naming + Send + Sync,
     requires book { (front.book ≡ J.book) × (shelf ≡ J.book) × (front.list ≡ []) }
-    requires users { users_of ends.items ≡ asked.users }
+    requires users { users_of_ends ends.items ≡ asked.users }
     requires few { length asked.users ≤ 64 }
     requires room { HasRoom (length asked.users) room }
     ensures { let see : Views _ _ _ = views S.view K.view C.coming B.coming D.view in
         let before : World _ _ _ = record { ends = ends.items; ticker = ticker; a = disk_a; b = disk_b } in
-        Serves see asked before (world_of result) (told_of result) }
+        IsServeRun see asked before (world_of result) (told_of result) }
 {
     histories_have_one_outcome();
     let limits = asked.limits;
@@ -221,11 +221,11 @@ where
     D: Disk + Send,
     J: Naming + Send + Sync,
     requires book { (front.book ≡ J.book) × (shelf ≡ J.book) × (front.list ≡ []) }
-    requires users { users_of ends.items ≡ asked.users }
+    requires users { users_of_ends ends.items ≡ asked.users }
     requires few { length asked.users ≤ 64 }
     ensures { let see : Views _ _ _ = views S.view K.view C.coming B.coming D.view in
         let before : World _ _ _ = record { ends = ends.items; ticker = ticker; a = disk_a; b = disk_b } in
-        IsUndone before (world_of result) (told_of result) ⊎ Serves see asked before (world_of result) (told_of result) }
+        IsUndone before (world_of result) (told_of result) ⊎ IsServeRun see asked before (world_of result) (told_of result) }
 {
     match make_room(alloc, &asked.users) {
         Ok(room) => serve_from::<R, S, K, C, B, D, J>(
@@ -253,11 +253,11 @@ where
     C: Clock + Send,
     B: Beat + Send,
     D: Disk + Send,
-    requires users { users_of ends.items ≡ asked.users }
+    requires users { users_of_ends ends.items ≡ asked.users }
     requires few { length asked.users ≤ 64 }
     ensures { let see : Views _ _ _ = views S.view K.view C.coming B.coming D.view in
         let before : World _ _ _ = record { ends = ends.items; ticker = ticker; a = disk_a; b = disk_b } in
-        IsUndone before (world_of result) (told_of result) ⊎ Serves see asked before (world_of result) (told_of result) }
+        IsUndone before (world_of result) (told_of result) ⊎ IsServeRun see asked before (world_of result) (told_of result) }
 {
     let (shelf, front) = open_book();
     serve_under::<R, S, K, C, B, D, Brand>(
@@ -284,7 +284,7 @@ where
     B: Beat + Send,
     D: Disk + Send,
     requires asks { (words : List (List ℕ)) × Asks words asked }
-    requires users { users_of ends.items ≡ asked.users }
+    requires users { users_of_ends ends.items ≡ asked.users }
     ensures { let see : Views _ _ _ = views S.view K.view C.coming B.coming D.view in
         let before : World _ _ _ = record { ends = ends.items; ticker = ticker; a = disk_a; b = disk_b } in
         Ran see IsSinkAlone (Some asked) before (world_of result) (told_of result) }
@@ -318,7 +318,7 @@ where
     requires { AreEnds words.now ends.items }
     ensures { let see : Views _ _ _ = views S.view K.view C.coming B.coming D.view in
         let before : World _ _ _ = record { ends = ends.items; ticker = ticker; a = disk_a; b = disk_b } in
-        IsRun see IsSinkAlone words.now before (world_of result) (told_of result) }
+        IsRunOf see IsSinkAlone words.now before (world_of result) (told_of result) }
 {
     words_ask_one_thing();
     starts_have_one_cause();
@@ -352,7 +352,7 @@ where
     requires { AreEnds words.now ends.items }
     ensures { let see : Views _ _ _ = views S.view K.view C.coming B.coming D.view in
         let before : World _ _ _ = record { ends = ends.items; ticker = ticker; a = disk_a; b = disk_b } in
-        IsRun see IsSinkAlone words.now before (world_of result) (told_of result) }
+        IsRunOf see IsSinkAlone words.now before (world_of result) (told_of result) }
 {
     run_keeping(rt, alloc, words, ends, ticker, disk_a, disk_b, false)
 }

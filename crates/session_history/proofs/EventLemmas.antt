@@ -7,7 +7,7 @@ use Rattle.config_core.specs.State.{State}
 use Rattle.config_core.specs.Serving.{Turned}
 use Rattle.config_core.specs.Machine.{Fits, Steps}
 use Rattle.session_history.specs.declared.history.Happened.{Happened}
-use Rattle.session_history.specs.Events.{Leads, IsAt, IsAsked, is_asked_by, is_command, places_from, places_of}
+use Rattle.session_history.specs.Events.{Leads, IsAt, IsAskedAt, is_asked_by, is_command, places_from, places_of}
 use Rattle.commands.specs.declared.command.Command.{Command}
 
 -- events that lead on
@@ -42,7 +42,7 @@ IsAt-append s events more place before event reply there = record {
 }
 
 -- what was asked stays so
-pub IsAsked-append : (s : State) (events more : List Happened) (place caller answer : ℕ) (command : Command) (reply : Reply) → IsAsked s events place caller answer command reply → IsAsked s (events ++ more) place caller answer command reply
+pub IsAsked-append : (s : State) (events more : List Happened) (place caller answer : ℕ) (command : Command) (reply : Reply) → IsAskedAt s events place caller answer command reply → IsAskedAt s (events ++ more) place caller answer command reply
 IsAsked-append s events more place caller answer command reply asked =
     record { before = asked.before; event = asked.event; is_at = IsAt-append s events more place asked.before asked.event reply asked.is_at; own = asked.own; when = asked.when; asks = asked.asks }
 

@@ -32,7 +32,7 @@ pub record IsAt (s : State) (events : List Happened) (place : ℕ) (before : Sta
 
 -- the event at that place is the caller's command, made at the greater of the clock's answer and the greatest moment before it,
 -- and this is its reply
-pub record IsAsked (s : State) (events : List Happened) (place caller answer : ℕ) (command : Command) (reply : Reply) : Type 0 where
+pub record IsAskedAt (s : State) (events : List Happened) (place caller answer : ℕ) (command : Command) (reply : Reply) : Type 0 where
   pub before : State
   pub event : Happened
   pub is_at : IsAt s events place before event reply

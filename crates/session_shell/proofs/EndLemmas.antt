@@ -6,7 +6,7 @@ use Rattle.std.proofs.lemmas.Bool.{false≢true}
 use Rattle.std.proofs.lemmas.Option.{none-some}
 use Rattle.commands.specs.declared.command.Command.TheVariants.{Logout}
 use Rattle.cfg_base.specs.Counts.{Rose}
-use Rattle.io_edge.specs.Ends.{behind, onto}
+use Rattle.io_edge.specs.Ends.{held_after, onto}
 use Rattle.io_edge.specs.Feed.{Feed}
 use Rattle.io_edge.specs.Line.{TellsBoth}
 use Rattle.io_edge.specs.Wrote.{Wrote as WroteAs}
@@ -18,24 +18,24 @@ use Rattle.session_shell.specs.declared.turn.How.TheVariants.{Clean, SourceFault
 use Rattle.session_shell.specs.declared.reading.Item.TheVariants.{Ask}
 use Rattle.session_shell.specs.declared.reading.Reading.{Reading}
 use Rattle.session_shell.specs.declared.reading.Reading.TheVariants.{Operational, Configuring, Collecting, Spoilt, Out}
-use Rattle.session_shell.specs.Exchange.{Exchange, item_of, text_of}
-use Rattle.session_shell.specs.Transcript.{Following, IsInput, IsTranscript, LogsOut, SessionView, Texts, Wrote, side}
-use Rattle.session_shell.specs.Steps.{Ends, Finishes, is_out, LastText, Serves, standing}
+use Rattle.session_shell.specs.Exchange.{Exchange, item_asked, text_written}
+use Rattle.session_shell.specs.Transcript.{Following, IsInput, IsTranscript, LogsOut, SessionView, Texts, WroteTexts, side}
+use Rattle.session_shell.specs.Steps.{Ends, Finishes, is_out, LastText, ServesItem, standing}
 use Rattle.session_shell.proofs.TurnLemmas.{Turns-then, Turns-none}
 use Rattle.session_shell.proofs.TakeLemmas.{out_is, behind-none}
 
-pub logs_out : (reading : Reading) (logout : Exchange) → is_out reading ≡ false → item_of logout ≡ Ask Logout → LogsOut reading (logout ∷ [])
+pub logs_out : (reading : Reading) (logout : Exchange) → is_out reading ≡ false → item_asked logout ≡ Ask Logout → LogsOut reading (logout ∷ [])
 logs_out Out logout going is = absurd (false≢true (sym going))
 logs_out Operational logout going is = (logout, refl, is)
 logs_out Configuring logout going is = (logout, refl, is)
 logs_out (Collecting way text) logout going is = (logout, refl, is)
 logs_out (Spoilt fault) logout going is = (logout, refl, is)
 
-wrote_one : {T E : Type 0} (put : Result T E) (text : List ℕ) (old new : SessionView) → WroteAs put text old.held new.held → OnErr put (Rose old.faults new.faults) → Wrote [] (text ++ []) old new
-wrote_one (Ok done) text old new wrote cause = record { part = text ++ []; rest = []; is_second = sym (append-nil (text ++ [])); held = wrote ∙ ap (behind old.held) (sym (append-nil text)); whole = inl refl }
+wrote_one : {T E : Type 0} (put : Result T E) (text : List ℕ) (old new : SessionView) → WroteAs put text old.held new.held → OnErr put (Rose old.faults new.faults) → WroteTexts [] (text ++ []) old new
+wrote_one (Ok done) text old new wrote cause = record { part = text ++ []; rest = []; is_second = sym (append-nil (text ++ [])); held = wrote ∙ ap (held_after old.held) (sym (append-nil text)); whole = inl refl }
 wrote_one (Err failed) text old new wrote cause = record { part = wrote.part; rest = wrote.rest; is_second = append-nil text ∙ wrote.whole; held = wrote.behind_old; whole = inr cause }
 
-text_heard : (how : How) (final : List Exchange) (old new : SessionView) → (how ≡ SinkFault → ⊥) → Wrote [] (flat_map text_of final) old new → LastText how final old new
+text_heard : (how : How) (final : List Exchange) (old new : SessionView) → (how ≡ SinkFault → ⊥) → WroteTexts [] (flat_map text_written final) old new → LastText how final old new
 text_heard Clean final old new heard wrote = wrote
 text_heard SourceFault final old new heard wrote = wrote
 text_heard SinkFault final old new heard wrote = absurd (heard refl)
@@ -44,12 +44,12 @@ text_heard NoMemory final old new heard wrote = wrote
 
 -- the last logout was asked, and its answer written or not
 pub Finishes-heard : {D T E : Type 0} (follows : Following D) (how : How) (put : Result T E) (d e : D) (reading reading' : Reading) (old new : SessionView) → (how ≡ SinkFault → ⊥) → is_out reading ≡ false →
-    Serves follows (Ask Logout) put (standing d reading old) (standing e reading' new) → OnErr put (Rose old.faults new.faults) → old.faults ≤ new.faults → Finishes follows how d e reading old new
+    ServesItem follows (Ask Logout) put (standing d reading old) (standing e reading' new) → OnErr put (Rose old.faults new.faults) → old.faults ≤ new.faults → Finishes follows how d e reading old new
 Finishes-heard follows how put d e reading reading' old new heard going serves cause later = record {
   final = serves.exchange ∷ [];
   logs_out = logs_out reading serves.exchange going serves.is_item;
   turns = serves.turns;
-  text = text_heard how (serves.exchange ∷ []) old new heard (wrote_one put (text_of serves.exchange) old new serves.wrote cause);
+  text = text_heard how (serves.exchange ∷ []) old new heard (wrote_one put (text_written serves.exchange) old new serves.wrote cause);
   later = later;
 }
 
@@ -63,7 +63,7 @@ Finishes-none follows how d reading view out = record {
   later = omega arith;
 }
   where
-    none : Wrote [] [] view view
+    none : WroteTexts [] [] view view
     none = record { part = []; rest = []; is_second = refl; held = behind-none view.held; whole = inl refl }
 
     by : (how : How) → LastText how [] view view
@@ -74,12 +74,12 @@ Finishes-none follows how d reading view out = record {
     by NoMemory = none
 
 -- texts written whole, and then the last one
-both : (first second : List ℕ) (old mid new : SessionView) → Wrote first [] old mid → Wrote [] second mid new → old.faults ≤ mid.faults → mid.faults ≤ new.faults → Wrote first second old new
+both : (first second : List ℕ) (old mid new : SessionView) → WroteTexts first [] old mid → WroteTexts [] second mid new → old.faults ≤ mid.faults → mid.faults ≤ new.faults → WroteTexts first second old new
 both first second old mid new front back later later' = record {
   part = back.part;
   rest = back.rest;
   is_second = back.is_second;
-  held = back.held ∙ ap (λ h. behind h back.part) (front.held ∙ ap (λ p. behind old.held (first ++ p)) (nothing front.part front.rest front.is_second) ∙ ap (behind old.held) (append-nil first)) ∙ behind-behind old.held first back.part;
+  held = back.held ∙ ap (λ h. held_after h back.part) (front.held ∙ ap (λ p. held_after old.held (first ++ p)) (nothing front.part front.rest front.is_second) ∙ ap (held_after old.held) (append-nil first)) ∙ behind-behind old.held first back.part;
   whole = elim back.whole [ inl all ↦ inl all | inr rose ↦ inr (rose_since old.faults mid.faults new.faults later later' rose) ];
 }
   where
@@ -88,13 +88,13 @@ both first second old mid new front back later later' = record {
     nothing (b ∷ part) rest is = absurd (omega (arith, ap length is))
 
 texts_of : (how : How) (asked final : List Exchange) (old mid new : SessionView) → Texts how asked [] old mid → LastText how final mid new → old.faults ≤ mid.faults → mid.faults ≤ new.faults → Texts how asked final old new
-texts_of Clean asked final old mid new front back later later' = both (flat_map text_of asked) (flat_map text_of final) old mid new front back later later'
-texts_of SourceFault asked final old mid new front back later later' = both (flat_map text_of asked) (flat_map text_of final) old mid new front back later later'
-texts_of InputFull asked final old mid new front back later later' = both (flat_map text_of asked) (flat_map text_of final) old mid new front back later later'
-texts_of NoMemory asked final old mid new front back later later' = both (flat_map text_of asked) (flat_map text_of final) old mid new front back later later'
+texts_of Clean asked final old mid new front back later later' = both (flat_map text_written asked) (flat_map text_written final) old mid new front back later later'
+texts_of SourceFault asked final old mid new front back later later' = both (flat_map text_written asked) (flat_map text_written final) old mid new front back later later'
+texts_of InputFull asked final old mid new front back later later' = both (flat_map text_written asked) (flat_map text_written final) old mid new front back later later'
+texts_of NoMemory asked final old mid new front back later later' = both (flat_map text_written asked) (flat_map text_written final) old mid new front back later later'
 texts_of SinkFault asked final old mid new front back later later' = (front.0, front.1, front.2, still front.3)
   where
-    still : {first second : List ℕ} → Wrote first second old mid → Wrote first second old new
+    still : {first second : List ℕ} → WroteTexts first second old mid → WroteTexts first second old new
     still w = record { part = w.part; rest = w.rest; is_second = w.is_second; held = back ∙ w.held; whole = elim w.whole [ inl all ↦ inl all | inr rose ↦ inr (rose_later old.faults mid.faults new.faults rose later') ] }
 
 some_is : {A : Type 0} {a b : A} → Some a ≡ Some b → a ≡ b

@@ -9,7 +9,7 @@ use Rattle.commands.specs.declared.command.Command.{Command}
 use Rattle.commands.specs.declared.command.Command.TheVariants.{Logout}
 use Rattle.io_edge.specs.declared.lines.Line.{Line}
 use Rattle.io_edge.specs.declared.lines.Line.TheVariants.{Text, TooLong, End, Failed, InputFull as Full}
-use Rattle.io_edge.specs.Ends.{behind}
+use Rattle.io_edge.specs.Ends.{held_after}
 use Rattle.io_edge.specs.Line.{TellsBoth}
 use Rattle.shell_words.specs.declared.making.Words0.{Words0}
 use Rattle.shell_words.specs.Reading.{IsReading}
@@ -23,10 +23,10 @@ use Rattle.session_shell.specs.declared.reading.Item.{Item}
 use Rattle.session_shell.specs.declared.reading.Item.TheVariants.{Ask, Wrong}
 use Rattle.session_shell.specs.declared.reading.Reading.{Reading}
 use Rattle.session_shell.specs.declared.reading.Reading.TheVariants.{Operational, Configuring, Collecting, Spoilt, Out}
-use Rattle.session_shell.specs.Exchange.{Exchange, Asked, Refused, item_of, moment_of, turn_of, text_of, after, front_of, place_of}
-use Rattle.session_shell.specs.Items.{ComesOf, Continues, IsRead, IsReadAs, ReadsAs, asked_by}
-use Rattle.session_shell.specs.Cut.{lines_of}
-use Rattle.session_shell.specs.Transcript.{AnswersAre, EndsBy, Following, GoesBy, IsInput, LogsOut, Naming, SessionView, TakesAnswers, Texts, Wrote}
+use Rattle.session_shell.specs.Exchange.{Exchange, Asked, Refused, item_asked, moment_in, turn_taken, text_written, reading_after, front_of, place_of}
+use Rattle.session_shell.specs.Items.{ComesOf, Continues, ReadsLine, IsReadAs, ReadsThrough, asked_by}
+use Rattle.session_shell.specs.Cut.{lines_read}
+use Rattle.session_shell.specs.Transcript.{AnswersAre, EndsBy, Following, GoesBy, IsInput, LogsOut, Naming, SessionView, TakesAnswers, Texts, WroteTexts}
 use Rattle.session_shell.specs.Law.{Agree, IsDetermined, IsNamed, IsShown, SeeAlike, Undisturbed, front_at, kept_place}
 use Rattle.session_shell.specs.Shows.{SeesShow}
 use Rattle.session_shell.proofs.TurnLemmas.{flat_map_over_append}
@@ -113,23 +113,23 @@ abbrev pub IsWhole : How → Type 0
 IsWhole how = (how ≡ Clean) ⊎ (how ≡ InputFull)
 
 -- a session that stopped reads no further line
-stopped : (how : How) (reading : Reading) (line : Line) (lines : List Line) → IsWhole how → EndsBy how reading (line ∷ lines) → IsRead reading line → ⊥
+stopped : (how : How) (reading : Reading) (line : Line) (lines : List Line) → IsWhole how → EndsBy how reading (line ∷ lines) → ReadsLine reading line → ⊥
 stopped how reading line lines (inl clean) ends read = by (subst (λ h. EndsBy h reading (line ∷ lines)) clean ends)
   where
     by : EndsBy Clean reading (line ∷ lines) → ⊥
-    by (inl out) = subst (λ r. IsRead r line) out read
+    by (inl out) = subst (λ r. ReadsLine r line) out read
     by (inr none) = cons_is none
 stopped how reading line lines (inr full) ends read =
-    let by : EndsBy InputFull reading (line ∷ lines) = subst (λ h. EndsBy h reading (line ∷ lines)) full ends in not_full reading (subst (IsRead reading) (head_is by.1) read)
+    let by : EndsBy InputFull reading (line ∷ lines) = subst (λ h. EndsBy h reading (line ∷ lines)) full ends in not_full reading (subst (ReadsLine reading) (head_is by.1) read)
 
 -- exchanges of which none found no memory
 abbrev pub AllWere : List Exchange → Type 0
-AllWere xs = AllByRecursion (λ turn. turn ≡ NoMemory → ⊥) (map turn_of xs)
+AllWere xs = AllByRecursion (λ turn. turn ≡ NoMemory → ⊥) (map turn_taken xs)
 
 -- what two sessions have in common of the exchanges to come says that the next two are one, where their items and moments are
 abbrev pub Peels : (List Exchange → List Exchange → Type 0) → Type 0
 Peels Common =
-    (x y : Exchange) (xs ys : List Exchange) → item_of x ≡ item_of y → moment_of x ≡ moment_of y → (turn_of x ≡ NoMemory → ⊥) → (turn_of y ≡ NoMemory → ⊥)
+    (x y : Exchange) (xs ys : List Exchange) → item_asked x ≡ item_asked y → moment_in x ≡ moment_in y → (turn_taken x ≡ NoMemory → ⊥) → (turn_taken y ≡ NoMemory → ⊥)
     → Common (x ∷ xs) (y ∷ ys) → (x ≡ y) × Common xs ys
 
 module _ (Common : List Exchange → List Exchange → Type 0) (peels : Peels Common) (once : Once) where
@@ -137,13 +137,13 @@ module _ (Common : List Exchange → List Exchange → Type 0) (peels : Peels Co
   pub record Alike (coming : ℕ → ℕ) (xs ys : List Exchange) : Type 0 where
     pub left : ℕ → ℕ
     pub left' : ℕ → ℕ
-    pub answers : AnswersAre coming (map moment_of xs) left
-    pub answers' : AnswersAre coming (map moment_of ys) left'
+    pub answers : AnswersAre coming (map moment_in xs) left
+    pub answers' : AnswersAre coming (map moment_in ys) left'
     pub wants : AllWere xs
     pub wants' : AllWere ys
     pub common : Common xs ys
 
-  first_is : (coming : ℕ → ℕ) (x y : Exchange) (xs ys : List Exchange) → item_of x ≡ item_of y → Alike coming (x ∷ xs) (y ∷ ys) → (x ≡ y) × Alike (λ k. coming (k + 1)) xs ys
+  first_is : (coming : ℕ → ℕ) (x y : Exchange) (xs ys : List Exchange) → item_asked x ≡ item_asked y → Alike coming (x ∷ xs) (y ∷ ys) → (x ≡ y) × Alike (λ k. coming (k + 1)) xs ys
   first_is coming x y xs ys item alike =
       let peeled : (x ≡ y) × Common xs ys = peels x y xs ys item (alike.answers.0 ∙ sym alike.answers'.0) alike.wants.0 alike.wants'.0 alike.common in
       (peeled.0, record { left = alike.left; left' = alike.left'; answers = alike.answers.1; answers' = alike.answers'.1; wants = alike.wants.1; wants' = alike.wants'.1; common = peeled.1 })
@@ -153,7 +153,7 @@ module _ (Common : List Exchange → List Exchange → Type 0) (peels : Peels Co
   Same last last' more more' xs ys = (xs ≡ ys) × (last ≡ last') × ((next : ℕ → ℕ) × Alike next more more')
 
   same_items : (how how' : How) (lines lines' rest rest' : List Line) (reading last last' : Reading) (xs ys more more' : List Exchange) (coming : ℕ → ℕ) → IsWhole how → IsWhole how' →
-      lines ++ rest ≡ lines' ++ rest' → ReadsAs lines reading xs last → ReadsAs lines' reading ys last' → EndsBy how last rest → EndsBy how' last' rest' → Alike coming (xs ++ more) (ys ++ more') → Same last last' more more' xs ys
+      lines ++ rest ≡ lines' ++ rest' → ReadsThrough lines reading xs last → ReadsThrough lines' reading ys last' → EndsBy how last rest → EndsBy how' last' rest' → Alike coming (xs ++ more) (ys ++ more') → Same last last' more more' xs ys
   same_items how how' [] [] rest rest' reading last last' xs ys more more' coming w w' is reads reads' ends ends' alike =
       (reads.0 ∙ sym reads'.0, reads.1 ∙ sym reads'.1, (coming, subst (λ l. Alike coming more (l ++ more')) reads'.0 (subst (λ l. Alike coming (l ++ more) (ys ++ more')) reads.0 alike)))
   same_items how how' [] (line ∷ lines') rest rest' reading last last' xs ys more more' coming w w' is reads reads' ends ends' alike =
@@ -162,20 +162,20 @@ module _ (Common : List Exchange → List Exchange → Type 0) (peels : Peels Co
       absurd (stopped how' reading line (lines ++ rest) w' (subst (λ r. EndsBy how' r (line ∷ (lines ++ rest))) reads'.1 (subst (EndsBy how' last') (sym is) ends')) reads.is_read)
   same_items how how' (line ∷ lines) (line' ∷ lines') rest rest' reading last last' xs ys more more' coming w w' is reads reads' ends ends' alike =
       on reads.came (λ next us vs now r r' a. same_items how how' lines lines' rest rest' next last last' us vs more more' now w w' (tail_is is) r r' ends ends' a) xs ys reads.goes
-      (subst (λ came. Continues (λ next us. ReadsAs lines' next us last') came ys) (comes_once once reading line reads'.came reads.came (subst (λ l. ComesOf reading l reads'.came) (sym (head_is is)) reads'.comes) reads.comes) reads'.goes) coming alike
+      (subst (λ came. Continues (λ next us. ReadsThrough lines' next us last') came ys) (comes_once once reading line reads'.came reads.came (subst (λ l. ComesOf reading l reads'.came) (sym (head_is is)) reads'.comes) reads.comes) reads'.goes) coming alike
     where
-      on : (came : Option Item × Reading) → ((next : Reading) (us vs : List Exchange) (now : ℕ → ℕ) → ReadsAs lines next us last → ReadsAs lines' next vs last' → Alike now (us ++ more) (vs ++ more') → Same last last' more more' us vs) → (us vs : List Exchange) →
-          Continues (λ next us. ReadsAs lines next us last) came us → Continues (λ next vs. ReadsAs lines' next vs last') came vs → (now : ℕ → ℕ) → Alike now (us ++ more) (vs ++ more') → Same last last' more more' us vs
+      on : (came : Option Item × Reading) → ((next : Reading) (us vs : List Exchange) (now : ℕ → ℕ) → ReadsThrough lines next us last → ReadsThrough lines' next vs last' → Alike now (us ++ more) (vs ++ more') → Same last last' more more' us vs) → (us vs : List Exchange) →
+          Continues (λ next us. ReadsThrough lines next us last) came us → Continues (λ next vs. ReadsThrough lines' next vs last') came vs → (now : ℕ → ℕ) → Alike now (us ++ more) (vs ++ more') → Same last last' more more' us vs
       on (None, next) again us vs goes goes' now a = again next us vs now goes goes' a
       on (Some item, next) again [] vs goes goes' now a = absurd goes
       on (Some item, next) again (u ∷ us) [] goes goes' now a = absurd goes'
       on (Some item, next) again (u ∷ us) (v ∷ vs) goes goes' now a =
           let first : (u ≡ v) × Alike (λ k. now (k + 1)) (us ++ more) (vs ++ more') = first_is now u v (us ++ more) (vs ++ more') (goes.0 ∙ sym goes'.0) a in
-          let back : Same last last' more more' us vs = again (after next u) us vs (λ k. now (k + 1)) goes.1 (subst (λ x. ReadsAs lines' (after next x) vs last') (sym first.0) goes'.1) first.1 in
+          let back : Same last last' more more' us vs = again (reading_after next u) us vs (λ k. now (k + 1)) goes.1 (subst (λ x. ReadsThrough lines' (reading_after next x) vs last') (sym first.0) goes'.1) first.1 in
           (ap (λ x. x ∷ us) first.0 ∙ ap (λ l. v ∷ l) back.0, back.1, back.2)
 
   -- one logout each
-  one_logout : (coming : ℕ → ℕ) (xs ys : List Exchange) → ((logout : Exchange) × (xs ≡ logout ∷ []) × (item_of logout ≡ Ask Logout)) → ((logout : Exchange) × (ys ≡ logout ∷ []) × (item_of logout ≡ Ask Logout)) → Alike coming xs ys → (xs ≡ ys) × Common [] []
+  one_logout : (coming : ℕ → ℕ) (xs ys : List Exchange) → ((logout : Exchange) × (xs ≡ logout ∷ []) × (item_asked logout ≡ Ask Logout)) → ((logout : Exchange) × (ys ≡ logout ∷ []) × (item_asked logout ≡ Ask Logout)) → Alike coming xs ys → (xs ≡ ys) × Common [] []
   one_logout coming xs ys is is' alike =
       let first : (is.0 ≡ is'.0) × Alike (λ k. coming (k + 1)) [] [] = first_is coming is.0 is'.0 [] [] (is.2 ∙ sym is'.2) (subst (λ l. Alike coming (is.0 ∷ []) l) is'.1 (subst (λ l. Alike coming l ys) is.1 alike)) in
       (is.1 ∙ ap (λ x. x ∷ []) first.0 ∙ sym is'.1, first.1.common)
@@ -189,17 +189,17 @@ module _ (Common : List Exchange → List Exchange → Type 0) (peels : Peels Co
   same_logout (Spoilt fault) coming xs ys is is' alike = one_logout coming xs ys is is' alike
 
 -- a session whose sink never failed wrote all its texts
-all_text : (how : How) (asked final : List Exchange) (old new : SessionView) → IsWhole how → (Rose old.faults new.faults → ⊥) → Texts how asked final old new → new.held ≡ behind old.held (flat_map text_of (asked ++ final))
+all_text : (how : How) (asked final : List Exchange) (old new : SessionView) → IsWhole how → (Rose old.faults new.faults → ⊥) → Texts how asked final old new → new.held ≡ held_after old.held (flat_map text_written (asked ++ final))
 all_text how asked final old new whole no_fault texts = wrote (by whole)
   where
-    by : IsWhole how → Wrote (flat_map text_of asked) (flat_map text_of final) old new
+    by : IsWhole how → WroteTexts (flat_map text_written asked) (flat_map text_written final) old new
     by (inl is) = subst (λ h. Texts h asked final old new) is texts
     by (inr is) = subst (λ h. Texts h asked final old new) is texts
 
-    wrote : Wrote (flat_map text_of asked) (flat_map text_of final) old new → new.held ≡ behind old.held (flat_map text_of (asked ++ final))
-    wrote w = w.held ∙ ap (λ t. behind old.held (flat_map text_of asked ++ t)) (all w.part w.rest w.is_second w.whole) ∙ ap (behind old.held) (sym (flat_map_over_append text_of asked final))
+    wrote : WroteTexts (flat_map text_written asked) (flat_map text_written final) old new → new.held ≡ held_after old.held (flat_map text_written (asked ++ final))
+    wrote w = w.held ∙ ap (λ t. held_after old.held (flat_map text_written asked ++ t)) (all w.part w.rest w.is_second w.whole) ∙ ap (held_after old.held) (sym (flat_map_over_append text_written asked final))
       where
-        all : (part rest : List ℕ) → flat_map text_of final ≡ part ++ rest → (rest ≡ []) ⊎ Rose old.faults new.faults → part ≡ flat_map text_of final
+        all : (part rest : List ℕ) → flat_map text_written final ≡ part ++ rest → (rest ≡ []) ⊎ Rose old.faults new.faults → part ≡ flat_map text_written final
         all part rest is (inl none) = sym (is ∙ ap (λ r. part ++ r) none ∙ append-nil part)
         all part rest is (inr rose) = absurd (no_fault rose)
 
@@ -209,7 +209,7 @@ took coming answers (Some left) takes = (left, takes)
 took coming answers None takes = absurd takes
 
 -- the lines of a told source
-input_is : (lines : List Line) (reading : Reading) (how : How) (limit : ℕ) (bytes : List ℕ) (source : Option (List ℕ)) → TellsBoth (IsInput lines reading how limit) (Some bytes) source → (rest : List Line) × (lines_of limit bytes ≡ lines ++ rest) × EndsBy how reading rest
+input_is : (lines : List Line) (reading : Reading) (how : How) (limit : ℕ) (bytes : List ℕ) (source : Option (List ℕ)) → TellsBoth (IsInput lines reading how limit) (Some bytes) source → (rest : List Line) × (lines_read limit bytes ≡ lines ++ rest) × EndsBy how reading rest
 input_is lines reading how limit bytes (Some now) input = (input.rest, input.first.are, input.ends)
 input_is lines reading how limit bytes None input = absurd input
 
@@ -225,8 +225,8 @@ module _ {D : Type 0} (follows : Following D) (once : Once) (limit : ℕ) (bytes
   module _ (Common : List Exchange → List Exchange → Type 0) (peels : Peels Common) (common : Common all_of all_of') where
     alike : Alike Common peels once coming all_of all_of'
     alike =
-        let answers : (now : ℕ → ℕ) × AnswersAre coming (map moment_of all_of) now = took coming (map moment_of all_of) one.coming first.session.turns.moments in
-        let answers' : (now : ℕ → ℕ) × AnswersAre coming (map moment_of all_of') now = took coming (map moment_of all_of') other.coming second.session.turns.moments in
+        let answers : (now : ℕ → ℕ) × AnswersAre coming (map moment_in all_of) now = took coming (map moment_in all_of) one.coming first.session.turns.moments in
+        let answers' : (now : ℕ → ℕ) × AnswersAre coming (map moment_in all_of') now = took coming (map moment_in all_of') other.coming second.session.turns.moments in
         record {
           left = answers.0;
           left' = answers'.0;
@@ -241,8 +241,8 @@ module _ {D : Type 0} (follows : Following D) (once : Once) (limit : ℕ) (bytes
     same =
         let s = first.session in
         let s' = second.session in
-        let input : (rest : List Line) × (lines_of limit bytes ≡ s.lines ++ rest) × EndsBy first.how s.reading rest = input_is s.lines s.reading first.how limit bytes first.source s.input in
-        let input' : (rest : List Line) × (lines_of limit bytes ≡ s'.lines ++ rest) × EndsBy second.how s'.reading rest = input_is s'.lines s'.reading second.how limit bytes second.source s'.input in
+        let input : (rest : List Line) × (lines_read limit bytes ≡ s.lines ++ rest) × EndsBy first.how s.reading rest = input_is s.lines s.reading first.how limit bytes first.source s.input in
+        let input' : (rest : List Line) × (lines_read limit bytes ≡ s'.lines ++ rest) × EndsBy second.how s'.reading rest = input_is s'.lines s'.reading second.how limit bytes second.source s'.input in
         same_items Common peels once first.how second.how s.lines s'.lines input.0 input'.0 Operational s.reading s'.reading s.asked s'.asked s.final s'.final coming first.ended second.ended
         (sym input.1 ∙ input'.1) s.reads s'.reads input.2 input'.2 alike
 
@@ -257,18 +257,18 @@ module _ {D : Type 0} (follows : Following D) (once : Once) (limit : ℕ) (bytes
   -- and then their turns and texts are
   pub outcome_same : all_of ≡ all_of' → (one.turns ≡ other.turns) × (one.held ≡ other.held)
   outcome_same all =
-      (first.session.turns.turned ∙ ap (map turn_of) all ∙ sym second.session.turns.turned, text ∙ ap (λ xs. behind (Some []) (flat_map text_of xs)) all ∙ sym text')
+      (first.session.turns.turned ∙ ap (map turn_taken) all ∙ sym second.session.turns.turned, text ∙ ap (λ xs. held_after (Some []) (flat_map text_written xs)) all ∙ sym text')
     where
-      text : one.held ≡ behind (Some []) (flat_map text_of all_of)
+      text : one.held ≡ held_after (Some []) (flat_map text_written all_of)
       text = all_text first.how first.session.asked first.session.final (record { coming = Some coming; held = Some []; faults = first.faults; turns = [] }) one first.ended first.no_fault first.session.texts
 
-      text' : other.held ≡ behind (Some []) (flat_map text_of all_of')
+      text' : other.held ≡ held_after (Some []) (flat_map text_written all_of')
       text' = all_text second.how second.session.asked second.session.final (record { coming = Some coming; held = Some []; faults = second.faults; turns = [] }) other second.ended second.no_fault second.session.texts
 
 -- two doors that name the same, events at the same places, and snapshots of as many entries
 record AtPlaces {D : Type 0} (names : Naming D) (d e : D) (xs ys : List Exchange) : Type 0 where
-  pub places : flat_map kept_place (map turn_of xs) ≡ flat_map kept_place (map turn_of ys)
-  pub seen : SeeAlike (map turn_of xs) (map turn_of ys)
+  pub places : flat_map kept_place (map turn_taken xs) ≡ flat_map kept_place (map turn_taken ys)
+  pub seen : SeeAlike (map turn_taken xs) (map turn_taken ys)
   pub named : AllByRecursion (IsNamed names d) xs
   pub named' : AllByRecursion (IsNamed names e) ys
 
@@ -316,7 +316,7 @@ peels_one : {D : Type 0} (follows : Following D) (e e' : D) → IsDetermined fol
 peels_one follows e e' determined (Asked moment command given) (Asked moment' command' given') xs ys item when want want' from =
     let which : command ≡ command' = command_is command command' item in
     let did : follows from.start command moment given' from.went'.0 = subst (λ m. follows from.start command m given' from.went'.0) (sym when) (subst (λ x. follows from.start x moment' given' from.went'.0) (sym which) from.went'.1) in
-    let same : (given ≡ given') × (from.went.0 ≡ from.went'.0) = determined from.start from.went.0 from.went'.0 command moment given given' from.went.1 did (λ is. want (ap (λ g. turn_of (Asked moment command g)) is)) (λ is. want' (ap (λ g. turn_of (Asked moment' command' g)) is)) in (
+    let same : (given ≡ given') × (from.went.0 ≡ from.went'.0) = determined from.start from.went.0 from.went'.0 command moment given given' from.went.1 did (λ is. want (ap (λ g. turn_taken (Asked moment command g)) is)) (λ is. want' (ap (λ g. turn_taken (Asked moment' command' g)) is)) in (
       ap (λ m. Asked m command given) when ∙ ap (λ x. Asked moment' x given) which ∙ ap (Asked moment' command') same.0,
       record { start = from.went'.0; went = subst (λ x. GoesBy follows xs x e) same.1 from.went.2; went' = from.went'.2 },
     )

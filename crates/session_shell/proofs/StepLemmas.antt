@@ -4,7 +4,7 @@ use Rattle.std.specs.List.{flat_map}
 use Rattle.std.proofs.lemmas.List.{append-nil, length-append}
 use Rattle.std.proofs.lemmas.Bool.{false≢true}
 use Rattle.cfg_base.specs.Counts.{Rose}
-use Rattle.io_edge.specs.Ends.{behind}
+use Rattle.io_edge.specs.Ends.{held_after}
 use Rattle.io_edge.specs.Feed.{Feed}
 use Rattle.io_edge.specs.Line.{HasNoLf, TellsBoth, Gives, IsEndedLine, IsLastLine, IsFull, IsCutOff}
 use Rattle.io_edge.specs.Wrote.{WrotePart}
@@ -16,11 +16,11 @@ use Rattle.session_shell.specs.declared.turn.How.{How}
 use Rattle.session_shell.specs.declared.turn.How.TheVariants.{Clean, SourceFault, SinkFault, InputFull, NoMemory}
 use Rattle.session_shell.specs.declared.reading.Reading.{Reading}
 use Rattle.session_shell.specs.declared.reading.Reading.TheVariants.{Operational, Out}
-use Rattle.session_shell.specs.Exchange.{Exchange, text_of}
-use Rattle.session_shell.specs.Items.{IsRead}
-use Rattle.session_shell.specs.Cut.{lines_of, AreFirst}
-use Rattle.session_shell.specs.Transcript.{EndsBy, Following, IsInput, SessionView, Texts, Wrote}
-use Rattle.session_shell.specs.Steps.{Ends, is_end, is_out, ServesLine, SoFar, standing, Steps, Takes}
+use Rattle.session_shell.specs.Exchange.{Exchange, text_written}
+use Rattle.session_shell.specs.Items.{ReadsLine}
+use Rattle.session_shell.specs.Cut.{lines_read, AreFirstLines}
+use Rattle.session_shell.specs.Transcript.{EndsBy, Following, IsInput, SessionView, Texts, WroteTexts}
+use Rattle.session_shell.specs.Steps.{Ends, is_end, is_out, ServesLine, SoFar, standing, StepsOn, TakesLine}
 use Rattle.session_shell.proofs.TurnLemmas.{Turns-then, Turns-none, ReadsAs-append, flat_map_over_append}
 use Rattle.session_shell.proofs.CutLemmas.{SoMany, TellsBoth-then, push, at_end, is_full}
 use Rattle.session_shell.proofs.TakeLemmas.{behind-none, not_failed, not_full, out_is}
@@ -30,14 +30,14 @@ abbrev pub Took : Line → ℕ → ℕ → List ℕ → List ℕ → Type 0
 Took line room room' old left =
     ((is_end line ≡ false) × (IsEndedLine line old room left room' ⊎ IsLastLine line old room left room')) ⊎ ((line ≡ End) × (old ≡ []) × (left ≡ []) × (room' ≡ room))
 
-took_of : (reading : Reading) (line : Line) (room room' : ℕ) (old left : List ℕ) → IsRead reading line → Gives line old room left room' → Took line room room' old left
+took_of : (reading : Reading) (line : Line) (room room' : ℕ) (old left : List ℕ) → ReadsLine reading line → Gives line old room left room' → Took line room room' old left
 took_of reading (Text text) room room' old left read gives = inl (refl, gives)
 took_of reading TooLong room room' old left read gives = inl (refl, gives)
 took_of reading End room room' old left read gives = inr (refl, gives.0, gives.1, gives.2)
 took_of reading Failed room room' old left read gives = absurd (not_failed reading read)
 took_of reading Full room room' old left read gives = absurd (not_full reading read)
 
-tells_took : (reading : Reading) (line : Line) (room room' : ℕ) (a b : Option (List ℕ)) → IsRead reading line → TellsBoth (λ old left. Gives line old room left room') a b → TellsBoth (λ old left. Took line room room' old left) a b
+tells_took : (reading : Reading) (line : Line) (room room' : ℕ) (a b : Option (List ℕ)) → ReadsLine reading line → TellsBoth (λ old left. Gives line old room left room') a b → TellsBoth (λ old left. Took line room room' old left) a b
 tells_took reading line room room' None None read gives = tt
 tells_took reading line room room' (Some old) (Some left) read gives = took_of reading line room room' old left read gives
 tells_took reading line room room' None (Some left) read gives = absurd gives
@@ -46,15 +46,15 @@ tells_took reading line room room' (Some old) None read gives = absurd gives
 -- the lines with one more
 record Grown (lines : List Line) (line : Line) (limit : ℕ) (bytes : List ℕ) (room : ℕ) (left : List ℕ) : Type 0 where
   pub rest : List Line
-  pub first : AreFirst (lines ++ line ∷ []) rest limit bytes room left
+  pub first : AreFirstLines (lines ++ line ∷ []) rest limit bytes room left
   pub which : (is_end line ≡ false) ⊎ (rest ≡ [])
 
 grown : (lines : List Line) (line : Line) (limit : ℕ) (bytes old left : List ℕ) (room room' : ℕ) → Took line room room' old left → SoMany lines limit bytes room old → Grown lines line limit bytes room' left
 grown lines line limit bytes old left room room' (inl (more, took)) first =
-    record { rest = lines_of room' left; first = push lines line limit bytes old left room room' took first; which = inl more }
+    record { rest = lines_read room' left; first = push lines line limit bytes old left room room' took first; which = inl more }
 grown lines line limit bytes old left room room' (inr (is, none, none', same)) first = record {
   rest = [];
-  first = subst (λ r. AreFirst (lines ++ line ∷ []) [] limit bytes r left) (sym same) (subst (λ l. AreFirst (lines ++ l ∷ []) [] limit bytes room left) (sym is) (subst (λ l. AreFirst (lines ++ End ∷ []) [] limit bytes room l) (sym none') (at_end lines limit bytes old room none first)));
+  first = subst (λ r. AreFirstLines (lines ++ line ∷ []) [] limit bytes r left) (sym same) (subst (λ l. AreFirstLines (lines ++ l ∷ []) [] limit bytes room left) (sym is) (subst (λ l. AreFirstLines (lines ++ End ∷ []) [] limit bytes room l) (sym none') (at_end lines limit bytes old room none first)));
   which = inr refl;
 }
 
@@ -63,7 +63,7 @@ pub record Stopped (how : How) (reading : Reading) (room room' : ℕ) (before le
   pub part : List ℕ
   pub is : before ≡ part ++ left
   pub took : room ≡ length part + room'
-  pub ends : EndsBy how reading (lines_of room before)
+  pub ends : EndsBy how reading (lines_read room before)
   pub cut : how ≡ SourceFault → HasNoLf part
 
 -- a line that was taken and not served
@@ -88,23 +88,23 @@ not_over how limit taken ahead room other is within = (λ full. absurd (other fu
 
 module _ {D : Type 0} (follows : Following D) (limit : ℕ) (source : Option (List ℕ)) (d : D) (old : SessionView) where
   -- texts written whole, and no other
-  whole_text : (exchanges : List Exchange) (now : SessionView) → now.held ≡ behind old.held (flat_map text_of exchanges) → Wrote (flat_map text_of exchanges) [] old now
-  whole_text exchanges now held = record { part = []; rest = []; is_second = refl; held = held ∙ ap (behind old.held) (sym (append-nil (flat_map text_of exchanges))); whole = inl refl }
+  whole_text : (exchanges : List Exchange) (now : SessionView) → now.held ≡ held_after old.held (flat_map text_written exchanges) → WroteTexts (flat_map text_written exchanges) [] old now
+  whole_text exchanges now held = record { part = []; rest = []; is_second = refl; held = held ∙ ap (held_after old.held) (sym (append-nil (flat_map text_written exchanges))); whole = inl refl }
 
   -- texts, and one behind them
-  longer : (exchanges more : List Exchange) (mid now : SessionView) → mid.held ≡ behind old.held (flat_map text_of exchanges) → now.held ≡ behind mid.held (flat_map text_of more) → now.held ≡ behind old.held (flat_map text_of (exchanges ++ more))
+  longer : (exchanges more : List Exchange) (mid now : SessionView) → mid.held ≡ held_after old.held (flat_map text_written exchanges) → now.held ≡ held_after mid.held (flat_map text_written more) → now.held ≡ held_after old.held (flat_map text_written (exchanges ++ more))
   longer exchanges more mid now front back =
-      back ∙ ap (λ h. behind h (flat_map text_of more)) front ∙ behind-behind old.held (flat_map text_of exchanges) (flat_map text_of more) ∙ ap (behind old.held) (sym (flat_map_over_append text_of exchanges more))
+      back ∙ ap (λ h. held_after h (flat_map text_written more)) front ∙ behind-behind old.held (flat_map text_written exchanges) (flat_map text_written more) ∙ ap (held_after old.held) (sym (flat_map_over_append text_written exchanges more))
 
   -- a session that stops before a line
   pub Ends-before : (how : How) (e : D) (feed feed' : Feed) (reading : Reading) (now : SessionView) (so : SoFar follows limit source d old feed (standing e reading now)) →
       TellsBoth (λ before left. Stopped how reading feed.room feed'.room before left) feed.left feed'.left → (how ≡ InputFull) ↔ (feed'.room < feed'.ahead) → (how ≡ SourceFault → feed'.ahead ≡ 0) →
-      (Wrote (flat_map text_of so.exchanges) [] old now → Texts how so.exchanges [] old now) → Ends follows limit how source d old feed' (standing e reading now)
+      (WroteTexts (flat_map text_written so.exchanges) [] old now → Texts how so.exchanges [] old now) → Ends follows limit how source d old feed' (standing e reading now)
   Ends-before how e feed feed' reading now so stop full none texts = record {
     lines = so.lines;
     asked = so.exchanges;
     reads = so.reads;
-    input = TellsBoth-then (λ bytes left. AreFirst so.lines (lines_of feed.room left) limit bytes feed.room left) (λ before left. Stopped how reading feed.room feed'.room before left)
+    input = TellsBoth-then (λ bytes left. AreFirstLines so.lines (lines_read feed.room left) limit bytes feed.room left) (λ before left. Stopped how reading feed.room feed'.room before left)
         (λ before left. (ahead now : List ℕ) → left ≡ ahead ++ now → length ahead ≡ feed'.ahead → IsInput so.lines reading how limit before now) (λ bytes before left first stop. stopped bytes before left first stop) source feed.left feed'.left so.first_lines stop;
     turns = so.turns;
     texts = texts (whole_text so.exchanges now so.text);
@@ -112,7 +112,7 @@ module _ {D : Type 0} (follows : Following D) (limit : ℕ) (source : Option (Li
     where
       stopped : (bytes before left : List ℕ) → SoMany so.lines limit bytes feed.room before → Stopped how reading feed.room feed'.room before left → (ahead now : List ℕ) → left ≡ ahead ++ now → length ahead ≡ feed'.ahead → IsInput so.lines reading how limit bytes now
       stopped bytes before left first stop ahead now is held = record {
-        rest = lines_of feed.room before;
+        rest = lines_read feed.room before;
         room = feed.room;
         left = before;
         first = first;
@@ -131,7 +131,7 @@ module _ {D : Type 0} (follows : Following D) (limit : ℕ) (source : Option (Li
     lines = so.lines ++ line ∷ [];
     asked = so.exchanges ++ more;
     reads = ReadsAs-append so.lines (line ∷ []) Operational reading reading' so.exchanges more so.reads came.reads;
-    input = TellsBoth-then (λ bytes left. AreFirst so.lines (lines_of feed.room left) limit bytes feed.room left) (λ before left. Took line feed.room feed'.room before left)
+    input = TellsBoth-then (λ bytes left. AreFirstLines so.lines (lines_read feed.room left) limit bytes feed.room left) (λ before left. Took line feed.room feed'.room before left)
         (λ before left. (ahead now : List ℕ) → left ≡ ahead ++ now → length ahead ≡ feed'.ahead → IsInput (so.lines ++ line ∷ []) reading' how limit before now) (λ bytes before left first took. ended bytes left (grown so.lines line limit bytes before left feed.room feed'.room took first)) source feed.left feed'.left so.first_lines took;
     turns = Turns-then follows so.exchanges more d m e old mid now so.turns came.turns;
     texts = texts;
@@ -153,12 +153,12 @@ module _ {D : Type 0} (follows : Following D) (limit : ℕ) (source : Option (Li
   -- a session that goes on after a line
   pub SoFar-goes : (line : Line) (more : List Exchange) (m e : D) (feed feed' : Feed) (reading reading' : Reading) (mid now : SessionView) (so : SoFar follows limit source d old feed (standing m reading mid)) →
       TellsBoth (λ before left. Took line feed.room feed'.room before left) feed.left feed'.left → feed'.ahead ≤ feed'.room → ServesLine follows line more (standing m reading mid) (standing e reading' now) →
-      now.held ≡ behind mid.held (flat_map text_of more) → is_out reading' ≡ false → is_end line ≡ false → SoFar follows limit source d old feed' (standing e reading' now)
+      now.held ≡ held_after mid.held (flat_map text_written more) → is_out reading' ≡ false → is_end line ≡ false → SoFar follows limit source d old feed' (standing e reading' now)
   SoFar-goes line more m e feed feed' reading reading' mid now so took within came held going not_end = record {
     lines = so.lines ++ line ∷ [];
     exchanges = so.exchanges ++ more;
     reads = ReadsAs-append so.lines (line ∷ []) Operational reading reading' so.exchanges more so.reads came.reads;
-    first_lines = TellsBoth-then (λ bytes left. AreFirst so.lines (lines_of feed.room left) limit bytes feed.room left) (λ before left. Took line feed.room feed'.room before left) (λ bytes left. AreFirst (so.lines ++ line ∷ []) (lines_of feed'.room left) limit bytes feed'.room left)
+    first_lines = TellsBoth-then (λ bytes left. AreFirstLines so.lines (lines_read feed.room left) limit bytes feed.room left) (λ before left. Took line feed.room feed'.room before left) (λ bytes left. AreFirstLines (so.lines ++ line ∷ []) (lines_read feed'.room left) limit bytes feed'.room left)
         (λ bytes before left first took. on bytes before left first took) source feed.left feed'.left so.first_lines took;
     within = within;
     turns = Turns-then follows so.exchanges more d m e old mid now so.turns came.turns;
@@ -171,18 +171,18 @@ module _ {D : Type 0} (follows : Following D) (limit : ℕ) (source : Option (Li
       on bytes before left first (inr (is, none, none', same)) = absurd (false≢true (sym not_end ∙ ap is_end is))
 
   -- the text of a line was written in part
-  part_text : (exchanges : List Exchange) (last : Exchange) (mid now : SessionView) → mid.held ≡ behind old.held (flat_map text_of exchanges) → WrotePart (text_of last) mid.held now.held → old.faults ≤ mid.faults → mid.faults ≤ now.faults → Rose mid.faults now.faults → Wrote (flat_map text_of exchanges) (text_of last) old now
+  part_text : (exchanges : List Exchange) (last : Exchange) (mid now : SessionView) → mid.held ≡ held_after old.held (flat_map text_written exchanges) → WrotePart (text_written last) mid.held now.held → old.faults ≤ mid.faults → mid.faults ≤ now.faults → Rose mid.faults now.faults → WroteTexts (flat_map text_written exchanges) (text_written last) old now
   part_text exchanges last mid now held wrote later later' rose = record {
     part = wrote.part;
     rest = wrote.rest;
     is_second = wrote.whole;
-    held = wrote.behind_old ∙ ap (λ h. behind h wrote.part) held ∙ behind-behind old.held (flat_map text_of exchanges) wrote.part;
+    held = wrote.behind_old ∙ ap (λ h. held_after h wrote.part) held ∙ behind-behind old.held (flat_map text_written exchanges) wrote.part;
     whole = inr (rose_since old.faults mid.faults now.faults later later' rose);
   }
 
   pub Ends-line : (how : How) (line : Line) (m e : D) (feed feed' : Feed) (reading reading' : Reading) (mid now : SessionView) → old.faults ≤ mid.faults → mid.faults ≤ now.faults → (how ≡ SinkFault → Rose mid.faults now.faults) →
       SoFar follows limit source d old feed (standing m reading mid) → TellsBoth (λ before left. Took line feed.room feed'.room before left) feed.left feed'.left → feed'.ahead ≤ feed'.room →
-      Takes follows line (Some how) (standing m reading mid) (standing e reading' now) → Ends follows limit how source d old feed' (standing e reading' now)
+      TakesLine follows line (Some how) (standing m reading mid) (standing e reading' now) → Ends follows limit how source d old feed' (standing e reading' now)
   Ends-line Clean line m e feed feed' reading reading' mid now later later' rose so took within takes =
       Ends-by Clean line takes.0 m e feed feed' reading reading' mid now so took within (λ is. cc) (λ is. cc) takes.1 (λ rest which. ends takes.3 which) (whole_text (so.exchanges ++ takes.0) now (longer so.exchanges takes.0 mid now so.text takes.2))
     where
@@ -205,20 +205,20 @@ module _ {D : Type 0} (follows : Following D) (limit : ℕ) (source : Option (Li
   Ends-line InputFull line m e feed feed' reading reading' mid now later later' rose so took within takes = absurd takes
 
 -- a line that was taken and served
-pub Steps-line : {D : Type 0} (follows : Following D) (how : Option How) (line : Line) (m e : D) (feed feed' : Feed) (reading reading' : Reading) (mid now : SessionView) → mid.faults ≤ now.faults → (how ≡ Some SinkFault → Rose mid.faults now.faults) → IsRead reading line →
-    TellsBoth (λ old left. Gives line old feed.room left feed'.room) feed.left feed'.left → feed'.ahead ≤ feed'.room → Takes follows line how (standing m reading mid) (standing e reading' now) → Steps follows how feed feed' (standing m reading mid) (standing e reading' now)
+pub Steps-line : {D : Type 0} (follows : Following D) (how : Option How) (line : Line) (m e : D) (feed feed' : Feed) (reading reading' : Reading) (mid now : SessionView) → mid.faults ≤ now.faults → (how ≡ Some SinkFault → Rose mid.faults now.faults) → ReadsLine reading line →
+    TellsBoth (λ old left. Gives line old feed.room left feed'.room) feed.left feed'.left → feed'.ahead ≤ feed'.room → TakesLine follows line how (standing m reading mid) (standing e reading' now) → StepsOn follows how feed feed' (standing m reading mid) (standing e reading' now)
 Steps-line follows None line m e feed feed' reading reading' mid now later' rose read gives within takes =
     λ limit source d old so. SoFar-goes follows limit source d old line takes.0 m e feed feed' reading reading' mid now so (tells_took reading line feed.room feed'.room feed.left feed'.left read gives) within takes.1 takes.2 takes.3 takes.4
 Steps-line follows (Some how) line m e feed feed' reading reading' mid now later' rose read gives within takes =
     λ limit source d old later so. Ends-line follows limit source d old how line m e feed feed' reading reading' mid now later later' (λ is. rose (ap Some is)) so (tells_took reading line feed.room feed'.room feed.left feed'.left read gives) within takes
 
 -- a step that left how the session reads and its view as they were
-moved : {D : Type 0} (follows : Following D) (how : How) (d : D) (feed feed' : Feed) (reading reading' : Reading) (view view' : SessionView) → reading ≡ reading' → view ≡ view' → Steps follows (Some how) feed feed' (standing d reading view) (standing d reading view) → Steps follows (Some how) feed feed' (standing d reading view) (standing d reading' view')
+moved : {D : Type 0} (follows : Following D) (how : How) (d : D) (feed feed' : Feed) (reading reading' : Reading) (view view' : SessionView) → reading ≡ reading' → view ≡ view' → StepsOn follows (Some how) feed feed' (standing d reading view) (standing d reading view) → StepsOn follows (Some how) feed feed' (standing d reading view) (standing d reading' view')
 moved follows how d feed feed' reading reading' view view' same same' steps =
-    subst (λ r. Steps follows (Some how) feed feed' (standing d reading view) (standing d r view')) same (subst (λ v. Steps follows (Some how) feed feed' (standing d reading view) (standing d reading v)) same' steps)
+    subst (λ r. StepsOn follows (Some how) feed feed' (standing d reading view) (standing d r view')) same (subst (λ v. StepsOn follows (Some how) feed feed' (standing d reading view) (standing d reading v)) same' steps)
 
 -- no line was taken: the input is full
-pub Steps-full : {D : Type 0} (follows : Following D) (d : D) (feed feed' : Feed) (reading reading' : Reading) (view view' : SessionView) → reading ≡ reading' → view ≡ view' → TellsBoth (λ old left. IsFull old feed.room left feed'.room) feed.left feed'.left → feed'.room < feed'.ahead → Steps follows (Some InputFull) feed feed' (standing d reading view) (standing d reading' view')
+pub Steps-full : {D : Type 0} (follows : Following D) (d : D) (feed feed' : Feed) (reading reading' : Reading) (view view' : SessionView) → reading ≡ reading' → view ≡ view' → TellsBoth (λ old left. IsFull old feed.room left feed'.room) feed.left feed'.left → feed'.room < feed'.ahead → StepsOn follows (Some InputFull) feed feed' (standing d reading view) (standing d reading' view')
 Steps-full follows d feed feed' reading reading' view view' same same' full over = moved follows InputFull d feed feed' reading reading' view view' same same' (λ limit source first old later so. Ends-before follows limit source first old InputFull d feed feed' reading view so (tells (in_by reading so.going) feed.left feed'.left full) (λ is. over, λ o. refl) (λ is. absurd (cc)) (λ w. w))
   where
     tells : (reading ≡ Out → ⊥) → (a b : Option (List ℕ)) → TellsBoth (λ old left. IsFull old feed.room left feed'.room) a b → TellsBoth (λ before left. Stopped InputFull reading feed.room feed'.room before left) a b
@@ -228,7 +228,7 @@ Steps-full follows d feed feed' reading reading' view view' same same' full over
     tells within (Some before) None is = absurd is
 
 -- no line was taken: the source failed
-pub Steps-failed : {D : Type 0} (follows : Following D) (d : D) (feed feed' : Feed) (reading reading' : Reading) (view view' : SessionView) → reading ≡ reading' → view ≡ view' → TellsBoth (λ old left. IsCutOff old feed.room left feed'.room) feed.left feed'.left → feed'.ahead ≡ 0 → Steps follows (Some SourceFault) feed feed' (standing d reading view) (standing d reading' view')
+pub Steps-failed : {D : Type 0} (follows : Following D) (d : D) (feed feed' : Feed) (reading reading' : Reading) (view view' : SessionView) → reading ≡ reading' → view ≡ view' → TellsBoth (λ old left. IsCutOff old feed.room left feed'.room) feed.left feed'.left → feed'.ahead ≡ 0 → StepsOn follows (Some SourceFault) feed feed' (standing d reading view) (standing d reading' view')
 Steps-failed follows d feed feed' reading reading' view view' same same' cut none = moved follows SourceFault d feed feed' reading reading' view view' same same' (λ limit source first old later so. Ends-before follows limit source first old SourceFault d feed feed' reading view so (tells (in_by reading so.going) feed.left feed'.left cut) (λ is. cc, λ over. absurd (omega (arith, over, none))) (λ is. none) (λ w. w))
   where
     tells : (reading ≡ Out → ⊥) → (a b : Option (List ℕ)) → TellsBoth (λ old left. IsCutOff old feed.room left feed'.room) a b → TellsBoth (λ before left. Stopped SourceFault reading feed.room feed'.room before left) a b
@@ -238,9 +238,9 @@ Steps-failed follows d feed feed' reading reading' view view' same same' cut non
     tells within (Some before) None is = absurd is
 
 -- no line was taken for want of memory
-pub Steps-no_memory : {D : Type 0} (follows : Following D) (d : D) (feed feed' : Feed) (reading reading' : Reading) (view view' : SessionView) → feed ≡ feed' → reading ≡ reading' → view ≡ view' → Steps follows (Some NoMemory) feed feed' (standing d reading view) (standing d reading' view')
+pub Steps-no_memory : {D : Type 0} (follows : Following D) (d : D) (feed feed' : Feed) (reading reading' : Reading) (view view' : SessionView) → feed ≡ feed' → reading ≡ reading' → view ≡ view' → StepsOn follows (Some NoMemory) feed feed' (standing d reading view) (standing d reading' view')
 Steps-no_memory follows d feed feed' reading reading' view view' still same same' =
-    subst (λ f. Steps follows (Some NoMemory) feed f (standing d reading view) (standing d reading' view')) still (moved follows NoMemory d feed feed reading reading' view view' same same'
+    subst (λ f. StepsOn follows (Some NoMemory) feed f (standing d reading view) (standing d reading' view')) still (moved follows NoMemory d feed feed reading reading' view view' same same'
     (λ limit source first old later so. Ends-before follows limit source first old NoMemory d feed feed reading view so (tells (in_by reading so.going) feed.left) (λ is. cc, λ over. absurd (omega (arith, over, so.within))) (λ is. absurd (cc)) (λ w. w)))
   where
     tells : (reading ≡ Out → ⊥) → (a : Option (List ℕ)) → TellsBoth (λ before left. Stopped NoMemory reading feed.room feed.room before left) a a
@@ -260,7 +260,7 @@ SoFar-begins follows d feed reading view is none = record {
   going = ap is_out is;
 }
   where
-    nothing : (left : Option (List ℕ)) → TellsBoth (λ bytes left. AreFirst [] (lines_of feed.room left) feed.room bytes feed.room left) left left
+    nothing : (left : Option (List ℕ)) → TellsBoth (λ bytes left. AreFirstLines [] (lines_read feed.room left) feed.room bytes feed.room left) left left
     nothing None = tt
     nothing (Some bytes) = record { taken = []; split = refl; within = omega arith; are = refl; others = inl refl }
 

@@ -4,7 +4,7 @@ use Rattle.std.specs.List.{flat_map}
 use Rattle.std.proofs.lemmas.List.{append-nil}
 use Rattle.std.proofs.lemmas.Bool.{false≢true}
 use Rattle.commands.specs.declared.command.Command.{Command}
-use Rattle.io_edge.specs.Ends.{TakesAnswer, behind}
+use Rattle.io_edge.specs.Ends.{TakesAnswer, held_after}
 use Rattle.io_edge.specs.Line.{Falls}
 use Rattle.io_edge.specs.Wrote.{Wrote as WroteAs}
 use Rattle.io_edge.specs.declared.lines.Line.{Line}
@@ -18,16 +18,16 @@ use Rattle.session_shell.specs.declared.reading.Item.{Item}
 use Rattle.session_shell.specs.declared.reading.Item.TheVariants.{Ask, Wrong}
 use Rattle.session_shell.specs.declared.reading.Reading.{Reading}
 use Rattle.session_shell.specs.declared.reading.Reading.TheVariants.{Operational, Configuring, Collecting, Spoilt, Out}
-use Rattle.session_shell.specs.Exchange.{Exchange, Asked, Refused, text_of, turn_of_given, text_of_given, after_given}
-use Rattle.session_shell.specs.Items.{ComesOf, IsRead}
+use Rattle.session_shell.specs.Exchange.{Exchange, Asked, Refused, text_written, turn_of_given, text_of_given, after_given}
+use Rattle.session_shell.specs.Items.{ComesOf, ReadsLine}
 use Rattle.session_shell.specs.Transcript.{Following, SessionView}
-use Rattle.session_shell.specs.Steps.{how_next, is_end, is_out, Serves, ServesLine, standing, Takes}
+use Rattle.session_shell.specs.Steps.{how_next, is_end, is_out, ServesItem, ServesLine, standing, TakesLine}
 use Rattle.session_shell.proofs.TurnLemmas.{one_answer, Turns-none}
 
 -- an item that was asked
 pub Serves-asked : {D T E : Type 0} (follows : Following D) (command : Command) (moment : ℕ) (given : Given0) (put : Result T E) (d e : D) (reading reading' : Reading) (old new : SessionView) →
     TakesAnswer old.coming new.coming moment → new.turns ≡ old.turns ++ turn_of_given moment given ∷ [] → follows d command moment given e → reading' ≡ after_given reading given → WroteAs put (text_of_given given) old.held new.held →
-    Serves follows (Ask command) put (standing d reading old) (standing e reading' new)
+    ServesItem follows (Ask command) put (standing d reading old) (standing e reading' new)
 Serves-asked follows command moment given put d e reading reading' old new takes turned did is_reading wrote = record {
   exchange = Asked moment command given;
   is_item = refl;
@@ -38,8 +38,8 @@ Serves-asked follows command moment given put d e reading reading' old new takes
 
 -- an item that was refused
 pub Serves-refused : {D T E : Type 0} (follows : Following D) (moment : ℕ) (fault : ShellFault) (put : Result T E) (d : D) (reading : Reading) (old new : SessionView) →
-    TakesAnswer old.coming new.coming moment → new.turns ≡ old.turns ++ Local fault ∷ [] → WroteAs put (text_of (Refused moment fault)) old.held new.held →
-    Serves follows (Wrong fault) put (standing d reading old) (standing d reading new)
+    TakesAnswer old.coming new.coming moment → new.turns ≡ old.turns ++ Local fault ∷ [] → WroteAs put (text_written (Refused moment fault)) old.held new.held →
+    ServesItem follows (Wrong fault) put (standing d reading old) (standing d reading new)
 Serves-refused follows moment fault put d reading old new takes turned wrote = record {
   exchange = Refused moment fault;
   is_item = refl;
@@ -50,27 +50,27 @@ Serves-refused follows moment fault put d reading old new takes turned wrote = r
 
 -- a line whose text was written whole
 takes_whole : {D : Type 0} (follows : Following D) (line : Line) (exchanges : List Exchange) (d e : D) (reading reading' : Reading) (old new : SessionView) (out end : Bool) → is_out reading' ≡ out → is_end line ≡ end →
-    ServesLine follows line exchanges (standing d reading old) (standing e reading' new) → new.held ≡ behind old.held (flat_map text_of exchanges) →
-    Takes follows line (if out then Some Clean else (if end then Some Clean else None)) (standing d reading old) (standing e reading' new)
+    ServesLine follows line exchanges (standing d reading old) (standing e reading' new) → new.held ≡ held_after old.held (flat_map text_written exchanges) →
+    TakesLine follows line (if out then Some Clean else (if end then Some Clean else None)) (standing d reading old) (standing e reading' new)
 takes_whole follows line exchanges d e reading reading' old new true end o f serves held = (exchanges, serves, held, inl o)
 takes_whole follows line exchanges d e reading reading' old new false true o f serves held = (exchanges, serves, held, inr f)
 takes_whole follows line exchanges d e reading reading' old new false false o f serves held = (exchanges, serves, held, o, f)
 
-pub behind-none : (held : Option (List ℕ)) → held ≡ behind held []
+pub behind-none : (held : Option (List ℕ)) → held ≡ held_after held []
 behind-none None = refl
 behind-none (Some held) = ap Some (sym (append-nil held))
 
 -- a line that came to nothing
-pub Takes-none : {D : Type 0} (follows : Following D) (line : Line) (d : D) (reading reading' : Reading) (view : SessionView) → IsRead reading line → ComesOf reading line (None, reading') →
-    Takes follows line (how_next line reading' true) (standing d reading view) (standing d reading' view)
+pub Takes-none : {D : Type 0} (follows : Following D) (line : Line) (d : D) (reading reading' : Reading) (view : SessionView) → ReadsLine reading line → ComesOf reading line (None, reading') →
+    TakesLine follows line (how_next line reading' true) (standing d reading view) (standing d reading' view)
 Takes-none follows line d reading reading' view read came =
     takes_whole follows line [] d d reading reading' view view (is_out reading') (is_end line) refl refl
     (record { reads = record { came = (None, reading'); is_read = read; comes = came; goes = (refl, refl) }; turns = Turns-none follows d view })
     (behind-none view.held)
 
 -- a line that ended an item
-pub Takes-item : {D T E : Type 0} (follows : Following D) (line : Line) (item : Item) (put : Result T E) (d e : D) (reading mid reading' : Reading) (old new : SessionView) → IsRead reading line → ComesOf reading line (Some item, mid) →
-    Serves follows item put (standing d mid old) (standing e reading' new) → Takes follows line (how_next line reading' (is_ok put)) (standing d reading old) (standing e reading' new)
+pub Takes-item : {D T E : Type 0} (follows : Following D) (line : Line) (item : Item) (put : Result T E) (d e : D) (reading mid reading' : Reading) (old new : SessionView) → ReadsLine reading line → ComesOf reading line (Some item, mid) →
+    ServesItem follows item put (standing d mid old) (standing e reading' new) → TakesLine follows line (how_next line reading' (is_ok put)) (standing d reading old) (standing e reading' new)
 Takes-item {D} {T} {E} follows line item put d e reading mid reading' old new read came serves = by put serves.wrote
   where
     exchange : Exchange
@@ -79,18 +79,18 @@ Takes-item {D} {T} {E} follows line item put d e reading mid reading' old new re
     came_to : ServesLine follows line (exchange ∷ []) (standing d reading old) (standing e reading' new)
     came_to = record { reads = record { came = (Some item, mid); is_read = read; comes = came; goes = (serves.is_item, (refl, serves.is_reading)) }; turns = serves.turns }
 
-    by : (put : Result T E) → WroteAs put (text_of exchange) old.held new.held → Takes follows line (how_next line reading' (is_ok put)) (standing d reading old) (standing e reading' new)
-    by (Ok done) wrote = takes_whole follows line (exchange ∷ []) d e reading reading' old new (is_out reading') (is_end line) refl refl came_to (wrote ∙ ap (behind old.held) (sym (append-nil (text_of exchange))))
+    by : (put : Result T E) → WroteAs put (text_written exchange) old.held new.held → TakesLine follows line (how_next line reading' (is_ok put)) (standing d reading old) (standing e reading' new)
+    by (Ok done) wrote = takes_whole follows line (exchange ∷ []) d e reading reading' old new (is_out reading') (is_end line) refl refl came_to (wrote ∙ ap (held_after old.held) (sym (append-nil (text_written exchange))))
     by (Err failed) wrote = (exchange, came_to, wrote)
 
-pub not_failed : (reading : Reading) → IsRead reading Failed → ⊥
+pub not_failed : (reading : Reading) → ReadsLine reading Failed → ⊥
 not_failed Operational read = read
 not_failed Configuring read = read
 not_failed (Collecting way text) read = read
 not_failed (Spoilt fault) read = read
 not_failed Out read = read
 
-pub not_full : (reading : Reading) → IsRead reading Full → ⊥
+pub not_full : (reading : Reading) → ReadsLine reading Full → ⊥
 not_full Operational read = read
 not_full Configuring read = read
 not_full (Collecting way text) read = read
@@ -119,7 +119,7 @@ cause_of (Ok done) line reading P cause is = absurd (never (is_out reading) (is_
     never false false is = false≢true (ap sink is)
 
 -- a line takes some of what may be read
-pub falls_of : (reading : Reading) (line : Line) (room room' : ℕ) → IsRead reading line → is_end line ≡ false → Falls line room room' → room' < room
+pub falls_of : (reading : Reading) (line : Line) (room room' : ℕ) → ReadsLine reading line → is_end line ≡ false → Falls line room room' → room' < room
 falls_of reading (Text text) room room' read end falls = falls
 falls_of reading TooLong room room' read end falls = falls
 falls_of reading End room room' read end falls = absurd (false≢true (sym end))

@@ -6,9 +6,9 @@ use Rattle.io_edge.specs.Ends.{TakesAnswer}
 use Rattle.io_edge.specs.declared.lines.Line.{Line}
 use Rattle.session_shell.specs.declared.reading.Reading.{Reading}
 use Rattle.session_shell.specs.declared.reading.Item.{Item}
-use Rattle.session_shell.specs.Exchange.{Exchange, Asked, Refused, turn_of, moment_of, after}
-use Rattle.session_shell.specs.Items.{BeginsWith, Continues, ReadsAs}
-use Rattle.session_shell.specs.Transcript.{AnswersAre, Following, GoesBy, SessionView, TakesAnswers, Turns}
+use Rattle.session_shell.specs.Exchange.{Exchange, Asked, Refused, turn_taken, moment_in, reading_after}
+use Rattle.session_shell.specs.Items.{BeginsByLine, Continues, ReadsThrough}
+use Rattle.session_shell.specs.Transcript.{AnswersAre, Following, GoesBy, SessionView, TakesAnswers, TakesTurns}
 
 pub map_over_append : {A B : Type 0} → (f : A → B) (xs ys : List A) → map f (xs ++ ys) ≡ map f xs ++ map f ys
 map_over_append f [] ys = refl
@@ -52,28 +52,28 @@ GoesBy-append follows (Refused moment fault ∷ first) second d m e front back =
 
 -- turns, and then more of them
 pub Turns-then : {D : Type 0} (follows : Following D) (first second : List Exchange) (d m e : D) (old mid new : SessionView) →
-    Turns follows first d m old mid → Turns follows second m e mid new → Turns follows (first ++ second) d e old new
+    TakesTurns follows first d m old mid → TakesTurns follows second m e mid new → TakesTurns follows (first ++ second) d e old new
 Turns-then follows first second d m e old mid new front back = record {
-  moments = subst (λ answers. TakesAnswers old.coming answers new.coming) (sym (map_over_append moment_of first second)) (TakesAnswers-append (map moment_of first) (map moment_of second) old.coming mid.coming new.coming front.moments back.moments);
-  turned = back.turned ∙ ap (λ turns. turns ++ map turn_of second) front.turned ∙ append_assoc old.turns (map turn_of first) (map turn_of second) ∙ ap (λ turns. old.turns ++ turns) (sym (map_over_append turn_of first second));
+  moments = subst (λ answers. TakesAnswers old.coming answers new.coming) (sym (map_over_append moment_in first second)) (TakesAnswers-append (map moment_in first) (map moment_in second) old.coming mid.coming new.coming front.moments back.moments);
+  turned = back.turned ∙ ap (λ turns. turns ++ map turn_taken second) front.turned ∙ append_assoc old.turns (map turn_taken first) (map turn_taken second) ∙ ap (λ turns. old.turns ++ turns) (sym (map_over_append turn_taken first second));
   asked = GoesBy-append follows first second d m e front.asked back.asked;
 }
 
-pub Turns-none : {D : Type 0} (follows : Following D) (d : D) (view : SessionView) → Turns follows [] d d view view
+pub Turns-none : {D : Type 0} (follows : Following D) (d : D) (view : SessionView) → TakesTurns follows [] d d view view
 Turns-none follows d view = record { moments = no_answer view.coming; turned = sym (append-nil view.turns); asked = refl }
 
 Continues-more : (R S : Reading → List Exchange → Type 0) (more : List Exchange) → ((next : Reading) (rest : List Exchange) → R next rest → S next (rest ++ more)) → (came : Option Item × Reading) (exchanges : List Exchange) → Continues R came exchanges → Continues S came (exchanges ++ more)
 Continues-more R S more on (None, next) exchanges goes = on next exchanges goes
 Continues-more R S more on (Some item, next) [] goes = absurd goes
-Continues-more R S more on (Some item, next) (first ∷ exchanges) goes = (goes.0, on (after next first) exchanges goes.1)
+Continues-more R S more on (Some item, next) (first ∷ exchanges) goes = (goes.0, on (reading_after next first) exchanges goes.1)
 
-BeginsWith-more : (R S : Reading → List Exchange → Type 0) (more : List Exchange) → ((next : Reading) (rest : List Exchange) → R next rest → S next (rest ++ more)) → (reading : Reading) (line : Line) (exchanges : List Exchange) → BeginsWith R reading line exchanges → BeginsWith S reading line (exchanges ++ more)
+BeginsWith-more : (R S : Reading → List Exchange → Type 0) (more : List Exchange) → ((next : Reading) (rest : List Exchange) → R next rest → S next (rest ++ more)) → (reading : Reading) (line : Line) (exchanges : List Exchange) → BeginsByLine R reading line exchanges → BeginsByLine S reading line (exchanges ++ more)
 BeginsWith-more R S more on reading line exchanges begins =
     record { came = begins.came; is_read = begins.is_read; comes = begins.comes; goes = Continues-more R S more on begins.came exchanges begins.goes }
 
 -- lines, and then more of them
-pub ReadsAs-append : (lines later : List Line) (reading mid last : Reading) (exchanges more : List Exchange) → ReadsAs lines reading exchanges mid → ReadsAs later mid more last → ReadsAs (lines ++ later) reading (exchanges ++ more) last
+pub ReadsAs-append : (lines later : List Line) (reading mid last : Reading) (exchanges more : List Exchange) → ReadsThrough lines reading exchanges mid → ReadsThrough later mid more last → ReadsThrough (lines ++ later) reading (exchanges ++ more) last
 ReadsAs-append [] later reading mid last exchanges more front back =
-    subst (λ t. ReadsAs later reading (t ++ more) last) (sym front.0) (subst (λ r. ReadsAs later r more last) front.1 back)
+    subst (λ t. ReadsThrough later reading (t ++ more) last) (sym front.0) (subst (λ r. ReadsThrough later r more last) front.1 back)
 ReadsAs-append (line ∷ lines) later reading mid last exchanges more front back =
-    BeginsWith-more (λ next rest. ReadsAs lines next rest mid) (λ next rest. ReadsAs (lines ++ later) next rest last) more (λ next rest reads. ReadsAs-append lines later next mid last rest more reads back) reading line exchanges front
+    BeginsWith-more (λ next rest. ReadsThrough lines next rest mid) (λ next rest. ReadsThrough (lines ++ later) next rest last) more (λ next rest reads. ReadsAs-append lines later next mid last rest more reads back) reading line exchanges front

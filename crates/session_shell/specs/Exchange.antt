@@ -34,14 +34,14 @@ pub data Exchange : Type 0 where
   Refused : (moment : ℕ) (fault : ShellFault) → Exchange
 
 -- the answer of the clock that an item took
-abbrev pub moment_of : Exchange → ℕ
-moment_of (Asked moment command given) = moment
-moment_of (Refused moment fault) = moment
+abbrev pub moment_in : Exchange → ℕ
+moment_in (Asked moment command given) = moment
+moment_in (Refused moment fault) = moment
 
 -- the item itself
-abbrev pub item_of : Exchange → Item
-item_of (Asked moment command given) = Ask command
-item_of (Refused moment fault) = Wrong fault
+abbrev pub item_asked : Exchange → Item
+item_asked (Asked moment command given) = Ask command
+item_asked (Refused moment fault) = Wrong fault
 
 -- the turn that stands for what was given at a moment
 abbrev pub turn_of_given : ℕ → Given0 → Turn
@@ -50,9 +50,9 @@ turn_of_given moment (Seen front reply) = turn.Seen front moment
 turn_of_given moment NoMemory = turn.NoMemory
 
 -- the turn that stands for an item
-abbrev pub turn_of : Exchange → Turn
-turn_of (Asked moment command given) = turn_of_given moment given
-turn_of (Refused moment fault) = turn.Local fault
+abbrev pub turn_taken : Exchange → Turn
+turn_taken (Asked moment command given) = turn_of_given moment given
+turn_taken (Refused moment fault) = turn.Local fault
 
 -- the text of what was given
 abbrev pub text_of_given : Given0 → List ℕ
@@ -61,9 +61,9 @@ text_of_given (Seen front reply) = text_of_reply reply
 text_of_given NoMemory = no_memory_text
 
 -- the text that answers an item
-abbrev pub text_of : Exchange → List ℕ
-text_of (Asked moment command given) = text_of_given given
-text_of (Refused moment fault) = text_of_fault fault
+abbrev pub text_written : Exchange → List ℕ
+text_written (Asked moment command given) = text_of_given given
+text_written (Refused moment fault) = text_of_fault fault
 
 -- how a session reads on after a reply
 abbrev pub after_reply : Reading → Reply → Reading
@@ -84,6 +84,6 @@ after_given reading (Seen front reply) = reading
 after_given reading NoMemory = reading
 
 -- how a session reads on after an item
-abbrev pub after : Reading → Exchange → Reading
-after reading (Asked moment command given) = after_given reading given
-after reading (Refused moment fault) = reading
+abbrev pub reading_after : Reading → Exchange → Reading
+reading_after reading (Asked moment command given) = after_given reading given
+reading_after reading (Refused moment fault) = reading

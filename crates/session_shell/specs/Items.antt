@@ -18,7 +18,7 @@ use Rattle.session_shell.specs.declared.reading.Item.{Item}
 use Rattle.session_shell.specs.declared.reading.Item.TheVariants.{Ask, Wrong}
 use Rattle.session_shell.specs.declared.reading.Reading.{Reading}
 use Rattle.session_shell.specs.declared.reading.Reading.TheVariants.{Operational, Configuring, Collecting, Spoilt, Out}
-use Rattle.session_shell.specs.Exchange.{Exchange, item_of, after}
+use Rattle.session_shell.specs.Exchange.{Exchange, item_asked, reading_after}
 
 -- a command that an item asks is sound
 abbrev pub AsksSound : Option Item → Type 0
@@ -48,14 +48,14 @@ abbrev pub within_limit : LoadWay → List ℕ → Reading
 within_limit way text = if nat_lt TEXT_LIMIT (length text) then Spoilt TextTooLong else Collecting way text
 
 -- a text with one more line, which is followed by an LF
-abbrev pub gathered : Reading → List ℕ → Reading
-gathered (Collecting way text) line = within_limit way (text ++ (line ++ 10 ∷ []))
-gathered reading line = reading
+abbrev pub with_line : Reading → List ℕ → Reading
+with_line (Collecting way text) line = within_limit way (text ++ (line ++ 10 ∷ []))
+with_line reading line = reading
 
 -- what comes of a line of a text: its load, where the line ends it
 abbrev pub text_line : LoadWay → List ℕ → List ℕ → Option Item × Reading
 text_line way text line =
-    if is_end_of_text line then (Some (Ask (Load way text)), Configuring) else (None, gathered (Collecting way text) line)
+    if is_end_of_text line then (Some (Ask (Load way text)), Configuring) else (None, with_line (Collecting way text) line)
 
 -- what comes of a line of a text that had a fault: the fault, where the line ends the text
 abbrev pub spoilt_line : Reading → Item → List ℕ → Option Item × Reading
@@ -76,27 +76,27 @@ ComesOf (Spoilt fault) End came = came ≡ (Some (Wrong fault), Configuring)
 ComesOf reading line came = came ≡ (None, reading)
 
 -- a session that is logged out reads no line, and none is read where no line came
-abbrev pub IsRead : Reading → Line → Type 0
-IsRead Out line = ⊥
-IsRead reading Failed = ⊥
-IsRead reading InputFull = ⊥
-IsRead reading line = Unit {0}
+abbrev pub ReadsLine : Reading → Line → Type 0
+ReadsLine Out line = ⊥
+ReadsLine reading Failed = ⊥
+ReadsLine reading InputFull = ⊥
+ReadsLine reading line = Unit {0}
 
 -- the item that a line ended came to the first of the exchanges; a line that ends none came to nothing
 abbrev pub Continues : (Reading → List Exchange → Type 0) → Option Item × Reading → List Exchange → Type 0
 Continues Rest (None, next) exchanges = Rest next exchanges
 Continues Rest (Some item, next) [] = ⊥
-Continues Rest (Some item, next) (first ∷ exchanges) = (item_of first ≡ item) × Rest (after next first) exchanges
+Continues Rest (Some item, next) (first ∷ exchanges) = (item_asked first ≡ item) × Rest (reading_after next first) exchanges
 
 -- a line was read, and the exchanges begin with what came of it
-pub record BeginsWith (Rest : Reading → List Exchange → Type 0) (reading : Reading) (line : Line)
+pub record BeginsByLine (Rest : Reading → List Exchange → Type 0) (reading : Reading) (line : Line)
     (exchanges : List Exchange) : Type 0 where
   pub came : Option Item × Reading
-  pub is_read : IsRead reading line
+  pub is_read : ReadsLine reading line
   pub comes : ComesOf reading line came
   pub goes : Continues Rest came exchanges
 
 -- the items of these lines came to the exchanges, in order, and they lead from the one reading to the other
-abbrev pub ReadsAs : List Line → Reading → List Exchange → Reading → Type 0
-ReadsAs [] reading exchanges last = (exchanges ≡ []) × (last ≡ reading)
-ReadsAs (line ∷ lines) reading exchanges last = BeginsWith (λ next rest. ReadsAs lines next rest last) reading line exchanges
+abbrev pub ReadsThrough : List Line → Reading → List Exchange → Reading → Type 0
+ReadsThrough [] reading exchanges last = (exchanges ≡ []) × (last ≡ reading)
+ReadsThrough (line ∷ lines) reading exchanges last = BeginsByLine (λ next rest. ReadsThrough lines next rest last) reading line exchanges

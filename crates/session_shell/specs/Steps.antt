@@ -3,7 +3,7 @@ use Rattle.std.specs.Prelude.{◌≡◌, ◌≤◌, ℕ, List, [], ◌∷◌, �
 use Rattle.std.specs.Prelude.{Result, Option, None, Some}
 use Rattle.std.specs.List.{flat_map}
 use Rattle.io_edge.specs.Feed.{Feed}
-use Rattle.io_edge.specs.Ends.{SinkView, behind}
+use Rattle.io_edge.specs.Ends.{SinkView, held_after}
 use Rattle.io_edge.specs.Line.{TellsBoth}
 use Rattle.io_edge.specs.Wrote.{Wrote as WroteAs, WrotePart}
 use Rattle.io_edge.specs.declared.lines.Line.{Line}
@@ -14,10 +14,10 @@ use Rattle.session_shell.specs.declared.turn.Turn.{Turn}
 use Rattle.session_shell.specs.declared.reading.Item.{Item}
 use Rattle.session_shell.specs.declared.reading.Reading.{Reading}
 use Rattle.session_shell.specs.declared.reading.Reading.TheVariants.{Operational, Out}
-use Rattle.session_shell.specs.Exchange.{Exchange, item_of, text_of, after}
-use Rattle.session_shell.specs.Items.{ReadsAs}
-use Rattle.session_shell.specs.Cut.{lines_of, AreFirst}
-use Rattle.session_shell.specs.Transcript.{Following, IsInput, LogsOut, SessionView, Texts, Turns, Wrote}
+use Rattle.session_shell.specs.Exchange.{Exchange, item_asked, text_written, reading_after}
+use Rattle.session_shell.specs.Items.{ReadsThrough}
+use Rattle.session_shell.specs.Cut.{lines_read, AreFirstLines}
+use Rattle.session_shell.specs.Transcript.{Following, IsInput, LogsOut, SessionView, Texts, TakesTurns, WroteTexts}
 
 -- what a session holds while it is served; `spare` is for how many more turns it has room
 pub record Held (C : Type 0) : Type 0 where
@@ -50,62 +50,62 @@ abbrev pub standing : {D : Type 0} → D → Reading → SessionView → Standin
 standing door reading view = record { door = door; reading = reading; view = view }
 
 -- an item was served
-pub record Serves {D T E : Type 0} (follows : Following D) (item : Item) (put : Result T E) (old new : Standing D) : Type 0 where
+pub record ServesItem {D T E : Type 0} (follows : Following D) (item : Item) (put : Result T E) (old new : Standing D) : Type 0 where
   pub exchange : Exchange
-  pub is_item : item_of exchange ≡ item
-  pub is_reading : new.reading ≡ after old.reading exchange
-  pub turns : Turns follows (exchange ∷ []) old.door new.door old.view new.view
-  pub wrote : WroteAs put (text_of exchange) old.view.held new.view.held
+  pub is_item : item_asked exchange ≡ item
+  pub is_reading : new.reading ≡ reading_after old.reading exchange
+  pub turns : TakesTurns follows (exchange ∷ []) old.door new.door old.view new.view
+  pub wrote : WroteAs put (text_written exchange) old.view.held new.view.held
 
 -- a session so far: the lines that were served, from its first door and view to where it stands
 pub record SoFar {D : Type 0} (follows : Following D) (limit : ℕ) (source : Option (List ℕ)) (first : D) (from : SessionView)
     (feed : Feed) (now : Standing D) : Type 0 where
   pub lines : List Line
   pub exchanges : List Exchange
-  pub reads : ReadsAs lines Operational exchanges now.reading
-  pub first_lines : TellsBoth (λ bytes left. AreFirst lines (lines_of feed.room left) limit bytes feed.room left) source
+  pub reads : ReadsThrough lines Operational exchanges now.reading
+  pub first_lines : TellsBoth (λ bytes left. AreFirstLines lines (lines_read feed.room left) limit bytes feed.room left) source
       feed.left
   pub within : feed.ahead ≤ feed.room
-  pub turns : Turns follows exchanges first now.door from now.view
-  pub text : now.view.held ≡ behind from.held (flat_map text_of exchanges)
+  pub turns : TakesTurns follows exchanges first now.door from now.view
+  pub text : now.view.held ≡ held_after from.held (flat_map text_written exchanges)
   pub going : is_out now.reading ≡ false
 
 -- a line was served: what it came to
 pub record ServesLine {D : Type 0} (follows : Following D) (line : Line) (exchanges : List Exchange) (old new : Standing D)
     : Type 0 where
-  pub reads : ReadsAs (line ∷ []) old.reading exchanges new.reading
-  pub turns : Turns follows exchanges old.door new.door old.view new.view
+  pub reads : ReadsThrough (line ∷ []) old.reading exchanges new.reading
+  pub turns : TakesTurns follows exchanges old.door new.door old.view new.view
 
 -- a line was taken, and the session goes on, or ends so by it
-abbrev pub Takes : {D : Type 0} → Following D → Line → Option How → Standing D → Standing D → Type 0
-Takes follows line None old new =
+abbrev pub TakesLine : {D : Type 0} → Following D → Line → Option How → Standing D → Standing D → Type 0
+TakesLine follows line None old new =
     (exchanges : List Exchange) × ServesLine follows line exchanges old new
-    × (new.view.held ≡ behind old.view.held (flat_map text_of exchanges)) × (is_out new.reading ≡ false) × (is_end line ≡ false)
-Takes follows line (Some Clean) old new =
+    × (new.view.held ≡ held_after old.view.held (flat_map text_written exchanges)) × (is_out new.reading ≡ false) × (is_end line ≡ false)
+TakesLine follows line (Some Clean) old new =
     (exchanges : List Exchange) × ServesLine follows line exchanges old new
-    × (new.view.held ≡ behind old.view.held (flat_map text_of exchanges)) × ((is_out new.reading ≡ true) ⊎ (is_end line ≡ true))
-Takes follows line (Some SinkFault) old new =
-    (last : Exchange) × ServesLine follows line (last ∷ []) old new × WrotePart (text_of last) old.view.held new.view.held
-Takes follows line (Some NoMemory) old new = (new.door ≡ old.door) × (new.reading ≡ old.reading) × (new.view ≡ old.view)
-Takes follows line (Some how) old new = ⊥
+    × (new.view.held ≡ held_after old.view.held (flat_map text_written exchanges)) × ((is_out new.reading ≡ true) ⊎ (is_end line ≡ true))
+TakesLine follows line (Some SinkFault) old new =
+    (last : Exchange) × ServesLine follows line (last ∷ []) old new × WrotePart (text_written last) old.view.held new.view.held
+TakesLine follows line (Some NoMemory) old new = (new.door ≡ old.door) × (new.reading ≡ old.reading) × (new.view ≡ old.view)
+TakesLine follows line (Some how) old new = ⊥
 
 -- a session has ended, but for its last logout; what its reader has left was read ahead or is the source's
 pub record Ends {D : Type 0} (follows : Following D) (limit : ℕ) (how : How) (source : Option (List ℕ)) (first : D)
     (from : SessionView) (feed : Feed) (now : Standing D) : Type 0 where
   pub lines : List Line
   pub asked : List Exchange
-  pub reads : ReadsAs lines Operational asked now.reading
+  pub reads : ReadsThrough lines Operational asked now.reading
   pub input : TellsBoth (λ before left. (ahead now' : List ℕ) → left ≡ ahead ++ now' → length ahead ≡ feed.ahead
       → IsInput lines now.reading how limit before now') source feed.left
-  pub turns : Turns follows asked first now.door from now.view
+  pub turns : TakesTurns follows asked first now.door from now.view
   pub texts : Texts how asked [] from now.view
 
 -- whatever a session did before, a step goes on from there or ends it
-abbrev pub Steps : {D : Type 0} → Following D → Option How → Feed → Feed → Standing D → Standing D → Type 0
-Steps {D} follows None feed feed' old new =
+abbrev pub StepsOn : {D : Type 0} → Following D → Option How → Feed → Feed → Standing D → Standing D → Type 0
+StepsOn {D} follows None feed feed' old new =
     (limit : ℕ) (source : Option (List ℕ)) (first : D) (from : SessionView)
     → SoFar follows limit source first from feed old → SoFar follows limit source first from feed' new
-Steps {D} follows (Some how) feed feed' old new =
+StepsOn {D} follows (Some how) feed feed' old new =
     (limit : ℕ) (source : Option (List ℕ)) (first : D) (from : SessionView) → from.faults ≤ old.view.faults
     → SoFar follows limit source first from feed old → Ends follows limit how source first from feed' new
 
@@ -117,20 +117,20 @@ how_next line reading true = if is_out reading then Some Clean else (if is_end l
 -- the text of the last logout, where one is needed: nothing is written to a sink that failed
 abbrev pub LastText : How → List Exchange → SessionView → SessionView → Type 0
 LastText SinkFault final old new = new.held ≡ old.held
-LastText how final old new = Wrote [] (flat_map text_of final) old new
+LastText how final old new = WroteTexts [] (flat_map text_written final) old new
 
 -- the last logout was asked, where one is needed
 pub record Finishes {D : Type 0} (follows : Following D) (how : How) (d e : D) (reading : Reading)
     (old new : SessionView) : Type 0 where
   pub final : List Exchange
   pub logs_out : LogsOut reading final
-  pub turns : Turns follows final d e old new
+  pub turns : TakesTurns follows final d e old new
   pub text : LastText how final old new
   pub later : old.faults ≤ new.faults
 
 -- a command was asked, and its answer not written
 pub record AsksOnly {D : Type 0} (follows : Following D) (item : Item) (d e : D) (old new : SessionView) : Type 0 where
   pub exchange : Exchange
-  pub is_item : item_of exchange ≡ item
-  pub turns : Turns follows (exchange ∷ []) d e old new
+  pub is_item : item_asked exchange ≡ item
+  pub turns : TakesTurns follows (exchange ∷ []) d e old new
   pub same : new.held ≡ old.held

@@ -6,7 +6,7 @@ use Rattle.commands.specs.declared.command.Command.{Command}
 use Rattle.commands.specs.declared.command.Command.TheVariants.{Logout}
 use Rattle.io_edge.specs.declared.lines.Line.{Line}
 use Rattle.io_edge.specs.declared.lines.Line.TheVariants.{InputFull as Full}
-use Rattle.io_edge.specs.Ends.{SinkView, SourceView, behind}
+use Rattle.io_edge.specs.Ends.{SinkView, SourceView, held_after}
 use Rattle.io_edge.specs.Line.{HasNoLf, TellsBoth}
 use Rattle.session_shell.specs.declared.turn.How.{How}
 use Rattle.session_shell.specs.declared.turn.How.TheVariants.{Clean, SourceFault, SinkFault, InputFull, NoMemory}
@@ -15,9 +15,9 @@ use Rattle.session_shell.specs.declared.door.Given0.{Given0}
 use Rattle.session_shell.specs.declared.reading.Reading.{Reading}
 use Rattle.session_shell.specs.declared.reading.Reading.TheVariants.{Operational, Out}
 use Rattle.session_shell.specs.declared.reading.Item.TheVariants.{Ask}
-use Rattle.session_shell.specs.Exchange.{Exchange, Asked, Refused, moment_of, item_of, turn_of, text_of}
-use Rattle.session_shell.specs.Items.{ReadsAs}
-use Rattle.session_shell.specs.Cut.{AreFirst}
+use Rattle.session_shell.specs.Exchange.{Exchange, Asked, Refused, moment_in, item_asked, turn_taken, text_written}
+use Rattle.session_shell.specs.Items.{ReadsThrough}
+use Rattle.session_shell.specs.Cut.{AreFirstLines}
 
 -- how a door may stand after one command at a moment, for which that was given
 abbrev pub Following : Type 0 → Type 1
@@ -55,19 +55,19 @@ GoesBy {D} follows (Asked moment command given ∷ exchanges) d e =
 GoesBy follows (Refused moment fault ∷ exchanges) d e = GoesBy follows exchanges d e
 
 -- the exchanges took their turns: one answer of the clock each, one turn each, and the commands of the door
-pub record Turns {D : Type 0} (follows : Following D) (exchanges : List Exchange) (d e : D)
+pub record TakesTurns {D : Type 0} (follows : Following D) (exchanges : List Exchange) (d e : D)
     (old new : SessionView) : Type 0 where
-  pub moments : TakesAnswers old.coming (map moment_of exchanges) new.coming
-  pub turned : new.turns ≡ old.turns ++ map turn_of exchanges
+  pub moments : TakesAnswers old.coming (map moment_in exchanges) new.coming
+  pub turned : new.turns ≡ old.turns ++ map turn_taken exchanges
   pub asked : GoesBy follows exchanges d e
 
 -- the first text was written whole, and of the second a part from its beginning: less than the whole only where the sink's
 -- count of faults rose
-pub record Wrote (first second : List ℕ) (old new : SessionView) : Type 0 where
+pub record WroteTexts (first second : List ℕ) (old new : SessionView) : Type 0 where
   pub part : List ℕ
   pub rest : List ℕ
   pub is_second : second ≡ part ++ rest
-  pub held : new.held ≡ behind old.held (first ++ part)
+  pub held : new.held ≡ held_after old.held (first ++ part)
   pub whole : (rest ≡ []) ⊎ Rose old.faults new.faults
 
 -- the texts of a session: those of all its items, and of its last logout; where its sink failed, none behind the text that
@@ -75,13 +75,13 @@ pub record Wrote (first second : List ℕ) (old new : SessionView) : Type 0 wher
 abbrev pub Texts : How → List Exchange → List Exchange → SessionView → SessionView → Type 0
 Texts SinkFault asked final old new =
     (heard : List Exchange) × (last : Exchange) × (asked ≡ heard ++ last ∷ [])
-    × Wrote (flat_map text_of heard) (text_of last) old new
-Texts how asked final old new = Wrote (flat_map text_of asked) (flat_map text_of final) old new
+    × WroteTexts (flat_map text_written heard) (text_written last) old new
+Texts how asked final old new = WroteTexts (flat_map text_written asked) (flat_map text_written final) old new
 
 -- a session that isn't logged out asks for it once, at its end
 abbrev pub LogsOut : Reading → List Exchange → Type 0
 LogsOut Out final = final ≡ []
-LogsOut reading final = (logout : Exchange) × (final ≡ logout ∷ []) × (item_of logout ≡ Ask Logout)
+LogsOut reading final = (logout : Exchange) × (final ≡ logout ∷ []) × (item_asked logout ≡ Ask Logout)
 
 -- which lines were not read says how a session ended: clean when it was logged out or nothing is left
 abbrev pub EndsBy : How → Reading → List Line → Type 0
@@ -96,7 +96,7 @@ pub record IsInput (lines : List Line) (reading : Reading) (how : How) (limit : 
   pub rest : List Line
   pub room : ℕ
   pub left : List ℕ
-  pub first : AreFirst lines rest limit before room left
+  pub first : AreFirstLines lines rest limit before room left
   pub ends : EndsBy how reading rest
   -- what was read behind these lines
   pub ahead : List ℕ
@@ -122,10 +122,10 @@ pub record IsTranscript {D : Type 0} (follows : Following D) (limit : ℕ) (how 
   pub asked : List Exchange
   pub final : List Exchange
   pub reading : Reading
-  pub reads : ReadsAs lines Operational asked reading
+  pub reads : ReadsThrough lines Operational asked reading
   pub input : TellsBoth (IsInput lines reading how limit) old.source new.source
   pub logs_out : LogsOut reading final
-  pub turns : Turns follows (asked ++ final) old.door new.door old.view new.view
+  pub turns : TakesTurns follows (asked ++ final) old.door new.door old.view new.view
   pub texts : Texts how asked final old.view new.view
 
 -- the ends of a session: whose they are, what is told of its source and its sink, and its clock's answers to come

@@ -2,7 +2,7 @@
 
 ghost use Rattle.std.specs.Prelude.{◌≡◌, ◌∷◌, ◌++◌, [], IfOk, OnOk, OnErr};
 ghost use Rattle.io_edge.specs.declared.lines.Line.TheVariants.{Text, TooLong, End};
-ghost use Rattle.session_shell.specs.Items.{AsksSound, ComesOf, IsReadAs, gathered};
+ghost use Rattle.session_shell.specs.Items.{AsksSound, ComesOf, IsReadAs, with_line};
 
 use cfg_base::{Bytes, NoMemory};
 use commands::{Command, LoadWay};
@@ -100,7 +100,7 @@ fn put_line(text: &mut Vec<u8>, line: &[u8]) -> Result<(), NoMemory>
 
 /// Puts a line behind a text that is collected. Past the limit nothing of the text is kept.
 fn gather(reading: &mut Reading, line: &[u8]) -> Result<(), NoMemory>
-    ensures ok { OnOk result (reading.new ≡ gathered reading.old line.now) }
+    ensures ok { OnOk result (reading.new ≡ with_line reading.old line.now) }
     ensures err { OnErr result (reading.new ≡ reading.old) }
 {
     match std::mem::replace(reading, Reading::Spoilt(ShellFault::TextTooLong)) {

@@ -7,8 +7,8 @@ ghost use Rattle.io_edge.specs.Ends.{onto};
 ghost use Rattle.session_shell.specs.declared.reading.Item.TheVariants.{Ask};
 ghost use Rattle.session_shell.specs.declared.reading.Reading.TheVariants.{Operational};
 ghost use Rattle.session_shell.specs.declared.turn.How.TheVariants.{SinkFault, SourceFault};
-ghost use Rattle.session_shell.specs.Items.{AsksSound, IsRead};
-ghost use Rattle.session_shell.specs.Steps.{AsksOnly, Ends, Finishes, is_end, is_out, Serves, standing, Steps, Takes, view_of};
+ghost use Rattle.session_shell.specs.Items.{AsksSound, ReadsLine};
+ghost use Rattle.session_shell.specs.Steps.{AsksOnly, Ends, Finishes, is_end, is_out, ServesItem, standing, StepsOn, TakesLine, view_of};
 
 use crate::answer::{answer, how_next, is_out, let_go, turn_of};
 use crate::door::Door;
@@ -114,7 +114,7 @@ impl<S: Source, K: Sink, C: Clock> Serving<S, K, C> {
     ) -> Result<(), PutFailed>
         requires room { 0 < self.old.spare }
         requires sound { AsksSound (Some item) }
-        ensures serves { Serves D.follows item result (standing door.old self.old.reading (view_of C.coming self.old)) (standing door.new self.new.reading (view_of C.coming self.new)) }
+        ensures serves { ServesItem D.follows item result (standing door.old self.old.reading (view_of C.coming self.old)) (standing door.new self.new.reading (view_of C.coming self.new)) }
         ensures feed { self.new.feed ≡ self.old.feed }
         ensures spare { self.old.spare ≡ self.new.spare + 1 }
         ensures cause { OnErr result (Rose self.old.sink.faults self.new.sink.faults) }
@@ -137,8 +137,8 @@ impl<S: Source, K: Sink, C: Clock> Serving<S, K, C> {
     /// Serves a line.
     fn take<D: Door, R: Wait>(&mut self, rt: &R, door: &mut D, line: &Line) -> Option<How>
         requires room { 0 < self.old.spare }
-        requires reads { IsRead self.old.reading line.now }
-        ensures takes { Takes D.follows line.now result (standing door.old self.old.reading (view_of C.coming self.old)) (standing door.new self.new.reading (view_of C.coming self.new)) }
+        requires reads { ReadsLine self.old.reading line.now }
+        ensures takes { TakesLine D.follows line.now result (standing door.old self.old.reading (view_of C.coming self.old)) (standing door.new self.new.reading (view_of C.coming self.new)) }
         ensures feed { self.new.feed ≡ self.old.feed }
         ensures spare { self.old.spare ≤ self.new.spare + 1 }
         ensures end { result ≡ None → is_end line.now ≡ false }
@@ -159,7 +159,7 @@ impl<S: Source, K: Sink, C: Clock> Serving<S, K, C> {
     fn read_next<D: Door, R: Wait>(&mut self, rt: &R, door: &mut D) -> Option<How>
         requires room { 0 < self.old.spare }
         requires going { is_out self.old.reading ≡ false }
-        ensures steps { Steps D.follows result self.old.feed self.new.feed (standing door.old self.old.reading (view_of C.coming self.old)) (standing door.new self.new.reading (view_of C.coming self.new)) }
+        ensures steps { StepsOn D.follows result self.old.feed self.new.feed (standing door.old self.old.reading (view_of C.coming self.old)) (standing door.new self.new.reading (view_of C.coming self.new)) }
         ensures spare { self.old.spare ≤ self.new.spare + 1 }
         ensures falls { result ≡ None → self.new.feed.room < self.old.feed.room }
         ensures source_cause { result ≡ Some SourceFault → Rose self.old.feed.faults self.new.feed.faults }
@@ -179,7 +179,7 @@ impl<S: Source, K: Sink, C: Clock> Serving<S, K, C> {
     fn step<D: Door, R: Wait>(&mut self, rt: &R, door: &mut D) -> Option<How>
         requires room { 0 < self.old.spare }
         requires going { is_out self.old.reading ≡ false }
-        ensures steps { Steps D.follows result self.old.feed self.new.feed (standing door.old self.old.reading (view_of C.coming self.old)) (standing door.new self.new.reading (view_of C.coming self.new)) }
+        ensures steps { StepsOn D.follows result self.old.feed self.new.feed (standing door.old self.old.reading (view_of C.coming self.old)) (standing door.new self.new.reading (view_of C.coming self.new)) }
         ensures room { 0 < self.new.spare }
         ensures falls { result ≡ None → self.new.feed.room < self.old.feed.room }
         ensures source_cause { result ≡ Some SourceFault → Rose self.old.feed.faults self.new.feed.faults }

@@ -10,7 +10,7 @@ use Rattle.session_shell.specs.declared.turn.How.{How}
 use Rattle.session_shell.specs.declared.turn.Turn.{Turn}
 use Rattle.session_shell.specs.Exchange.{Exchange, Asked as AskedOf, Refused}
 use Rattle.session_shell.specs.Transcript.{EndView, GoesBy, IsSession}
-use Rattle.session_threads.specs.History.{Follows, HasMissed, Known}
+use Rattle.session_threads.specs.History.{FollowsAsked, HasMissed, Known}
 
 module _ (opening : State) (caller : ℕ) (final more : List Happened) where
   missed_later : (least answer : ℕ) → HasMissed opening final least answer → HasMissed opening (final ++ more) least answer
@@ -23,7 +23,7 @@ module _ (opening : State) (caller : ℕ) (final more : List Happened) where
 
   -- one ask
   pub Follows-later : (d : Known) (command : Command) (answer : ℕ) (given : Given0) (e : Known)
-      → Follows opening caller final d command answer given e → Follows opening caller (final ++ more) d command answer given e
+      → FollowsAsked opening caller final d command answer given e → FollowsAsked opening caller (final ++ more) d command answer given e
   Follows-later d command answer (KeptAt place reply) e follows = record {
     turn = follows.turn;
     after = follows.after;
@@ -42,8 +42,8 @@ module _ (opening : State) (caller : ℕ) (final more : List Happened) where
   }
   Follows-later d command answer NoMemory e follows = follows
 
-  goes_later : (exchanges : List Exchange) (d e : Known) → GoesBy (Follows opening caller final) exchanges d e
-      → GoesBy (Follows opening caller (final ++ more)) exchanges d e
+  goes_later : (exchanges : List Exchange) (d e : Known) → GoesBy (FollowsAsked opening caller final) exchanges d e
+      → GoesBy (FollowsAsked opening caller (final ++ more)) exchanges d e
   goes_later [] d e goes = goes
   goes_later (AskedOf moment command given ∷ exchanges) d e goes =
       (goes.0, Follows-later d command moment given goes.0 goes.1, goes_later exchanges goes.0 e goes.2)
@@ -51,8 +51,8 @@ module _ (opening : State) (caller : ℕ) (final more : List Happened) where
 
   -- a session
   pub IsSession-later : (limit : ℕ) (how : How) (turns : List Turn) (old new : EndView) (d e : Known)
-      → IsSession (Follows opening caller final) limit how turns old new d e
-      → IsSession (Follows opening caller (final ++ more)) limit how turns old new d e
+      → IsSession (FollowsAsked opening caller final) limit how turns old new d e
+      → IsSession (FollowsAsked opening caller (final ++ more)) limit how turns old new d e
   IsSession-later limit how turns old new d e s = record {
     transcript = record {
       lines = s.transcript.lines;

@@ -25,7 +25,7 @@ use Rattle.config_db.proofs.CalledLemmas.{called_none, called_then}
 use Rattle.config_db.proofs.DiskLemmas.{goes_further, goes_nowhere, rose_first, rose_last, tell_on}
 use Rattle.config_db.proofs.FaultLemmas.{counted_more, counted_none}
 use Rattle.session_history.specs.declared.history.Happened.{Happened}
-use Rattle.session_history.specs.Events.{IsAsked, IsAt, Leads, is_command, places_from, places_of, IsEventOf}
+use Rattle.session_history.specs.Events.{IsAskedAt, IsAt, Leads, is_command, places_from, places_of, IsEventOf}
 use Rattle.session_history.specs.Kept.{WasKept}
 use Rattle.session_history.proofs.EventLemmas.{Leads-append, at_seam, no_places, one_place, places_from-append, places_of-append}
 use Rattle.turn_lock.specs.Histories.{AddsOwn}
@@ -57,7 +57,7 @@ last_of caller moment front own last is made =
 is_asked : (opening : State) (caller answer moment : ℕ) (command : Command) (place : ℕ) (reply : Reply) (own : List Happened)
     (v v' : DatabaseView) → Leads opening v.events v.state → moment ≡ max answer v.state.greatest
     → AllByRecursion (IsEventOf caller moment) own → IsAnswered caller moment command place reply own v v'
-    → IsAsked opening (v.events ++ own) place caller answer command reply
+    → IsAskedAt opening (v.events ++ own) place caller answer command reply
 is_asked opening caller answer moment command place reply own v v' leads is_moment made given =
     let ahead : List Happened = v.events ++ given.front in
     let whole : v.events ++ own ≡ ahead ++ given.last ∷ [] =

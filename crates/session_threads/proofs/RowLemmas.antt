@@ -115,6 +115,12 @@ module _ {S K C J : Type 0} where
       let more : length seats' ≡ length seats + 1 = ap length are ∙ length-append seats (place ∷ []) in
       omega (arith, few, size, more, fits)
 
+  -- the seats before the last one are of the lock, as all are
+  pub seats_left : (lock : TableId) (seats seats' : List (Option (Seat S K C DatabaseView J)))
+      (place : Option (Seat S K C DatabaseView J)) → All (IsSeatOf lock) seats' → seats' ≡ seats ++ place ∷ []
+      → All (IsSeatOf lock) seats
+  seats_left lock seats seats' place all are = (All-pop (IsSeatOf lock) seats' seats (Some place) are all).0
+
   -- the last seat is of the lock, as all are
   pub last_here : (lock : TableId) (seats seats' : List (Option (Seat S K C DatabaseView J)))
       (place : Option (Seat S K C DatabaseView J)) (seat : Seat S K C DatabaseView J) → All (IsSeatOf lock) seats'

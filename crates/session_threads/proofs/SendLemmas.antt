@@ -3,8 +3,10 @@ use denote.Param.Send.{IsSend, IsSync, sendable, view_send}
 use denote.Param.SendFields.{declared_send}
 use denote.RattleType.{RattleType}
 use Rattle.std.proofs.Crossing.{crosses}
+use Rattle.std.specs.contracts.option.Option as Option
 use Rattle.active_snapshot.specs.declared.book.Naming as naming
-use Rattle.active_snapshot.proofs.SendLemmas.{readers_send, writer_send}
+use Rattle.active_snapshot.proofs.SendLemmas.{reader_send, readers_send, writer_send}
+use Rattle.active_snapshot.specs.contracts.reader.SnapReader as SnapReader
 use Rattle.active_snapshot.specs.contracts.reader.SnapReaders as SnapReaders
 use Rattle.active_snapshot.specs.contracts.writer.SnapWriter as SnapWriter
 use Rattle.cfg_base.proofs.user.Users.TheSendSync as users
@@ -20,12 +22,17 @@ use Rattle.config_db.specs.contracts.database.Database.TheInside as DatabaseInsi
 use Rattle.disk_model.specs.declared.disk.Disk as disk
 use Rattle.session_history.proofs.history.Happened.TheSendSync as happened
 use Rattle.session_history.specs.contracts.history.Happened as Happened
+use Rattle.session_shell.proofs.end.End.TheSendSync as end
+use Rattle.session_shell.proofs.turn.How.TheSendSync as how
+use Rattle.session_shell.proofs.turn.Turn.TheSendSync as turn
+use Rattle.session_shell.specs.contracts.turn.TurnList as TurnList
 use Rattle.trace_list.specs.contracts.trace.Trace as Trace
 use Rattle.turn_lock.proofs.lock.Turns.TheSendSync as lock
 use Rattle.turn_lock.proofs.pass.Pass.TheSendSync as pass
 use Rattle.turn_lock.specs.contracts.lock.Turns as Turns
 use Rattle.turn_lock.specs.contracts.pass.Pass as Pass
 use Rattle.session_threads.specs.contracts.begun.Begun as Begun
+use Rattle.session_threads.specs.contracts.seat.Seat as Seat
 use Rattle.session_threads.specs.contracts.served.Served as Served
 use Rattle.session_threads.specs.contracts.served.Served.TheInside as ServedInside
 use Rattle.session_threads.specs.contracts.served.ServedBook.TheImpl as book
@@ -38,6 +45,9 @@ ledger_send = search (sendable, crosses, ledger.the_send) depth 150 fits 40000
 
 events_send : IsSend (Trace.the_row Happened.the_row)
 events_send = search (sendable, crosses, happened.the_send) depth 150 fits 40000
+
+turns_send : IsSend TurnList.the_row
+turns_send = search (sendable, crosses, turn.the_send) depth 150 fits 40000
 
 core_send : IsSend Core.the_row
 core_send = search (sendable, crosses, core.the_send) depth 150 fits 40000
@@ -97,3 +107,19 @@ module _ (D J : RattleType) (d : disk.Ghosts D.Denot) (j : naming.Ghosts J.Denot
   lock_sync sent name shared =
       let served : IsSend (Served.the_row D J d j) = served_send sent name shared in
       search (sendable, lock.the_sync) depth 150 fits 40000
+
+option_send : (R : RattleType) → IsSend R → IsSend (Option.the_row R)
+option_send R sent = search sendable depth 12
+
+module _ (S K C D J : RattleType) (d : disk.Ghosts D.Denot) (j : naming.Ghosts J.Denot) where
+  -- a place for a seat over a database
+  abbrev pub place_row : RattleType
+  place_row = Option.the_row (Seat.the_row S K C (Begun.the_row D d) J j)
+
+  pub place_send : IsSend S → IsSend K → IsSend C → IsSend J → IsSync J → IsSend place_row
+  place_send source sink clock name shared =
+      let passes : IsSend (pass_row D d) = pass_send D d in
+      let readers : IsSend (SnapReader.the_row J j) = reader_send J j name shared in
+      let seats : IsSend (Seat.the_row S K C (Begun.the_row D d) J j) =
+      search (sendable, crosses, turns_send, end.the_send, how.the_send) depth 150 fits 40000 in
+      option_send (Seat.the_row S K C (Begun.the_row D d) J j) seats

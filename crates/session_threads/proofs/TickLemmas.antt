@@ -8,15 +8,15 @@ use Rattle.config_db.specs.View.{DatabaseView, opened}
 use Rattle.io_edge.specs.Ends.{TakesAnswer}
 use Rattle.session_history.specs.declared.history.Happened.{Happened}
 use Rattle.turn_lock.specs.Passes.{TookTurn}
-use Rattle.session_threads.specs.Looks.{AreLooks, Looks, LooksAlone, LooksOnce, Takes, TickerView}
+use Rattle.session_threads.specs.Looks.{AreLooks, Looks, LooksAlone, LooksOnce, TakesLook, TickerView}
 use Rattle.session_threads.specs.Passes.{CallerPass, KnowsOwn, WentOn, caller_in}
-use Rattle.session_threads.specs.Ticks.{IsFirst, IsLook, IsRound, Ticks, TicksOn}
+use Rattle.session_threads.specs.Ticks.{IsTickersPass, IsLook, IsRound, Ticks, TicksOn}
 use Rattle.session_threads.proofs.ListLemmas.{some_is}
 use Rattle.session_threads.proofs.PassLemmas.{LooksOnce-behind, WentOn-same, WentOn-then, WentOn-took, not_own-took, seen-took}
 
 -- one more answer
-Takes-then : {A : Type 0} (before mid now : Option (ℕ → A)) (answers : List A) (answer : A) → Takes before answers mid
-    → TakesAnswer mid now answer → Takes before (answers ++ answer ∷ []) now
+Takes-then : {A : Type 0} (before mid now : Option (ℕ → A)) (answers : List A) (answer : A) → TakesLook before answers mid
+    → TakesAnswer mid now answer → TakesLook before (answers ++ answer ∷ []) now
 Takes-then before mid now [] answer taken next = (now, subst (λ o. TakesAnswer o now answer) taken next, refl)
 Takes-then before mid now (one ∷ answers) answer taken next =
     (taken.0, taken.1, Takes-then taken.0 mid now answers answer taken.2 next)
@@ -52,7 +52,7 @@ Ticks-none first pass ticker ticker' own beat clock = record {
 
 -- the beat called for a look
 pub Ticks-look : (lock : TableId) (first : DatabaseView) (old new : CallerPass) (ticker ticker' : TickerView) (answer : ℕ)
-    (goes_on : Bool) → IsFirst lock first old → TakesAnswer ticker.due ticker'.due true
+    (goes_on : Bool) → IsTickersPass lock first old → TakesAnswer ticker.due ticker'.due true
     → TakesAnswer ticker.coming ticker'.coming answer
     → TookTurn caller_in (λ fixed before after. LooksAlone (opened fixed) answer before after) old new
     → Ticks goes_on first old new ticker ticker'
@@ -101,7 +101,7 @@ module _ (first : DatabaseView) (old mid new : CallerPass) (ticker between ticke
       → AreLooks (opened first) (replicate (length (far.answers ++ look.0 ∷ [])) true) (far.answers ++ look.0 ∷ [])
       ticker ticker' old.seen new.seen
   more_looks look = record {
-    beat_told = subst (λ l. Takes ticker.due l ticker'.due) (sym (replicate-then far.answers look.0 true))
+    beat_told = subst (λ l. TakesLook ticker.due l ticker'.due) (sym (replicate-then far.answers look.0 true))
         (Takes-then ticker.due between.due ticker'.due (replicate (length far.answers) true) true
         far.looked.beat_told (subst (λ o. TakesAnswer between.due o true) (sym look.1.beat_told.2) look.1.beat_told.1));
     clock_told = Takes-then ticker.coming between.coming ticker'.coming far.answers look.0
@@ -140,7 +140,7 @@ module _ (first : DatabaseView) (old mid new : CallerPass) (ticker between ticke
         beat_told = Takes-then ticker.due between.due ticker'.due (replicate (length far.answers) true) false
             far.looked.beat_told
             (subst (λ o. TakesAnswer between.due o false) (sym none.beat_told.2) none.beat_told.1);
-        clock_told = subst (λ o. Takes ticker.coming far.answers o) (sym none.clock_told) far.looked.clock_told;
+        clock_told = subst (λ o. TakesLook ticker.coming far.answers o) (sym none.clock_told) far.looked.clock_told;
         looks = subst (λ l. Looks (opened first) far.answers old.seen l) (sym none.looks) far.looked.looks;
       };
     };
@@ -149,8 +149,8 @@ module _ (first : DatabaseView) (old mid new : CallerPass) (ticker between ticke
   pub TicksOn-then : Ticks false first mid new between ticker' → TicksOn first old new ticker ticker'
   TicksOn-then ticks = TicksOn-by (WentOn-then old mid new far.goes ticks.goes) ticks.round
 
-pub IsFirst-then : (lock : TableId) (first : DatabaseView) (old new : CallerPass) → IsFirst lock first old
-    → WentOn old new → IsFirst lock first new
+pub IsFirst-then : (lock : TableId) (first : DatabaseView) (old new : CallerPass) → IsTickersPass lock first old
+    → WentOn old new → IsTickersPass lock first new
 IsFirst-then lock first old new is goes = record {
   here = goes.lock ∙ is.here;
   fixed = goes.fixed ∙ is.fixed;

@@ -18,7 +18,7 @@ use Rattle.session_shell.specs.declared.turn.Turn.{Turn}
 use Rattle.session_shell.specs.Exchange.{Exchange, Asked as AskedOf, Refused}
 use Rattle.session_shell.specs.Transcript.{EndView, GoesBy, IsSession}
 use Rattle.session_threads.specs.Gates.{FollowsIn, GateView, MissedIn, ReadsLast, ReadsOn, StartsReading, TellsKept}
-use Rattle.session_threads.specs.History.{Follows, FollowsTurn, HasMissed, Known, known_first}
+use Rattle.session_threads.specs.History.{FollowsAsked, FollowsTurn, HasMissed, Known, known_first}
 use Rattle.session_threads.specs.Passes.{CallerPass, WentOn}
 use Rattle.session_threads.specs.Naming.{IsPrefix-same, IsPrefix-then}
 use Rattle.session_threads.proofs.ListLemmas.{All-last}
@@ -139,7 +139,7 @@ module _ (never_fall : (one two : List Kept) (view later : Kept) → AreViews tw
 
   module _ (caller : ℕ) where
     abbrev Knows : Known → Command → ℕ → Given0 → Known → Type 0
-    Knows = Follows (opened first) caller final
+    Knows = FollowsAsked (opened first) caller final
 
     abbrev known : GateView → ℕ → Known
     known d front = record { events = d.pass.seen; front = front }
@@ -217,7 +217,7 @@ module _ (never_fall : (one two : List Kept) (view later : Kept) → AreViews tw
   pub IsSession-known : (limit : ℕ) (how : How) (turns : List Turn) (old new : EndView) (d e : GateView)
       → d.pass.fixed ≡ Some first → WentOn d.pass d.pass → StartsReading first d.reader → IsPrefix e.reader.list list
       → IsSession FollowsIn limit how turns old new d e
-      → (front : ℕ) × IsSession (Follows (opened first) d.pass.caller final) limit how turns old new
+      → (front : ℕ) × IsSession (FollowsAsked (opened first) d.pass.caller final) limit how turns old new
       (known_first (opened first) d.pass.seen) (record { events = e.pass.seen; front = front })
   IsSession-known limit how turns old new d e fixed same starts within s =
       let t = s.transcript in

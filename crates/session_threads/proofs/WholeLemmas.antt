@@ -22,15 +22,15 @@ use Rattle.turn_lock.specs.Passes.{IsClosed, ended_of, first_pass}
 use Rattle.session_threads.specs.declared.seat.Seat.{Seat}
 use Rattle.session_threads.specs.Adding.{AddsUp}
 use Rattle.session_threads.specs.Begun.{start_of}
-use Rattle.session_threads.specs.History.{Follows, HasSession, known_first}
+use Rattle.session_threads.specs.History.{FollowsAsked, HasSession, known_first}
 use Rattle.session_threads.specs.Looks.{HasLooked, HasTicked, TickerView}
-use Rattle.session_threads.specs.Results.{IsResult, IsUnbegun, SessionResult, status_of_all, users_of}
+use Rattle.session_threads.specs.Results.{IsResult, IsUnbegun, SessionResult, status_of_all, users_of_ends}
 use Rattle.session_threads.specs.Rows.{AreLeft, IsSeatOf, NoneServed, Pairs, PairsFrom, SitsIn, pass_for, taken, with_all_ended}
 use Rattle.session_threads.specs.Served.{AreServed, EachFrom, HasReaders, IsUnderway, ServedView}
 use Rattle.session_threads.specs.Passes.{CallerPass, IsReady, KnowsOwn}
 use Rattle.session_threads.specs.Sessions.{HasRun, IsSeated, ServesOne, ServesSeat, StaysOut}
 use Rattle.session_threads.specs.Passes.{WentOn, caller_in}
-use Rattle.session_threads.specs.Ticks.{IsFirst, TicksOn}
+use Rattle.session_threads.specs.Ticks.{IsTickersPass, TicksOn}
 use Rattle.session_threads.proofs.LaterLemmas.{IsSession-later}
 use Rattle.session_threads.proofs.ListLemmas.{All-append, some_is}
 use Rattle.session_threads.proofs.LogLemmas.{AddsUp-begun, AddsUp-none}
@@ -86,8 +86,8 @@ each_ended Is (seat ∷ seats) all = (
 
 -- the first pass, before the ticker's turns
 pub IsFirst-begun : (lock : TableId) (first : DatabaseView) (callers count : ℕ) (start pass : CallerPass)
-    → start ≡ first_pass lock first callers → pass ≡ record start { splits = count } → IsFirst lock first pass
-IsFirst-begun lock first callers count start pass begun split = subst (IsFirst lock first)
+    → start ≡ first_pass lock first callers → pass ≡ record start { splits = count } → IsTickersPass lock first pass
+IsFirst-begun lock first callers count start pass begun split = subst (IsTickersPass lock first)
     (sym (split ∙ ap (λ (p : CallerPass). record p { splits = count }) begun))
     (record { here = refl; fixed = refl; nobodys = refl; own = refl })
 
@@ -190,9 +190,9 @@ module _ (J : Type 0) {S K C : Type 0} (view : End S K C → EndView) (limit : �
       none_later = All-append (λ (event : Happened). event.caller ≢ caller) run.later known.1.0 run.none_later
           (others_after seat.pass caller history known.1 goes.caller goes.own
           (subst (λ k. entries_by caller_in k history ≡ seat.pass.own) goes.caller known.0));
-      session = subst (λ l. IsSession (Follows (opened first) caller history) limit seat.how seat.turns (view end) (view seat.end)
+      session = subst (λ l. IsSession (FollowsAsked (opened first) caller history) limit seat.how seat.turns (view end) (view seat.end)
           (known_first (opened first) l) run.after) fresh
-          (subst (λ l. IsSession (Follows (opened first) caller l) limit seat.how seat.turns (view end) (view seat.end)
+          (subst (λ l. IsSession (FollowsAsked (opened first) caller l) limit seat.how seat.turns (view end) (view seat.end)
           (known_first (opened first) start.seen) run.after) known.1.1
           (IsSession-later (opened first) caller seat.pass.seen known.1.0 limit seat.how seat.turns (view end) (view seat.end)
           (known_first (opened first) start.seen) run.after run.session));
@@ -231,7 +231,7 @@ module _ (J : Type 0) {S K C : Type 0} (view : End S K C → EndView) (limit : �
       (is_made : made ≡ record { first = first; database = database }) (begins_so : start ≡ first_pass lock made.first callers)
       (ends : List (End S K C)) (is_split : split ≡ record start { splits = length ends })
       (row seats : List (Option (Seat S K C DatabaseView J))) (sits : PairsFrom (SitsIn first.opening start) 1 ends row) (lent : seats ≡ row)
-      (users : first.users ≡ users_of ends) where
+      (users : first.users ≡ users_of_ends ends) where
     begun : start ≡ first_pass lock first callers
     begun = begins_so ∙ ap (λ (v : ServedView). first_pass lock v.first callers) is_made
 
@@ -247,7 +247,7 @@ module _ (J : Type 0) {S K C : Type 0} (view : End S K C → EndView) (limit : �
     sit : PairsFrom (SitsIn first.opening start) 1 ends seats
     sit = subst (λ l. PairsFrom (SitsIn first.opening start) 1 ends l) (sym lent) sits
 
-    is_first : IsFirst lock first split
+    is_first : IsTickersPass lock first split
     is_first = IsFirst-begun lock first callers (length ends) start split begun is_split
 
     all_seated : All (IsSeated lock first) seats
@@ -256,14 +256,14 @@ module _ (J : Type 0) {S K C : Type 0} (view : End S K C → EndView) (limit : �
         (omega arith) (omega (arith, count)) sit
 
     -- the sessions can be served, and the ticker can run
-    pub can_serve : (x : DatabaseView) × IsFirst lock x split × All (IsSeated lock x) seats
+    pub can_serve : (x : DatabaseView) × IsTickersPass lock x split × All (IsSeated lock x) seats
     can_serve = (first, is_first, all_seated)
 
     module _ (gone : CallerPass) (seats' : List (Option (Seat S K C DatabaseView J))) (size : ℕ) (sized : length seats ≡ size)
-        (serves : (x : DatabaseView) → IsFirst lock x split → All (IsSeated lock x) seats
+        (serves : (x : DatabaseView) → IsTickersPass lock x split → All (IsSeated lock x) seats
         → Pairs (ServesSeat view limit x) seats seats')
         (ticker ticker' : TickerView)
-        (ticking : (x : DatabaseView) → IsFirst lock x split → TicksOn x split gone ticker ticker') where
+        (ticking : (x : DatabaseView) → IsTickersPass lock x split → TicksOn x split gone ticker ticker') where
       pairs : Pairs (ServesSeat view limit first) seats seats'
       pairs = serves first is_first all_seated
 

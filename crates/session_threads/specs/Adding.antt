@@ -6,7 +6,7 @@ use Rattle.config_db.specs.declared.answer.Answered.{Answered}
 use Rattle.config_db.specs.declared.answer.Answered.TheVariants.{Kept, NoMemory}
 use Rattle.config_db.specs.Crash.{BothCalled}
 use Rattle.config_db.specs.Disks.{GoesOn}
-use Rattle.config_db.specs.Faults.{AreCounted}
+use Rattle.config_db.specs.Faults.{FaultsAreCounted}
 use Rattle.config_db.specs.Moves.{HasCause}
 use Rattle.config_db.specs.View.{DatabaseView, IsSameRun}
 use Rattle.session_history.specs.declared.history.Happened.{Happened}
@@ -20,7 +20,7 @@ pub record AddsUp (own : List Happened) (v v' : DatabaseView) : Type 0 where
   pub goes : GoesOn v.journal v'.journal
   pub called : Tell v.journal → BothCalled v.journal v'.journal
   pub causes : AllByRecursion (HasCause v.journal v'.journal) own
-  pub counted : AreCounted own (disks_of v.journal) (disks_of v'.journal)
+  pub counted : FaultsAreCounted own (disks_of v.journal) (disks_of v'.journal)
 
 -- what was given, as the database answered
 abbrev pub given_of : Answered → Given0

@@ -12,7 +12,7 @@ use Rattle.config_core.specs.State.{State}
 use Rattle.config_db.specs.declared.answer.Answered.{Answered}
 use Rattle.config_db.specs.declared.answer.Answered.TheVariants.{Kept as Done, NoMemory as Wanting}
 use Rattle.session_history.specs.declared.history.Happened.{Happened}
-use Rattle.session_history.specs.Events.{IsAsked, Leads, is_command, places_of, IsEventOf, NoCommand}
+use Rattle.session_history.specs.Events.{IsAskedAt, Leads, is_command, places_of, IsEventOf, NoCommand}
 use Rattle.session_history.specs.Kept.{WasKept}
 use Rattle.session_shell.specs.declared.door.Given0.{Given0}
 use Rattle.session_shell.specs.declared.door.Given0.TheVariants.{Kept as KeptAt, Seen, NoMemory}
@@ -43,11 +43,11 @@ pub record Grows (opening : State) (caller answer : ℕ) (events events' : List 
 
 -- what belongs to a caller's command at a clock's answer: its event at a place of the history, with the machine's reply
 abbrev pub HasEvent : State → ℕ → List Happened → Command → ℕ → Answered → Type 0
-HasEvent opening caller events command answer (Done place reply) = IsAsked opening events place caller answer command reply
+HasEvent opening caller events command answer (Done place reply) = IsAskedAt opening events place caller answer command reply
 HasEvent opening caller events command answer Wanting = Unit {0}
 
 -- a turn's own events are a settling or a revert, and then, where it was answered, the command, which is the last event
-pub record EndsAt (place : ℕ) (own events : List Happened) : Type 0 where
+pub record EndsAtPlace (place : ℕ) (own events : List Happened) : Type 0 where
   pub front : List Happened
   pub last : Happened
   pub is_own : own ≡ front ++ last ∷ []
@@ -55,7 +55,7 @@ pub record EndsAt (place : ℕ) (own events : List Happened) : Type 0 where
   pub at_end : length events ≡ place + 1
 
 abbrev pub IsTurn : Answered → List Happened → List Happened → Type 0
-IsTurn (Done place reply) own events = EndsAt place own events
+IsTurn (Done place reply) own events = EndsAtPlace place own events
 IsTurn Wanting own events = NoCommand own
 
 -- the places of the events that were answered
@@ -122,11 +122,11 @@ pub record FollowsWanting (opening : State) (caller : ℕ) (d : Known) (command 
   pub front : e.front ≡ d.front
 
 -- what a caller knows of a run after one ask, where all the run's events are these
-abbrev pub Follows : State → ℕ → List Happened → Known → Command → ℕ → Given0 → Known → Type 0
-Follows opening caller final d command answer (KeptAt place reply) e =
+abbrev pub FollowsAsked : State → ℕ → List Happened → Known → Command → ℕ → Given0 → Known → Type 0
+FollowsAsked opening caller final d command answer (KeptAt place reply) e =
     FollowsKept opening caller final d command answer (Done place reply) e
-Follows opening caller final d command answer (Seen front reply) e = FollowsSeen opening final d command answer front reply e
-Follows opening caller final d command answer NoMemory e = FollowsWanting opening caller d command answer e
+FollowsAsked opening caller final d command answer (Seen front reply) e = FollowsSeen opening final d command answer front reply e
+FollowsAsked opening caller final d command answer NoMemory e = FollowsWanting opening caller d command answer e
 
 -- what belongs to a command: its event, or a list that was kept at some moment of the run
 abbrev pub Names : State → ℕ → List Happened → Known → Command → ℕ → Given0 → Type 0
@@ -144,4 +144,4 @@ pub record HasSession (opening : State) (caller limit : ℕ) (events : List Happ
   pub begins : events ≡ after.events ++ later
   pub others_first : AllByRecursion (λ event. event.caller ≢ caller) before
   pub none_later : AllByRecursion (λ event. event.caller ≢ caller) later
-  pub session : IsSession (Follows opening caller events) limit how turns old new (known_first opening before) after
+  pub session : IsSession (FollowsAsked opening caller events) limit how turns old new (known_first opening before) after

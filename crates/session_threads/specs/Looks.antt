@@ -10,9 +10,9 @@ use Rattle.session_threads.specs.declared.ticking.Ticker.{Ticker}
 use Rattle.session_threads.specs.History.{Grows}
 
 -- these are the next answers of a beat or of a clock, in order
-abbrev pub Takes : {A : Type 0} → Option (ℕ → A) → List A → Option (ℕ → A) → Type 0
-Takes before [] now = now ≡ before
-Takes {A} before (answer ∷ answers) now = (next : Option (ℕ → A)) × TakesAnswer before next answer × Takes next answers now
+abbrev pub TakesLook : {A : Type 0} → Option (ℕ → A) → List A → Option (ℕ → A) → Type 0
+TakesLook before [] now = now ≡ before
+TakesLook {A} before (answer ∷ answers) now = (next : Option (ℕ → A)) × TakesAnswer before next answer × TakesLook next answers now
 
 -- one look at the time: others' events came, and then what was due at the clock's answer, none of it a command
 pub record LooksOnce (opening : State) (answer : ℕ) (events events' : List Happened) : Type 0 where
@@ -45,8 +45,8 @@ ticker_view due coming ticker = record { due = due ticker.beat; coming = coming 
 -- a ticker's beat and its clock gave these answers, and it looked at the time at those of the clock
 pub record AreLooks (opening : State) (beats : List Bool) (answers : List ℕ) (old new : TickerView) (events events' : List Happened)
     : Type 0 where
-  pub beat_told : Takes old.due beats new.due
-  pub clock_told : Takes old.coming answers new.coming
+  pub beat_told : TakesLook old.due beats new.due
+  pub clock_told : TakesLook old.coming answers new.coming
   pub looks : Looks opening answers events events'
 
 -- a ticker looked at the time, as often as its beat called for it

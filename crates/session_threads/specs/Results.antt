@@ -11,8 +11,8 @@ use Rattle.session_shell.specs.Transcript.{EndView}
 use Rattle.session_threads.specs.History.{HasSession}
 
 -- the users of ends, in order
-abbrev pub users_of : {S K C : Type 0} → List (End S K C) → List (List ℕ)
-users_of ends = map (λ end. end.user) ends
+abbrev pub users_of_ends : {S K C : Type 0} → List (End S K C) → List (List ℕ)
+users_of_ends ends = map (λ end. end.user) ends
 
 -- the status of a session that ended so
 abbrev pub status_of : How → ℕ

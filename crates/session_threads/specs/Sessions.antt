@@ -12,7 +12,7 @@ use Rattle.session_shell.specs.declared.end.End.{End}
 use Rattle.session_shell.specs.Transcript.{EndView, IsSession}
 use Rattle.session_threads.specs.declared.seat.Seat.{Seat}
 use Rattle.session_threads.specs.Gates.{FollowsIn, GateView, StartsReading, TellsKept}
-use Rattle.session_threads.specs.History.{Follows, Known, known_first}
+use Rattle.session_threads.specs.History.{FollowsAsked, Known, known_first}
 use Rattle.session_threads.specs.Passes.{CallerPass, IsReady, Waited, WentOn}
 use Rattle.session_threads.specs.Results.{SessionResult}
 
@@ -51,7 +51,7 @@ pub record HasRun {E : Type 0} (view : E → EndView) (limit : ℕ) (first : Dat
   pub later : List Happened
   pub begins : new.seen ≡ after.events ++ later
   pub none_later : AllByRecursion (λ event. event.caller ≢ old.caller) later
-  pub session : IsSession (Follows (opened first) old.caller new.seen) limit result.how result.turns (view result.old)
+  pub session : IsSession (FollowsAsked (opened first) old.caller new.seen) limit result.how result.turns (view result.old)
       (view result.new) (known_first (opened first) old.seen) after
 
 -- the session of a pass's caller was served

@@ -8,7 +8,7 @@ use Rattle.session_threads.specs.Looks.{AreLooks, HasLooked, TickerView}
 use Rattle.session_threads.specs.Passes.{CallerPass, KnowsOwn, WentOn}
 
 -- the pass of the ticker, which is caller 0
-pub record IsFirst (lock : TableId) (first : DatabaseView) (pass : CallerPass) : Type 0 where
+pub record IsTickersPass (lock : TableId) (first : DatabaseView) (pass : CallerPass) : Type 0 where
   pub here : pass.lock ≡ lock
   pub fixed : pass.fixed ≡ Some first
   pub nobodys : pass.caller ≡ 0

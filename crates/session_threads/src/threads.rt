@@ -8,7 +8,7 @@ ghost use Rattle.session_shell.specs.Opened.{end_view};
 ghost use Rattle.session_threads.specs.Looks.{ticker_view};
 ghost use Rattle.session_threads.specs.Rows.{Pairs};
 ghost use Rattle.session_threads.specs.Sessions.{IsSeated, ServesSeat};
-ghost use Rattle.session_threads.specs.Ticks.{IsFirst, TicksOn};
+ghost use Rattle.session_threads.specs.Ticks.{IsTickersPass, TicksOn};
 
 use crate::begun::Begun;
 use crate::seat::{Seat, serve_at};
@@ -84,12 +84,12 @@ where
     C: Clock + Send,
     D: Disk + Send,
     J: Naming + Send + Sync,
-    requires { (first : DatabaseView) × IsFirst lock.now first pass.old
+    requires { (first : DatabaseView) × IsTickersPass lock.now first pass.old
         × All (λ seat. T.can_serve seat lock.now first) seats.old }
-    ensures seats { (first : DatabaseView) → IsFirst lock.now first pass.old
+    ensures seats { (first : DatabaseView) → IsTickersPass lock.now first pass.old
         → All (λ seat. T.can_serve seat lock.now first) seats.old
         → Pairs (T.serves limits.input first) seats.old seats.new }
-    ensures ticker { (first : DatabaseView) → IsFirst lock.now first pass.old
+    ensures ticker { (first : DatabaseView) → IsTickersPass lock.now first pass.old
         → TicksOn first pass.old pass.new (ticker_view B.coming C.coming ticker.old)
         (ticker_view B.coming C.coming ticker.new) }
 {
@@ -121,25 +121,25 @@ where
     C: Clock + Send,
     D: Disk + Send,
     J: Naming + Send + Sync,
-    requires { (first : DatabaseView) × IsFirst lock.now first pass.old × T.can_serve seat.old lock.now first
+    requires { (first : DatabaseView) × IsTickersPass lock.now first pass.old × T.can_serve seat.old lock.now first
         × All (λ seat. T.can_serve seat lock.now first) others.old }
     ensures seat { (first : DatabaseView) → T.can_serve seat.old lock.now first
         → T.serves limits.input first seat.old seat.new }
-    ensures others { (first : DatabaseView) → IsFirst lock.now first pass.old
+    ensures others { (first : DatabaseView) → IsTickersPass lock.now first pass.old
         → All (λ seat. T.can_serve seat lock.now first) others.old
         → Pairs (T.serves limits.input first) others.old others.new }
-    ensures ticker { (first : DatabaseView) → IsFirst lock.now first pass.old
+    ensures ticker { (first : DatabaseView) → IsTickersPass lock.now first pass.old
         → TicksOn first pass.old pass.new (ticker_view B.coming C.coming ticker.old)
         (ticker_view B.coming C.coming ticker.new) }
 {
     let mut apart = move ||
         requires { IsSync R.row × IsSend T.row × IsSend B.row × IsSend C.row × IsSend D.row × IsSend J.row × IsSync J.row
-            × ((first : DatabaseView) × IsFirst lock.now first pass.now
+            × ((first : DatabaseView) × IsTickersPass lock.now first pass.now
             × All (λ seat. T.can_serve seat lock.now first) others.now) }
-        ensures { ((first : DatabaseView) → IsFirst lock.entry.now first pass.entry.now
+        ensures { ((first : DatabaseView) → IsTickersPass lock.entry.now first pass.entry.now
             → All (λ seat. T.can_serve seat lock.entry.now first) others.entry.now
             → Pairs (T.serves limits.input first) others.entry.now others.exit.now)
-            × ((first : DatabaseView) → IsFirst lock.entry.now first pass.entry.now
+            × ((first : DatabaseView) → IsTickersPass lock.entry.now first pass.entry.now
             → TicksOn first pass.entry.now pass.exit.now (ticker_view B.coming C.coming ticker.entry.now)
             (ticker_view B.coming C.coming ticker.exit.now)) }
     { serve_seats(rt, alloc, lock, limits, keeps, others, pass, ticker) };

@@ -3,7 +3,7 @@
 ghost use Rattle.std.specs.Prelude.{◌≡◌, Some};
 ghost use Rattle.config_db.specs.View.{DatabaseView};
 ghost use Rattle.session_threads.specs.Looks.{ticker_view};
-ghost use Rattle.session_threads.specs.Ticks.{IsFirst, Ticks, TicksOn};
+ghost use Rattle.session_threads.specs.Ticks.{IsTickersPass, Ticks, TicksOn};
 
 use crate::begun::Begun;
 use crate::deeds::Look;
@@ -29,8 +29,8 @@ fn look<R: Wait, B: Beat, C: Clock, D: Disk, J: Naming>(
     pass: &mut Pass<Happened, Begun<D>>,
     ticker: &mut Ticker<B, C>,
 ) -> bool
-    requires { (first : DatabaseView) × IsFirst lock.now first pass.old }
-    ensures { (first : DatabaseView) → IsFirst lock.now first pass.old
+    requires { (first : DatabaseView) × IsTickersPass lock.now first pass.old }
+    ensures { (first : DatabaseView) → IsTickersPass lock.now first pass.old
         → Ticks result first pass.old pass.new (ticker_view B.coming C.coming ticker.old)
         (ticker_view B.coming C.coming ticker.new) }
 {
@@ -48,8 +48,8 @@ pub(crate) fn tick_along<R: Wait, B: Beat, C: Clock, D: Disk, J: Naming>(
     pass: &mut Pass<Happened, Begun<D>>,
     ticker: &mut Ticker<B, C>,
 )
-    requires { (first : DatabaseView) × IsFirst lock.now first pass.old }
-    ensures { (first : DatabaseView) → IsFirst lock.now first pass.old
+    requires { (first : DatabaseView) × IsTickersPass lock.now first pass.old }
+    ensures { (first : DatabaseView) → IsTickersPass lock.now first pass.old
         → TicksOn first pass.old pass.new (ticker_view B.coming C.coming ticker.old)
         (ticker_view B.coming C.coming ticker.new) }
 {

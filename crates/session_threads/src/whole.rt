@@ -5,7 +5,7 @@ ghost use Rattle.commit_ledger.specs.Kept.{Kept};
 ghost use Rattle.config_db.specs.View.{opened};
 ghost use Rattle.session_shell.specs.Opened.{end_view};
 ghost use Rattle.session_threads.specs.Looks.{ticker_view};
-ghost use Rattle.session_threads.specs.Results.{status_of, users_of};
+ghost use Rattle.session_threads.specs.Results.{status_of, users_of_ends};
 ghost use Rattle.session_threads.specs.Rows.{AreLeft, HasRoom, IsSeatOf, NoneServed, PairsFrom, SitsIn};
 ghost use Rattle.session_threads.specs.Served.{AreServed, HasReaders};
 
@@ -216,7 +216,7 @@ where
     D: Disk + Send,
     J: Naming + Send + Sync,
     requires fresh { (database.events ≡ []) × (database.state ≡ opened database) }
-    requires users { database.users ≡ users_of ends.items }
+    requires users { database.users ≡ users_of_ends ends.items }
     requires readers { HasReaders database.opening (length ends.items) database.readers }
     requires room { HasRoom (length ends.items) room }
     requires few { length ends.items ≤ 64 }

@@ -19,7 +19,7 @@ use Rattle.set_text.specs.Printed.{Line, spaced, printed_lines}
 use Rattle.commands.specs.Verb.{keyword, op_of}
 use Rattle.cfg_lex.specs.Lexed.{Lexed, is_word_kind}
 use Rattle.set_text.specs.Form.{form_of, parts_in, kinds_of, IsPlain, IsTail, words_among, Spells}
-use Rattle.set_text.specs.Lines.{lines_in, Asks, AreRead, AsksFor}
+use Rattle.set_text.specs.Lines.{lines_in, AsksChange, AreRead, AsksFor}
 use Rattle.set_text.specs.Stop.{without_cr}
 use Rattle.set_text.specs.Back.{changes_of, IsReadable, AreReadable}
 use Rattle.set_text.proofs.CutLemmas.{line_ended, without_cr_more}
@@ -204,7 +204,7 @@ tail_is true kinds plain = inl plain
 tail_is false kinds plain = plain
 
 -- a printed line asks for its change
-line_asks : (it : Line) → IsReadable it → Asks (body it) (op_of it.verb it.words)
+line_asks : (it : Line) → IsReadable it → AsksChange (body it) (op_of it.verb it.words)
 line_asks it readable =
     let key = keyword_is it.verb in
     let lexed = words_lexed it.words readable.words in

@@ -20,8 +20,8 @@ use Rattle.set_text.specs.declared.phase.Phase.TheVariants.{Bare}
 use Rattle.cfg_lex.specs.Lexed.{Lexed, lexed_in, is_word_kind}
 use Rattle.set_text.specs.Form.{parts_in, kinds_of, form_of, words_among, IsTail, AsksBehind, Spells, Begins, IsNoLine}
 use Rattle.commands.specs.Verb.{op_of}
-use Rattle.set_text.specs.Phase.{kinds_in, Leads, StopsFrom}
-use Rattle.set_text.specs.Fit.{form_at, FitsOneList, BeginsBehind, StopsIn, IsAround, FitsBehind, StopsBehind, SpellsAround, Fits}
+use Rattle.set_text.specs.Phase.{kinds_in, PhaseLeads, StopsFrom}
+use Rattle.set_text.specs.Fit.{form_at, FitsOneList, BeginsBehind, StopsIn, IsAround, FitsBehind, StopsBehind, SpellsAround, FitsForms}
 use Rattle.set_text.proofs.PhaseLemmas.{tail_of, tail_more, not_tail, not_tail_yet}
 
 -- the kinds of parts are those of their tokens
@@ -81,7 +81,7 @@ begun_behind first rest form begun line =
     record { more = line.more; change = line.change; asked = behind_line first (rest ++ line.more) form line.change begun line.spelled }
 
 -- tokens that lead somewhere begin a list of words
-one_list_begun : (verb : Verb) (brackets : Bool) (parts : List Lexed) (phase : Phase) → Leads brackets Bare (kinds_of parts) phase → BeginsBehind (OneList verb brackets) parts
+one_list_begun : (verb : Verb) (brackets : Bool) (parts : List Lexed) (phase : Phase) → PhaseLeads brackets Bare (kinds_of parts) phase → BeginsBehind (OneList verb brackets) parts
 one_list_begun verb brackets parts phase leads =
     let on = tail_more brackets (kinds_of parts) phase leads in
     record {
@@ -118,12 +118,12 @@ no_form first rest none line =
     let e = sym some ∙ none in cc
 
 -- a line without tokens
-pub fits_nothing : (text : List ℕ) (tokens : List Token) → length tokens < 1 → Fits text tokens More
+pub fits_nothing : (text : List ℕ) (tokens : List Token) → length tokens < 1 → FitsForms text tokens More
 fits_nothing text [] none = (nothing_begun, nothing_is_no_line)
 fits_nothing text (first ∷ rest) none = absurd (omega (arith, none))
 
 -- a line whose first token begins no form
-pub fits_no_form : (text : List ℕ) (tokens : List Token) (d : Token) → 1 ≤ length tokens → form_at (is_word_kind (get_or tokens 0 d).kind) (word_in text (get_or tokens 0 d)) ≡ None → Fits text tokens (Stops 0)
+pub fits_no_form : (text : List ℕ) (tokens : List Token) (d : Token) → 1 ≤ length tokens → form_at (is_word_kind (get_or tokens 0 d).kind) (word_in text (get_or tokens 0 d)) ≡ None → FitsForms text tokens (Stops 0)
 fits_no_form text [] d some none = absurd (omega (arith, some))
 fits_no_form text (first ∷ rest) d some none =
     record { within = omega arith; begun = nothing_begun; not_more = no_form (lexed_in text first) [] none }
@@ -143,7 +143,7 @@ take_next tokens token rest place here =
 -- so many tokens of a list of words
 one_list_stops : (text : List ℕ) (verb : Verb) (brackets : Bool) (tokens : List Token) (place : ℕ) → StopsFrom brackets tokens place → StopsIn text (OneList verb brackets) tokens place
 one_list_stops text verb brackets tokens place stops =
-    let leads = subst (λ ks. Leads brackets Bare ks stops.phase) (sym (kinds_of_parts text (take place tokens))) stops.leads in
+    let leads = subst (λ ks. PhaseLeads brackets Bare ks stops.phase) (sym (kinds_of_parts text (take place tokens))) stops.leads in
     record {
       within = stops.within;
       begun = one_list_begun verb brackets (parts_in text (take place tokens)) stops.phase leads;
@@ -158,12 +158,12 @@ one_list_stops text verb brackets tokens place stops =
 pub fits_one_list : (text : List ℕ) (verb : Verb) (brackets : Bool) (tokens : List Token) (fit : Fit) → FitsOneList verb brackets tokens fit → FitsBehind text (OneList verb brackets) tokens fit
 fits_one_list text verb brackets tokens (Stops count) fits = (fits.0, fits.1, one_list_stops text verb brackets tokens fits.0 fits.2)
 fits_one_list text verb brackets tokens More fits =
-    let leads = subst (λ ks. Leads brackets Bare ks fits.phase) (sym (kinds_of_parts text tokens)) fits.leads in (
+    let leads = subst (λ ks. PhaseLeads brackets Bare ks fits.phase) (sym (kinds_of_parts text tokens)) fits.leads in (
       one_list_begun verb brackets (parts_in text tokens) fits.phase leads,
       λ change asked. not_tail_yet brackets (kinds_of (parts_in text tokens)) fits.phase leads fits.ends_there asked.0,
     )
 fits_one_list text verb brackets tokens (Whole kind) fits =
-    let leads = subst (λ ks. Leads brackets Bare ks fits.0.phase) (sym (kinds_of_parts text tokens)) fits.0.leads in (
+    let leads = subst (λ ks. PhaseLeads brackets Bare ks fits.0.phase) (sym (kinds_of_parts text tokens)) fits.0.leads in (
       tail_of brackets (kinds_of (parts_in text tokens)) fits.0.phase leads fits.0.ends_there,
       ap (λ v. op_of v (words_among (parts_in text tokens))) fits.1,
     )
@@ -195,7 +195,7 @@ around_behind text first rest form mover place is around =
           (moves.op_of mover (words_among (parts_in text (take place rest))) (words_among (parts_in text (drop (place + 1) rest)))) is around.asked));
     }
 
-fits_behind_is : (text : List ℕ) (first : Token) (rest : List Token) (form : Form) (fit : Fit) → IsBegun (lexed_in text first) form → FitsBehind text form rest fit → Fits text (first ∷ rest) fit
+fits_behind_is : (text : List ℕ) (first : Token) (rest : List Token) (form : Form) (fit : Fit) → IsBegun (lexed_in text first) form → FitsBehind text form rest fit → FitsForms text (first ∷ rest) fit
 fits_behind_is text first rest form (Stops count) is fits =
     subst (StopsBehind text (first ∷ rest)) (sym fits.1) (stops_behind text first rest form fits.0 is fits.2)
 fits_behind_is text first rest form More is fits = (
@@ -210,7 +210,7 @@ fits_behind_is text first rest form (Around mover at) is fits =
     subst (SpellsAround text (first ∷ rest) mover) (sym fits.1) (around_behind text first rest form mover fits.0 is fits.2)
 
 -- a line that a form begins
-pub fits_behind : (text : List ℕ) (tokens : List Token) (d : Token) (form : Form) (fit : Fit) → 1 ≤ length tokens → form_at (is_word_kind (get_or tokens 0 d).kind) (word_in text (get_or tokens 0 d)) ≡ Some form → FitsBehind text form (take (length tokens - 1) (drop 1 tokens)) fit → Fits text tokens fit
+pub fits_behind : (text : List ℕ) (tokens : List Token) (d : Token) (form : Form) (fit : Fit) → 1 ≤ length tokens → form_at (is_word_kind (get_or tokens 0 d).kind) (word_in text (get_or tokens 0 d)) ≡ Some form → FitsBehind text form (take (length tokens - 1) (drop 1 tokens)) fit → FitsForms text tokens fit
 fits_behind text [] d form fit some begun fits = absurd (omega (arith, some))
 fits_behind text (first ∷ rest) d form fit some begun fits =
     let is = begun_if (is_word_kind first.kind) (lexed_in text first).word form begun in

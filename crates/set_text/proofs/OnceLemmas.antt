@@ -15,7 +15,7 @@ use Rattle.set_text.specs.declared.fault.LineFault.TheVariants.{Line, NoMemory}
 use Rattle.cfg_lex.specs.Lexed.{Lexed, lexed_in}
 use Rattle.set_text.specs.declared.form.Form.TheVariants.{OneList, TwoLists}
 use Rattle.set_text.specs.Form.{parts_in, form_of, AsksBehind, Spells, Begins}
-use Rattle.set_text.specs.Lines.{op_line, IsPlaceOf, IsSkipped, Asks, EndsAt, StopsAt, IsRefused, AreRead, AsksFor, IsLineFault}
+use Rattle.set_text.specs.Lines.{op_line, IsPlaceOf, IsSkipped, AsksChange, EndsAt, StopsAt, IsRefused, AreRead, AsksFor, IsLineFault}
 use Rattle.set_text.proofs.FormLemmas.{nothing_is_no_line}
 use Rattle.set_text.proofs.TwoListsLemmas.{two_lists_once}
 use Rattle.set_text.proofs.ReadLemmas.{whole_begun}
@@ -108,12 +108,12 @@ refused_once line m n one other =
         (subst (λ vs. Begins (parts_in line (take c vs))) same_tokens c_begun) d_begun
         (subst (λ h. StopsAt line us c (drop c us) h m) same_fault (subst (λ vs. StopsAt line vs c (drop c vs) f m) same_tokens stops)) other_stops
 
-pub asked_once : (line : List ℕ) (one other : Op) → Asks line one → Asks line other → one ≡ other
+pub asked_once : (line : List ℕ) (one other : Op) → AsksChange line one → AsksChange line other → one ≡ other
 asked_once line one other a b =
     let same = one_cut line a.tokens b.tokens None None a.cut b.cut in
     spelled_once (parts_in line b.tokens) one other (subst (λ ts. Spells (parts_in line ts) one) same.0 a.spelled) b.spelled
 
-pub not_skipped : (line : List ℕ) (change : Op) → IsSkipped line → Asks line change → ⊥
+pub not_skipped : (line : List ℕ) (change : Op) → IsSkipped line → AsksChange line change → ⊥
 not_skipped line change skipped asks =
     let same = one_cut line asks.tokens [] None None asks.cut skipped in
     nothing_is_no_line change (subst (λ ts. Spells (parts_in line ts) change) same.0 asks.spelled)
@@ -133,7 +133,7 @@ not_stopped line tokens count place (inr whole) within stops =
 
 -- what a line says that isn't refused
 abbrev Passes : List ℕ → Type 0
-Passes line = IsSkipped line ⊎ ((change : Op) × Asks line change)
+Passes line = IsSkipped line ⊎ ((change : Op) × AsksChange line change)
 
 passed_tokens : (line : List ℕ) → Passes line → (tokens : List Token) × IsCut line tokens None × ((length tokens ≡ 0) ⊎ ((change : Op) × Spells (parts_in line tokens) change))
 passed_tokens line (inl skipped) = ([], skipped, inl refl)

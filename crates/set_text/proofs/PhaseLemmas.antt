@@ -10,20 +10,20 @@ use Rattle.set_text.specs.declared.phase.Phase.{Phase}
 use Rattle.set_text.specs.declared.phase.Phase.TheVariants.{Bare, Words, Opened, Inside, Closed}
 use Rattle.cfg_lex.specs.Lexed.{is_word_kind}
 use Rattle.set_text.specs.Form.{AreWords, IsPlain, IsBracketed, IsTail}
-use Rattle.set_text.specs.Phase.{on_word, on_open, on_close, next, ends_at, kinds_in, Leads}
+use Rattle.set_text.specs.Phase.{on_word, on_open, on_close, next, ends_at, kinds_in, PhaseLeads}
 
-pub leads_both : (brackets : Bool) (from middle to : Phase) (xs ys : List TokenKind) → Leads brackets from xs middle → Leads brackets middle ys to → Leads brackets from (xs ++ ys) to
-leads_both brackets from middle to [] ys front back = subst (λ p. Leads brackets p ys to) (sym front) back
+pub leads_both : (brackets : Bool) (from middle to : Phase) (xs ys : List TokenKind) → PhaseLeads brackets from xs middle → PhaseLeads brackets middle ys to → PhaseLeads brackets from (xs ++ ys) to
+leads_both brackets from middle to [] ys front back = subst (λ p. PhaseLeads brackets p ys to) (sym front) back
 leads_both brackets from middle to (x ∷ xs) ys front back =
     (front.0, front.1, leads_both brackets front.0 middle to xs ys front.2 back)
 
 -- tokens that lead somewhere lead somewhere with each front of them
 pub record Parted (brackets : Bool) (from : Phase) (xs ys : List TokenKind) (to : Phase) : Type 0 where
   pub middle : Phase
-  pub front : Leads brackets from xs middle
-  pub back : Leads brackets middle ys to
+  pub front : PhaseLeads brackets from xs middle
+  pub back : PhaseLeads brackets middle ys to
 
-pub leads_parted : (brackets : Bool) (from to : Phase) (xs ys : List TokenKind) → Leads brackets from (xs ++ ys) to → Parted brackets from xs ys to
+pub leads_parted : (brackets : Bool) (from to : Phase) (xs ys : List TokenKind) → PhaseLeads brackets from (xs ++ ys) to → Parted brackets from xs ys to
 leads_parted brackets from to [] ys leads = record { middle = from; front = refl; back = leads }
 leads_parted brackets from to (x ∷ xs) ys leads =
     let rest = leads_parted brackets leads.0 to xs ys leads.2 in
@@ -36,11 +36,11 @@ pub none_or_some : (p : Phase) (o : Option Phase) → o ≡ Some p → o ≡ Non
 none_or_some p o some none = cc
 
 -- tokens lead to one phase
-pub leads_once : (brackets : Bool) (from p q : Phase) (xs : List TokenKind) → Leads brackets from xs p → Leads brackets from xs q → p ≡ q
+pub leads_once : (brackets : Bool) (from p q : Phase) (xs : List TokenKind) → PhaseLeads brackets from xs p → PhaseLeads brackets from xs q → p ≡ q
 leads_once brackets from p q [] one other = sym one ∙ other
 leads_once brackets from p q (x ∷ xs) one other =
     leads_once brackets other.0 p q xs
-    (subst (λ r. Leads brackets r xs p) (same_some one.0 other.0 (next brackets from x) one.1 other.1) one.2) other.2
+    (subst (λ r. PhaseLeads brackets r xs p) (same_some one.0 other.0 (next brackets from x) one.1 other.1) one.2) other.2
 
 -- a word behind words is one of them
 word_on : (phase : Phase) (x : TokenKind) (brackets : Bool) → is_word_kind x ≡ true → next brackets phase x ≡ on_word phase
@@ -61,9 +61,9 @@ kinds_more tokens i d within =
     ap kinds_in (take_more tokens i d within) ∙ map-append (λ (t : Token). t.kind) (take i tokens) (get_or tokens i d ∷ [])
 
 -- one token more
-pub leads_more : (brackets : Bool) (from p q : Phase) (tokens : List Token) (i : ℕ) (d : Token) → i < length tokens → Leads brackets from (kinds_in (take i tokens)) p → next brackets p (get_or tokens i d).kind ≡ Some q → Leads brackets from (kinds_in (take (i + 1) tokens)) q
+pub leads_more : (brackets : Bool) (from p q : Phase) (tokens : List Token) (i : ℕ) (d : Token) → i < length tokens → PhaseLeads brackets from (kinds_in (take i tokens)) p → next brackets p (get_or tokens i d).kind ≡ Some q → PhaseLeads brackets from (kinds_in (take (i + 1) tokens)) q
 leads_more brackets from p q tokens i d within leads on =
-    subst (λ ks. Leads brackets from ks q) (sym (kinds_more tokens i d within))
+    subst (λ ks. PhaseLeads brackets from ks q) (sym (kinds_more tokens i d within))
     (leads_both brackets from p q (kinds_in (take i tokens)) ((get_or tokens i d).kind ∷ []) leads (q, on, refl))
 
 -- what a step is: of a word or of a bracket
@@ -81,31 +81,31 @@ way_of brackets phase after kind.Semicolon on = absurd cc
 way_of brackets phase after kind.Bare on = Word refl on
 way_of brackets phase after kind.Quoted on = Word refl on
 
-words_lead : (brackets : Bool) (xs : List TokenKind) → AreWords xs → Leads brackets Words xs Words
+words_lead : (brackets : Bool) (xs : List TokenKind) → AreWords xs → PhaseLeads brackets Words xs Words
 words_lead brackets [] words = refl
 words_lead brackets (x ∷ xs) words =
     let both = both_true (is_word_kind x) (list_all is_word_kind xs) words in
     (Words, word_on Words x brackets both.0, words_lead brackets xs both.1)
 
-inside_lead : (brackets : Bool) (xs : List TokenKind) → AreWords xs → Leads brackets Inside xs Inside
+inside_lead : (brackets : Bool) (xs : List TokenKind) → AreWords xs → PhaseLeads brackets Inside xs Inside
 inside_lead brackets [] words = refl
 inside_lead brackets (x ∷ xs) words =
     let both = both_true (is_word_kind x) (list_all is_word_kind xs) words in
     (Inside, word_on Inside x brackets both.0, inside_lead brackets xs both.1)
 
-plain_leads : (brackets : Bool) (xs : List TokenKind) → IsPlain xs → Leads brackets Bare xs Words
+plain_leads : (brackets : Bool) (xs : List TokenKind) → IsPlain xs → PhaseLeads brackets Bare xs Words
 plain_leads brackets [] plain = absurd (omega (arith, plain.some))
 plain_leads brackets (x ∷ xs) plain =
     let both = both_true (is_word_kind x) (list_all is_word_kind xs) plain.words in
     (Words, word_on Bare x brackets both.0, words_lead brackets xs both.1)
 
-opened_leads : (xs : List TokenKind) → AreWords xs → 0 < length xs → Leads true Opened (xs ++ kind.CloseBracket ∷ []) Closed
+opened_leads : (xs : List TokenKind) → AreWords xs → 0 < length xs → PhaseLeads true Opened (xs ++ kind.CloseBracket ∷ []) Closed
 opened_leads [] words some = absurd (omega (arith, some))
 opened_leads (x ∷ xs) words some =
     let both = both_true (is_word_kind x) (list_all is_word_kind xs) words in
     (Inside, word_on Opened x true both.0, leads_both true Inside Inside Closed xs (kind.CloseBracket ∷ []) (inside_lead true xs both.1) (Closed, refl, refl))
 
-bracketed_leads : (front inside : List TokenKind) → AreWords front → AreWords inside → 0 < length inside → Leads true Bare (front ++ kind.OpenBracket ∷ (inside ++ kind.CloseBracket ∷ [])) Closed
+bracketed_leads : (front inside : List TokenKind) → AreWords front → AreWords inside → 0 < length inside → PhaseLeads true Bare (front ++ kind.OpenBracket ∷ (inside ++ kind.CloseBracket ∷ [])) Closed
 bracketed_leads [] inside front_words words some = (Opened, refl, opened_leads inside words some)
 bracketed_leads (x ∷ xs) inside front_words words some =
     leads_both true Bare Words Closed (x ∷ xs) (kind.OpenBracket ∷ (inside ++ kind.CloseBracket ∷ []))
@@ -115,20 +115,20 @@ bracketed_leads (x ∷ xs) inside front_words words some =
 -- tokens lead from a keyword to where a line may end
 pub record Ends (brackets : Bool) (xs : List TokenKind) : Type 0 where
   pub phase : Phase
-  pub leads : Leads brackets Bare xs phase
+  pub leads : PhaseLeads brackets Bare xs phase
   pub ends : ends_at phase ≡ true
 
 pub tail_ends : (brackets : Bool) (xs : List TokenKind) → IsTail brackets xs → Ends brackets xs
 tail_ends true xs (inl plain) = record { phase = Words; leads = plain_leads true xs plain; ends = refl }
 tail_ends true xs (inr it) = record {
   phase = Closed;
-  leads = subst (λ ks. Leads true Bare ks Closed) (sym it.joined) (bracketed_leads it.front it.inside it.front_words it.inside_words it.some);
+  leads = subst (λ ks. PhaseLeads true Bare ks Closed) (sym it.joined) (bracketed_leads it.front it.inside it.front_words it.inside_words it.some);
   ends = refl;
 }
 tail_ends false xs plain = record { phase = Words; leads = plain_leads false xs plain; ends = refl }
 
 -- what is left of a line behind a phase
-closed_left : (brackets : Bool) (xs : List TokenKind) (q : Phase) → Leads brackets Closed xs q → xs ≡ []
+closed_left : (brackets : Bool) (xs : List TokenKind) (q : Phase) → PhaseLeads brackets Closed xs q → xs ≡ []
 closed_left brackets [] q leads = refl
 closed_left true (x ∷ xs) q leads =
     elim (way_of true Closed leads.0 x leads.1) as (λ _. x ∷ xs ≡ []) [
@@ -158,10 +158,10 @@ inner_more x xs word it = record { inside = x ∷ it.inside; joined = ap (λ ks.
 inner_none : (x : TokenKind) (xs : List TokenKind) → x ≡ kind.CloseBracket → xs ≡ [] → Inner (x ∷ xs)
 inner_none x xs is none = record { inside = []; joined = ap (λ k. k ∷ xs) is ∙ ap (λ ks. kind.CloseBracket ∷ ks) none; words = refl }
 
-into : (brackets : Bool) (p r q : Phase) (xs : List TokenKind) → Some p ≡ Some r → Leads brackets r xs q → Leads brackets p xs q
-into brackets p r q xs same leads = let is : r ≡ p = cc in subst (λ s. Leads brackets s xs q) is leads
+into : (brackets : Bool) (p r q : Phase) (xs : List TokenKind) → Some p ≡ Some r → PhaseLeads brackets r xs q → PhaseLeads brackets p xs q
+into brackets p r q xs same leads = let is : r ≡ p = cc in subst (λ s. PhaseLeads brackets s xs q) is leads
 
-inside_left : (brackets : Bool) (xs : List TokenKind) (q : Phase) → Leads brackets Inside xs q → ends_at q ≡ true → Inner xs
+inside_left : (brackets : Bool) (xs : List TokenKind) (q : Phase) → PhaseLeads brackets Inside xs q → ends_at q ≡ true → Inner xs
 inside_left brackets [] q leads ends = absurd (let e = ap ends_at leads in cc)
 inside_left true (x ∷ xs) q leads ends =
     elim (way_of true Inside leads.0 x leads.1) as (λ _. Inner (x ∷ xs)) [
@@ -177,7 +177,7 @@ inside_left false (x ∷ xs) q leads ends =
     ]
 
 -- words and then one or more words in brackets
-bracket : (x : TokenKind) (xs : List TokenKind) (q : Phase) → x ≡ kind.OpenBracket → Leads true Opened xs q → ends_at q ≡ true → IsBracketed (x ∷ xs)
+bracket : (x : TokenKind) (xs : List TokenKind) (q : Phase) → x ≡ kind.OpenBracket → PhaseLeads true Opened xs q → ends_at q ≡ true → IsBracketed (x ∷ xs)
 bracket x [] q is leads ends = absurd (let e = ap ends_at leads in cc)
 bracket x (y ∷ xs) q is leads ends =
     elim (way_of true Opened leads.0 y leads.1) as (λ _. IsBracketed (x ∷ y ∷ xs)) [
@@ -205,7 +205,7 @@ bracketed_more x xs word it = record {
   some = it.some;
 }
 
-words_left : (xs : List TokenKind) (q : Phase) → Leads true Words xs q → ends_at q ≡ true → AreWords xs ⊎ IsBracketed xs
+words_left : (xs : List TokenKind) (q : Phase) → PhaseLeads true Words xs q → ends_at q ≡ true → AreWords xs ⊎ IsBracketed xs
 words_left [] q leads ends = inl refl
 words_left (x ∷ xs) q leads ends =
     elim (way_of true Words leads.0 x leads.1) as (λ _. AreWords (x ∷ xs) ⊎ IsBracketed (x ∷ xs)) [
@@ -218,7 +218,7 @@ words_left (x ∷ xs) q leads ends =
       | Close is on ↦ absurd cc
     ]
 
-plain_left : (xs : List TokenKind) (q : Phase) → Leads false Words xs q → AreWords xs
+plain_left : (xs : List TokenKind) (q : Phase) → PhaseLeads false Words xs q → AreWords xs
 plain_left [] q leads = refl
 plain_left (x ∷ xs) q leads =
     elim (way_of false Words leads.0 x leads.1) as (λ _. AreWords (x ∷ xs)) [
@@ -231,7 +231,7 @@ first_word : (x : TokenKind) (xs : List TokenKind) → is_word_kind x ≡ true �
 first_word x xs word (inl words) = inl (record { words = with_word x xs word words; some = omega arith })
 first_word x xs word (inr it) = inr (bracketed_more x xs word it)
 
-pub tail_of : (brackets : Bool) (xs : List TokenKind) (q : Phase) → Leads brackets Bare xs q → ends_at q ≡ true → IsTail brackets xs
+pub tail_of : (brackets : Bool) (xs : List TokenKind) (q : Phase) → PhaseLeads brackets Bare xs q → ends_at q ≡ true → IsTail brackets xs
 tail_of brackets [] q leads ends = absurd (let e = ap ends_at leads in cc)
 tail_of true (x ∷ xs) q leads ends =
     elim (way_of true Bare leads.0 x leads.1) as (λ _. IsTail true (x ∷ xs)) [
@@ -250,7 +250,7 @@ tail_of false (x ∷ xs) q leads ends =
 pub record Completes (brackets : Bool) (phase : Phase) : Type 0 where
   pub more : List TokenKind
   pub last : Phase
-  pub leads : Leads brackets phase more last
+  pub leads : PhaseLeads brackets phase more last
   pub ends : ends_at last ≡ true
 
 pub completes : (brackets : Bool) (phase : Phase) → Completes brackets phase
@@ -265,13 +265,13 @@ pub record TailMore (brackets : Bool) (xs : List TokenKind) : Type 0 where
   pub more : List TokenKind
   pub tail : IsTail brackets (xs ++ more)
 
-pub tail_more : (brackets : Bool) (xs : List TokenKind) (phase : Phase) → Leads brackets Bare xs phase → TailMore brackets xs
+pub tail_more : (brackets : Bool) (xs : List TokenKind) (phase : Phase) → PhaseLeads brackets Bare xs phase → TailMore brackets xs
 tail_more brackets xs phase leads =
     let on = completes brackets phase in
     record { more = on.more; tail = tail_of brackets (xs ++ on.more) on.last (leads_both brackets Bare phase on.last xs on.more leads on.leads) on.ends }
 
 -- a token that may not stand behind those before it
-pub not_tail : (brackets : Bool) (xs ys : List TokenKind) (x : TokenKind) (phase : Phase) → Leads brackets Bare xs phase → next brackets phase x ≡ None → IsTail brackets (xs ++ x ∷ ys) → ⊥
+pub not_tail : (brackets : Bool) (xs ys : List TokenKind) (x : TokenKind) (phase : Phase) → PhaseLeads brackets Bare xs phase → next brackets phase x ≡ None → IsTail brackets (xs ++ x ∷ ys) → ⊥
 not_tail brackets xs ys x phase leads none tail =
     let it = tail_ends brackets (xs ++ x ∷ ys) tail in
     let parted = leads_parted brackets Bare it.phase xs (x ∷ ys) it.leads in
@@ -280,7 +280,7 @@ not_tail brackets xs ys x phase leads none tail =
     (subst (λ p. next brackets p x ≡ Some parted.back.0) same parted.back.1) none
 
 -- the tokens lead to where no line may end
-pub not_tail_yet : (brackets : Bool) (xs : List TokenKind) (phase : Phase) → Leads brackets Bare xs phase → ends_at phase ≡ false → IsTail brackets xs → ⊥
+pub not_tail_yet : (brackets : Bool) (xs : List TokenKind) (phase : Phase) → PhaseLeads brackets Bare xs phase → ends_at phase ≡ false → IsTail brackets xs → ⊥
 not_tail_yet brackets xs phase leads ends tail =
     let it = tail_ends brackets xs tail in
     let same = leads_once brackets Bare it.phase phase xs it.leads leads in

@@ -11,8 +11,8 @@ use Rattle.set_text.specs.declared.stop.Stop.TheVariants.{At, NoMemory}
 use Rattle.set_text.specs.declared.fit.Fit.TheVariants.{More}
 use Rattle.cfg_lex.specs.Lexed.{Lexed}
 use Rattle.set_text.specs.Form.{parts_in, Spells, Begins}
-use Rattle.set_text.specs.Fit.{Fits, StopsBehind}
-use Rattle.set_text.specs.Lines.{told, lines_in, IsSkipped, Asks, StopsAt, IsRefused, AreRead, IsFirstRefused}
+use Rattle.set_text.specs.Fit.{FitsForms, StopsBehind}
+use Rattle.set_text.specs.Lines.{told, lines_in, IsSkipped, AsksChange, StopsAt, IsRefused, AreRead, IsFirstRefused}
 use Rattle.set_text.specs.Stop.{IsStopOf, Says, IsReadTo}
 
 -- what a line says that isn't refused
@@ -41,7 +41,7 @@ refused_at_fault line tokens fault (At place) cut begun is = stops_last line tok
 refused_at_fault line tokens fault NoMemory cut begun is = tt
 
 -- at its end
-pub refused_at_end : (line : List ℕ) (tokens : List Token) (place : ℕ) → IsCut line tokens None → Fits line tokens More → length tokens == 0 ≡ false → place ≡ told (length line) → IsRefused line place
+pub refused_at_end : (line : List ℕ) (tokens : List Token) (place : ℕ) → IsCut line tokens None → FitsForms line tokens More → length tokens == 0 ≡ false → place ≡ told (length line) → IsRefused line place
 refused_at_end line [] place cut more some is = absurd cc
 refused_at_end line (token ∷ tokens) place cut more some is = stops_last line (token ∷ tokens) None place cut more.0 (omega arith, more.1, is)
 
@@ -90,7 +90,7 @@ skipped_more text rest behind line count number changes so_far first next skippe
   counted = longer so_far.lines line count number so_far.counted next;
 }
 
-pub change_more : (text rest behind line : List ℕ) (count number : ℕ) (changes : List OpLine) (change : Op) → IsReadTo text rest count changes → lines_in rest ≡ line ∷ lines_in behind → number ≡ told (count + 1) → Asks line change → IsReadTo text behind number (changes ++ record { line = number; op = change } ∷ [])
+pub change_more : (text rest behind line : List ℕ) (count number : ℕ) (changes : List OpLine) (change : Op) → IsReadTo text rest count changes → lines_in rest ≡ line ∷ lines_in behind → number ≡ told (count + 1) → AsksChange line change → IsReadTo text behind number (changes ++ record { line = number; op = change } ∷ [])
 change_more text rest behind line count number changes change so_far first next asks =
     let is : number ≡ told (1 + length so_far.lines) = omega (arith, so_far.counted, next) in
     record {

@@ -18,7 +18,7 @@ use Rattle.set_text.specs.declared.fit.Fit.TheVariants.{Stops, More, Around}
 use Rattle.set_text.specs.declared.phase.Phase.{Phase}
 use Rattle.set_text.specs.declared.phase.Phase.TheVariants.{Bare}
 use Rattle.set_text.specs.Form.{parts_in, kinds_of, mover_of, is_name, words_among, AreWords, IsPlain, AreTwoLists}
-use Rattle.set_text.specs.Phase.{next, Leads, StopsFrom}
+use Rattle.set_text.specs.Phase.{next, PhaseLeads, StopsFrom}
 use Rattle.set_text.specs.Fit.{Reaches, AreNames, BeginsBehind, FitsBehind}
 use Rattle.set_text.proofs.PhaseLemmas.{tail_of, tail_more, not_tail, not_tail_yet}
 use Rattle.set_text.proofs.FormLemmas.{parts_of, kinds_of_parts, kinds_more, kinds_between, take_next}
@@ -183,7 +183,7 @@ plain_behind one other mover parts behind mark change is it =
     let same = first_mark one other it.mover mover it.front parts it.behind behind it.mark mark it.names is.names it.marked is.marked (sym it.joined) in
     subst (λ (ps : List Lexed). IsPlain (kinds_of ps)) same.2 it.words
 
-marked_begun : (one other mover : Mover) (parts behind : List Lexed) (mark : Lexed) (phase : Phase) → IsMarked one other parts mark mover → Leads false Bare (kinds_of behind) phase → BeginsBehind (TwoLists one other) (parts ++ mark ∷ behind)
+marked_begun : (one other mover : Mover) (parts behind : List Lexed) (mark : Lexed) (phase : Phase) → IsMarked one other parts mark mover → PhaseLeads false Bare (kinds_of behind) phase → BeginsBehind (TwoLists one other) (parts ++ mark ∷ behind)
 marked_begun one other mover parts behind mark phase is leads =
     let on = tail_more false (kinds_of behind) phase leads in
     record {
@@ -193,7 +193,7 @@ marked_begun one other mover parts behind mark phase is leads =
           (two_lists_of one other mover parts (behind ++ parts_of on.more) mark is (subst IsPlain (sym (kinds_more behind on.more)) on.tail));
     }
 
-marked_not_begun : (one other mover : Mover) (parts behind : List Lexed) (mark part : Lexed) (phase : Phase) → IsMarked one other parts mark mover → Leads false Bare (kinds_of behind) phase → next false phase part.kind ≡ None → BeginsBehind (TwoLists one other) (parts ++ mark ∷ (behind ++ part ∷ [])) → ⊥
+marked_not_begun : (one other mover : Mover) (parts behind : List Lexed) (mark part : Lexed) (phase : Phase) → IsMarked one other parts mark mover → PhaseLeads false Bare (kinds_of behind) phase → next false phase part.kind ≡ None → BeginsBehind (TwoLists one other) (parts ++ mark ∷ (behind ++ part ∷ [])) → ⊥
 marked_not_begun one other mover parts behind mark part phase is leads none it =
     let plain = plain_behind one other mover parts ((behind ++ part ∷ []) ++ it.more) mark it.change is
     (subst (λ (ps : List Lexed). AreTwoLists one other ps it.change) (append_assoc parts (mark ∷ (behind ++ part ∷ [])) it.more) it.asked) in
@@ -273,7 +273,7 @@ is_marked text one other mover tokens count d it = record {
 pub marked_stops : (text : List ℕ) (one other mover : Mover) (tokens : List Token) (count place : ℕ) (d : Token) → AreMarked text one other tokens count d mover → StopsFrom false (drop (count + 1) tokens) place → FitsBehind text (TwoLists one other) tokens (Stops (count + 1 + place + 1))
 marked_stops text one other mover tokens count place d it stops =
     let is = is_marked text one other mover tokens count d it in
-    let leads = subst (λ ks. Leads false Bare ks stops.phase) (sym (kinds_of_parts text (take place (drop (count + 1) tokens)))) stops.leads in
+    let leads = subst (λ ks. PhaseLeads false Bare ks stops.phase) (sym (kinds_of_parts text (take place (drop (count + 1) tokens)))) stops.leads in
     let next_parts : parts_in text (take (place + 1) (drop (count + 1) tokens)) ≡ parts_in text (take place (drop (count + 1) tokens)) ++ lexed_in text stops.token ∷ [] =
     ap (parts_in text) (take_next (drop (count + 1) tokens) stops.token stops.rest place stops.here)
     ∙ map-append (lexed_in text) (take place (drop (count + 1) tokens)) (stops.token ∷ []) in
@@ -296,7 +296,7 @@ marked_stops text one other mover tokens count place d it stops =
 pub marked_more : (text : List ℕ) (one other mover : Mover) (tokens : List Token) (count : ℕ) (d : Token) → AreMarked text one other tokens count d mover → Reaches false (drop (count + 1) tokens) false → FitsBehind text (TwoLists one other) tokens More
 marked_more text one other mover tokens count d it reaches =
     let is = is_marked text one other mover tokens count d it in
-    let leads = subst (λ ks. Leads false Bare ks reaches.phase) (sym (kinds_of_parts text (drop (count + 1) tokens))) reaches.leads in
+    let leads = subst (λ ks. PhaseLeads false Bare ks reaches.phase) (sym (kinds_of_parts text (drop (count + 1) tokens))) reaches.leads in
     let whole = parts_around text tokens count d it.within in (
       subst (BeginsBehind (TwoLists one other)) (sym whole)
           (marked_begun one other mover (parts_in text (take count tokens)) (parts_in text (drop (count + 1) tokens)) (lexed_in text (get_or tokens count d)) reaches.phase is leads),
@@ -313,7 +313,7 @@ some_behind text (token ∷ tokens) some = omega arith
 pub marked_around : (text : List ℕ) (one other mover : Mover) (tokens : List Token) (count : ℕ) (d : Token) → AreMarked text one other tokens count d mover → Reaches false (drop (count + 1) tokens) true → FitsBehind text (TwoLists one other) tokens (Around mover (count + 1))
 marked_around text one other mover tokens count d it reaches =
     let is = is_marked text one other mover tokens count d it in
-    let leads = subst (λ ks. Leads false Bare ks reaches.phase) (sym (kinds_of_parts text (drop (count + 1) tokens))) reaches.leads in
+    let leads = subst (λ ks. PhaseLeads false Bare ks reaches.phase) (sym (kinds_of_parts text (drop (count + 1) tokens))) reaches.leads in
     let plain = tail_of false (kinds_of (parts_in text (drop (count + 1) tokens))) reaches.phase leads reaches.ends_there in (
       count,
       refl,

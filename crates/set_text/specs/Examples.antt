@@ -8,7 +8,7 @@ use Rattle.cfg_lex.specs.declared.token.TokenKind.TheVariants as kind
 use Rattle.cfg_lex.specs.Lexed.{Lexed, lexed}
 use Rattle.cfg_lex.specs.Tokens.{IsCut}
 use Rattle.set_text.specs.Form.{parts_in}
-use Rattle.set_text.specs.Lines.{Asks}
+use Rattle.set_text.specs.Lines.{AsksChange}
 
 -- the parts of a line, and what it asks
 pub record Example : Type 0 where
@@ -47,4 +47,4 @@ examples =
 
 -- a line of these tokens asks what its example says
 abbrev pub IsShown : Example → Type 0
-IsShown example = (line : List ℕ) (tokens : List Token) → IsCut line tokens None → parts_in line tokens ≡ example.parts → Asks line example.change
+IsShown example = (line : List ℕ) (tokens : List Token) → IsCut line tokens None → parts_in line tokens ≡ example.parts → AsksChange line example.change

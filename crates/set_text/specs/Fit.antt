@@ -14,7 +14,7 @@ use Rattle.set_text.specs.declared.phase.Phase.TheVariants.{Bare}
 use Rattle.set_text.specs.declared.fit.Fit.{Fit}
 use Rattle.set_text.specs.declared.fit.Fit.TheVariants.{Stops, More, Whole, Around}
 use Rattle.set_text.specs.Form.{parts_in, form_of, is_name, words_among, AsksBehind, Spells, Begins, IsNoLine}
-use Rattle.set_text.specs.Phase.{Leads, StopsFrom, ends_at, kinds_in}
+use Rattle.set_text.specs.Phase.{PhaseLeads, StopsFrom, ends_at, kinds_in}
 
 -- the form that a token begins: one that is no word begins none
 abbrev pub form_at : Bool → List ℕ → Option Form
@@ -24,7 +24,7 @@ form_at false word = None
 -- the tokens behind a keyword lead to a phase where a line may end, or may not
 pub record Reaches (brackets : Bool) (tokens : List Token) (ends : Bool) : Type 0 where
   pub phase : Phase
-  pub leads : Leads brackets Bare (kinds_in tokens) phase
+  pub leads : PhaseLeads brackets Bare (kinds_in tokens) phase
   pub ends_there : ends_at phase ≡ ends
 
 -- how the tokens behind the keyword of a list of words fit its form
@@ -81,9 +81,9 @@ pub record SpellsAround (text : List ℕ) (tokens : List Token) (mover : Mover) 
 
 -- how the tokens of a line fit the forms: the first so many begin a line, and one more doesn't; all of them begin a line and are none;
 -- they are one of a list of words; or they are one with a mark at a place
-abbrev pub Fits : List ℕ → List Token → Fit → Type 0
-Fits text tokens (Stops count) = StopsBehind text tokens count
-Fits text tokens More = Begins (parts_in text tokens) × IsNoLine (parts_in text tokens)
-Fits text tokens (Whole verb) =
+abbrev pub FitsForms : List ℕ → List Token → Fit → Type 0
+FitsForms text tokens (Stops count) = StopsBehind text tokens count
+FitsForms text tokens More = Begins (parts_in text tokens) × IsNoLine (parts_in text tokens)
+FitsForms text tokens (Whole verb) =
     (0 < length tokens) × Spells (parts_in text tokens) (op_of verb (words_among (parts_in text (drop 1 tokens))))
-Fits text tokens (Around mover at) = SpellsAround text tokens mover at
+FitsForms text tokens (Around mover at) = SpellsAround text tokens mover at

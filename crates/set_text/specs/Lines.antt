@@ -36,7 +36,7 @@ abbrev pub IsSkipped : List ℕ → Type 0
 IsSkipped line = IsCut line [] None
 
 -- a line of a form, with what it asks
-pub record Asks (line : List ℕ) (change : Op) : Type 0 where
+pub record AsksChange (line : List ℕ) (change : Op) : Type 0 where
   pub tokens : List Token
   pub cut : IsCut line tokens None
   pub spelled : Spells (parts_in line tokens) change
@@ -78,7 +78,7 @@ abbrev pub AreRead : ℕ → List (List ℕ) → List OpLine → Type 0
 AreRead number [] changes = changes ≡ []
 AreRead number (line ∷ lines) changes =
     (IsSkipped line × AreRead (number + 1) lines changes)
-    ⊎ ((change : Op) × (rest : List OpLine) × Asks line change × (changes ≡ op_line number change ∷ rest) × AreRead (number + 1) lines rest)
+    ⊎ ((change : Op) × (rest : List OpLine) × AsksChange line change × (changes ≡ op_line number change ∷ rest) × AreRead (number + 1) lines rest)
 
 -- what a text asks for
 abbrev pub AsksFor : List ℕ → List OpLine → Type 0

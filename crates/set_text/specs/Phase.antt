@@ -47,9 +47,9 @@ ends_at Inside = false
 ends_at Closed = true
 
 -- tokens of these kinds lead from one phase to another
-abbrev pub Leads : Bool → Phase → List TokenKind → Phase → Type 0
-Leads brackets from [] to = from ≡ to
-Leads brackets from (kind ∷ kinds) to = (after : Phase) × (next brackets from kind ≡ Some after) × Leads brackets after kinds to
+abbrev pub PhaseLeads : Bool → Phase → List TokenKind → Phase → Type 0
+PhaseLeads brackets from [] to = from ≡ to
+PhaseLeads brackets from (kind ∷ kinds) to = (after : Phase) × (next brackets from kind ≡ Some after) × PhaseLeads brackets after kinds to
 
 abbrev pub kinds_in : List Token → List TokenKind
 kinds_in tokens = map (λ token. token.kind) tokens
@@ -58,7 +58,7 @@ kinds_in tokens = map (λ token. token.kind) tokens
 pub record StopsFrom (brackets : Bool) (tokens : List Token) (place : ℕ) : Type 0 where
   pub within : place < length tokens
   pub phase : Phase
-  pub leads : Leads brackets Bare (kinds_in (take place tokens)) phase
+  pub leads : PhaseLeads brackets Bare (kinds_in (take place tokens)) phase
   pub token : Token
   pub rest : List Token
   pub here : drop place tokens ≡ token ∷ rest

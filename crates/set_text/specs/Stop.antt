@@ -5,7 +5,7 @@ use Rattle.cfg_lex.specs.declared.fault.LexFault.{LexFault}
 use Rattle.set_text.specs.declared.op_lines.OpLine.{OpLine}
 use Rattle.set_text.specs.declared.stop.Stop.{Stop}
 use Rattle.set_text.specs.declared.stop.Stop.TheVariants.{At, NoMemory}
-use Rattle.set_text.specs.Lines.{told, lines_in, IsPlaceOf, IsSkipped, Asks, IsRefused, AreRead}
+use Rattle.set_text.specs.Lines.{told, lines_in, IsPlaceOf, IsSkipped, AsksChange, IsRefused, AreRead}
 
 -- the line without the CR at its end, where it has one
 abbrev pub without_cr : List ℕ → List ℕ
@@ -19,7 +19,7 @@ IsStopOf fault NoMemory = Unit {0}
 -- a line is skipped, asks for a change, or is refused at a place
 abbrev pub Says : List ℕ → Result (Option Op) Stop → Type 0
 Says line (Ok None) = IsSkipped line
-Says line (Ok (Some change)) = Asks line change
+Says line (Ok (Some change)) = AsksChange line change
 Says line (Err (At place)) = IsRefused line place
 Says line (Err NoMemory) = Unit {0}
 

@@ -7,7 +7,7 @@ ghost use Rattle.cfg_lex.specs.Tokens.{IsPlaced, word_in};
 ghost use Rattle.commands.specs.Mover as moves;
 ghost use Rattle.set_text.specs.declared.form.Form.TheVariants.{TwoLists};
 ghost use Rattle.set_text.specs.Form.{is_name, mover_of, parts_in, words_among};
-ghost use Rattle.set_text.specs.Fit.{AreNames, Fits, FitsBehind, FitsOneList, form_at};
+ghost use Rattle.set_text.specs.Fit.{AreNames, FitsForms, FitsBehind, FitsOneList, form_at};
 
 use crate::form::{Form, form_of};
 use crate::phase::phase_of;
@@ -168,7 +168,7 @@ fn fit_behind(alloc: Global, line: &[u8], form: Form, rest: &[Token]) -> Result<
 /// How the tokens of a line fit the forms.
 pub(crate) fn fit_of(alloc: Global, line: &[u8], tokens: &[Token]) -> Result<Fit, NoMemory>
     requires { All (IsPlaced line.now) tokens.now }
-    ensures { IfOk result (λ fit. Fits line.now tokens.now fit) }
+    ensures { IfOk result (λ fit. FitsForms line.now tokens.now fit) }
 {
     let (first, rest) = match tokens {
         [] => return Ok(Fit::More),

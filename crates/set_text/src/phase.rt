@@ -2,7 +2,7 @@
 
 ghost use Rattle.std.specs.Prelude.{◌≡◌, MatchResult};
 ghost use Rattle.set_text.specs.declared.phase.Phase.TheVariants as phase;
-ghost use Rattle.set_text.specs.Phase.{ends_at, kinds_in, next, on_close, on_open, on_word, Leads, StopsFrom};
+ghost use Rattle.set_text.specs.Phase.{ends_at, kinds_in, next, on_close, on_open, on_word, PhaseLeads, StopsFrom};
 
 use cfg_lex::{Token, TokenKind};
 
@@ -71,7 +71,7 @@ impl Phase {
 
 /// How far these tokens are read behind a keyword; or the first of them that may not follow those before it.
 pub(crate) fn phase_of(brackets: bool, tokens: &[Token]) -> Result<Phase, usize>
-    ensures { MatchResult result (λ reached. Leads brackets phase.Bare (kinds_in tokens.now) reached)
+    ensures { MatchResult result (λ reached. PhaseLeads brackets phase.Bare (kinds_in tokens.now) reached)
         (λ place. StopsFrom brackets tokens.now place) }
 {
     let mut phase = Phase::Bare;

@@ -5,7 +5,7 @@ ghost use Rattle.std.specs.List.{All};
 ghost use Rattle.cfg_lex.specs.Tokens.{IsCut, IsPlaced};
 ghost use Rattle.set_text.specs.declared.fit.Fit.TheVariants.{Around, More, Whole};
 ghost use Rattle.commands.specs.Verb.{op_of};
-ghost use Rattle.set_text.specs.Fit.{Fits};
+ghost use Rattle.set_text.specs.Fit.{FitsForms};
 ghost use Rattle.set_text.specs.Stop.{Says};
 
 use crate::fit::{Fit, fit_of, words_of};
@@ -18,7 +18,7 @@ use std::alloc::Global;
 /// What a line says whose tokens begin a line of a form and are none.
 fn read_more(line: &[u8], tokens: &[Token], fault: Option<LexFault>) -> Result<Option<Op>, Stop>
     requires cut { IsCut line.now tokens.now fault }
-    requires more { Fits line.now tokens.now More }
+    requires more { FitsForms line.now tokens.now More }
     ensures { Says line.now result }
 {
     match fault {
@@ -43,7 +43,7 @@ fn read_whole(
 ) -> Result<Option<Op>, Stop>
     requires cut { IsCut line.now tokens.now fault }
     requires placed { All (IsPlaced line.now) tokens.now }
-    requires whole { Fits line.now tokens.now (Whole verb) }
+    requires whole { FitsForms line.now tokens.now (Whole verb) }
     ensures { Says line.now result }
 {
     match fault {
@@ -66,7 +66,7 @@ fn read_around(
 ) -> Result<Option<Op>, Stop>
     requires cut { IsCut line.now tokens.now fault }
     requires placed { All (IsPlaced line.now) tokens.now }
-    requires around { Fits line.now tokens.now (Around mover at) }
+    requires around { FitsForms line.now tokens.now (Around mover at) }
     ensures { Says line.now result }
 {
     match fault {

@@ -8,7 +8,7 @@ use Rattle.shell_words.specs.declared.form.Symbol.{Symbol}
 use Rattle.shell_words.specs.declared.form.Part.{Part}
 use Rattle.shell_words.specs.declared.form.Part.TheVariants.{Nothing, One, Many}
 use Rattle.shell_words.specs.Item.{Item}
-use Rattle.shell_words.specs.Form.{is_of, names, given_by, Fits, IsLed}
+use Rattle.shell_words.specs.Form.{is_of, names, given_by, FitsParts, IsLed}
 use Rattle.shell_words.specs.Walk.{run_len, reach, fits, given}
 use Rattle.shell_words.proofs.FormTests.{ends, are_ended, example, have_examples}
 use Rattle.shell_words.proofs.SymbolLemmas.{disjoint_sound, is_not}
@@ -36,13 +36,13 @@ run_all symbol (item ∷ items) =
     ] refl
 
 -- what the program finds is so
-pub sound : (parts : List Part) (items : List Item) → fits parts items ≡ true → Fits parts items (given parts items)
+pub sound : (parts : List Part) (items : List Item) → fits parts items ≡ true → FitsParts parts items (given parts items)
 sound [] [] e = (refl, refl)
 sound [] (item ∷ items) e = absurd (false≢true e)
 sound (Nothing ∷ parts) items e = sound parts items e
 sound (One symbol ∷ parts) [] e = absurd (false≢true e)
 sound (One symbol ∷ parts) (item ∷ items) e =
-    elim (is_of symbol item) as (λ t. is_of symbol item ≡ t → cond t (fits parts items) false ≡ true → IsLed symbol (Fits parts) (item ∷ items) (given_by (names symbol) (item ∷ []) ++ given parts items)) [
+    elim (is_of symbol item) as (λ t. is_of symbol item ≡ t → cond t (fits parts items) false ≡ true → IsLed symbol (FitsParts parts) (item ∷ items) (given_by (names symbol) (item ∷ []) ++ given parts items)) [
       | true ↦ λ is fit. record { first = item; rest = items; others = given parts items; joined = refl; given = refl; is = is; behind = sound parts items fit }
       | false ↦ λ isnt fit. absurd (false≢true fit)
     ] refl e
@@ -57,7 +57,7 @@ sound (Many symbol ∷ parts) items e = record {
 }
 
 -- no token of a run stands first in what follows it
-ends_stops : (symbol : Symbol) (parts : List Part) (rest : List Item) (words : List (List ℕ)) → ends symbol parts ≡ true → Fits parts rest words → Stops symbol rest
+ends_stops : (symbol : Symbol) (parts : List Part) (rest : List Item) (words : List (List ℕ)) → ends symbol parts ≡ true → FitsParts parts rest words → Stops symbol rest
 ends_stops symbol [] rest words e fit = subst (Stops symbol) (sym fit.0) tt
 ends_stops symbol (Nothing ∷ parts) rest words e fit = ends_stops symbol parts rest words e fit
 ends_stops symbol (One next ∷ parts) rest words e fit =
@@ -65,7 +65,7 @@ ends_stops symbol (One next ∷ parts) rest words e fit =
 ends_stops symbol (Many next ∷ parts) rest words e fit = absurd (false≢true e)
 
 -- what is so the program finds
-pub complete : (parts : List Part) (items : List Item) (words : List (List ℕ)) → are_ended parts ≡ true → Fits parts items words → (fits parts items ≡ true) × (words ≡ given parts items)
+pub complete : (parts : List Part) (items : List Item) (words : List (List ℕ)) → are_ended parts ≡ true → FitsParts parts items words → (fits parts items ≡ true) × (words ≡ given parts items)
 complete [] items words e fit = (ap (fits []) fit.0, fit.1)
 complete (Nothing ∷ parts) items words e fit = complete parts items words e fit
 complete (One symbol ∷ parts) items words e fit =
@@ -93,7 +93,7 @@ given_none false = refl
 
 -- a line of the parts goes on from these tokens
 abbrev pub Completion : List Part → List Item → Type 0
-Completion parts front = (more : List Item) × (words : List (List ℕ)) × Fits parts (front ++ more) words
+Completion parts front = (more : List Item) × (words : List (List ℕ)) × FitsParts parts (front ++ more) words
 
 -- a line of the parts
 pub completed : (parts : List Part) → have_examples parts ≡ true → Completion parts []
@@ -151,13 +151,13 @@ goes_on (Many symbol ∷ parts) items e =
 
 -- the parts go on at least with the front of a line of theirs, whatever stands behind it
 abbrev Reaches : List Part → Type 0
-Reaches parts = (xs ys zs : List Item) (words : List (List ℕ)) → Fits parts (xs ++ ys) words → length xs ≤ reach parts (xs ++ zs)
+Reaches parts = (xs ys zs : List Item) (words : List (List ℕ)) → FitsParts parts (xs ++ ys) words → length xs ≤ reach parts (xs ++ zs)
 
-run_reaches : (symbol : Symbol) (parts : List Part) → Reaches parts → (run rest xs ys zs : List Item) (words : List (List ℕ)) → list_all (is_of symbol) run ≡ true → Stops symbol rest → xs ++ ys ≡ run ++ rest → Fits parts rest words → length xs ≤ reach (Many symbol ∷ parts) (xs ++ zs)
+run_reaches : (symbol : Symbol) (parts : List Part) → Reaches parts → (run rest xs ys zs : List Item) (words : List (List ℕ)) → list_all (is_of symbol) run ≡ true → Stops symbol rest → xs ++ ys ≡ run ++ rest → FitsParts parts rest words → length xs ≤ reach (Many symbol ∷ parts) (xs ++ zs)
 run_reaches symbol parts on [] rest [] ys zs words all stops joined fit = omega arith
 run_reaches symbol parts on [] rest (x ∷ xs) ys zs words all stops joined fit =
     let none : is_of symbol x ≡ false = subst (Stops symbol) (sym joined) stops in
-    let further = on (x ∷ xs) ys zs words (subst (λ is. Fits parts is words) (sym joined) fit) in
+    let further = on (x ∷ xs) ys zs words (subst (λ is. FitsParts parts is words) (sym joined) fit) in
     subst (λ t. length (x ∷ xs) ≤ cond t (1 + run_len symbol (xs ++ zs)) 0 + reach parts (drop (cond t (1 + run_len symbol (xs ++ zs)) 0) (x ∷ (xs ++ zs)))) (sym none) (omega (arith, further))
 run_reaches symbol parts on (r ∷ run) rest [] ys zs words all stops joined fit = omega arith
 run_reaches symbol parts on (r ∷ run) rest (x ∷ xs) ys zs words all stops joined fit =
@@ -176,7 +176,7 @@ reaches (One symbol ∷ parts) e (x ∷ xs) ys zs words fit =
     let first : x ≡ fit.first = cc fit.joined in
     let rest : fit.rest ≡ xs ++ ys = cc fit.joined in
     let is : is_of symbol x ≡ true = ap (is_of symbol) first ∙ fit.is in
-    let further = reaches parts e xs ys zs fit.others (subst (λ is. Fits parts is fit.others) rest fit.behind) in
+    let further = reaches parts e xs ys zs fit.others (subst (λ is. FitsParts parts is fit.others) rest fit.behind) in
     subst (λ t. length (x ∷ xs) ≤ cond t (1 + reach parts (xs ++ zs)) 0) (sym is) (omega (arith, further))
 reaches (Many symbol ∷ parts) e xs ys zs words fit =
     let sure = and_parts (ends symbol parts) (are_ended parts) e in

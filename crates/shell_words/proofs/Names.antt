@@ -18,7 +18,7 @@ use Rattle.shell_words.specs.declared.keyword.Keyword as keywords
 use Rattle.shell_words.specs.declared.keyword.Keyword.TheVariants as key
 use Rattle.shell_words.specs.declared.making.Words0.TheVariants.{Whole}
 use Rattle.shell_words.specs.Item.{Item}
-use Rattle.shell_words.specs.Form.{is_of, Fits}
+use Rattle.shell_words.specs.Form.{is_of, FitsParts}
 use Rattle.shell_words.specs.Made.{made_by}
 
 abbrev pub Row : Type 0
@@ -117,7 +117,7 @@ pub others_change_nothing : (form : CommandForm) → is_change form ≡ false �
 others_change_nothing form = no_change form.makes
 
 -- the last run of words of a form
-pub last_run : (parts : List Part) (items : List Item) → Fits parts [] [] → list_all (is_of Word) items ≡ true → Fits (Many Word ∷ parts) items (map (λ (item : Item). item.token.word) items)
+pub last_run : (parts : List Part) (items : List Item) → FitsParts parts [] [] → list_all (is_of Word) items ≡ true → FitsParts (Many Word ∷ parts) items (map (λ (item : Item). item.token.word) items)
 last_run parts items ends all = record {
   run = items;
   rest = [];

@@ -16,7 +16,7 @@ use Rattle.shell_words.specs.declared.keyword.Keyword as keywords
 use Rattle.shell_words.specs.declared.keyword.Keyword.TheVariants as key
 use Rattle.shell_words.specs.Item.{Item}
 use Rattle.shell_words.specs.Keyword.{spelled}
-use Rattle.shell_words.specs.Form.{is_mark, is_of, names, given_by, Fits, parts_of, IsIn}
+use Rattle.shell_words.specs.Form.{is_mark, is_of, names, given_by, FitsParts, parts_of, IsIn}
 use Rattle.shell_words.specs.Form.{forms_of}
 use Rattle.shell_words.specs.Pair.{tokens_before, front_words, back_words, words_behind_first, AreSides}
 use Rattle.shell_words.proofs.FormTests.{disjoint, leads, runs, is_end, passes, is_the_mark, behind_mark, from_mark, from_words, have_sides, are_sides}
@@ -73,7 +73,7 @@ words_join [] back = refl
 words_join (item ∷ front) back = ap (λ ws. item.token.word ∷ ws) (words_join front back)
 
 -- the last words
-last_words : (parts : List Part) (items : List Item) (words : List (List ℕ)) → runs names is_end parts ≡ true → Fits parts items words → words ≡ words_in items
+last_words : (parts : List Part) (items : List Item) (words : List (List ℕ)) → runs names is_end parts ≡ true → FitsParts parts items words → words ≡ words_in items
 last_words [] items words e fit = absurd (false≢true e)
 last_words (Nothing ∷ parts) items words e fit = absurd (false≢true e)
 last_words (One symbol ∷ parts) items words e fit = absurd (false≢true e)
@@ -87,7 +87,7 @@ record Behind (items : List Item) (words : List (List ℕ)) : Type 0 where
   some : 0 < length items
   given : words ≡ words_in items
 
-words_behind : (parts : List Part) (items : List Item) (words : List (List ℕ)) → behind_mark parts ≡ true → Fits parts items words → Behind items words
+words_behind : (parts : List Part) (items : List Item) (words : List (List ℕ)) → behind_mark parts ≡ true → FitsParts parts items words → Behind items words
 words_behind [] items words e fit = absurd (false≢true e)
 words_behind (Nothing ∷ parts) items words e fit = absurd (false≢true e)
 words_behind (One symbol ∷ parts) items words e fit =
@@ -111,7 +111,7 @@ mark_is mark (Number low high) item e is = absurd (false≢true e)
 mark_is mark OpenBracket item e is = absurd (false≢true e)
 mark_is mark CloseBracket item e is = absurd (false≢true e)
 
-at_mark : (mark : keywords.Keyword) (parts : List Part) (items : List Item) (words : List (List ℕ)) → from_mark mark parts ≡ true → Fits parts items words → Sided mark items words
+at_mark : (mark : keywords.Keyword) (parts : List Part) (items : List Item) (words : List (List ℕ)) → from_mark mark parts ≡ true → FitsParts parts items words → Sided mark items words
 at_mark mark [] items words e fit = absurd (false≢true e)
 at_mark mark (Nothing ∷ parts) items words e fit = absurd (false≢true e)
 at_mark mark (One symbol ∷ parts) items words e fit =
@@ -147,7 +147,7 @@ before_mark mark symbol run rest items words others e all joined given on =
       some = on.some;
     }
 
-in_words : (mark : keywords.Keyword) (parts : List Part) (items : List Item) (words : List (List ℕ)) → from_words mark parts ≡ true → Fits parts items words → Sided mark items words
+in_words : (mark : keywords.Keyword) (parts : List Part) (items : List Item) (words : List (List ℕ)) → from_words mark parts ≡ true → FitsParts parts items words → Sided mark items words
 in_words mark [] items words e fit = absurd (false≢true e)
 in_words mark (Nothing ∷ parts) items words e fit = absurd (false≢true e)
 in_words mark (One symbol ∷ parts) items words e fit = absurd (false≢true e)
@@ -164,7 +164,7 @@ before_is mark (item ∷ front) back middle none is =
     ap (λ t. cond t (1 + tokens_before mark (front ++ middle ∷ back)) 0) both.0 ∙ omega (arith, before_is mark front back middle both.1 is)
 
 -- a word, and further ones, stand before the mark
-first_word : (mark : keywords.Keyword) (parts : List Part) (items : List Item) (words : List (List ℕ)) → leads (passes mark (λ named. named)) (from_words mark) parts ≡ true → Fits parts items words → (sided : Sided mark items words) × (0 < length sided.front)
+first_word : (mark : keywords.Keyword) (parts : List Part) (items : List Item) (words : List (List ℕ)) → leads (passes mark (λ named. named)) (from_words mark) parts ≡ true → FitsParts parts items words → (sided : Sided mark items words) × (0 < length sided.front)
 first_word mark [] items words e fit = absurd (false≢true e)
 first_word mark (Nothing ∷ parts) items words e fit = absurd (false≢true e)
 first_word mark (One symbol ∷ parts) items words e fit =
@@ -175,7 +175,7 @@ first_word mark (One symbol ∷ parts) items words e fit =
     )
 first_word mark (Many symbol ∷ parts) items words e fit = absurd (false≢true e)
 
-sides : (mark : keywords.Keyword) (parts : List Part) (items : List Item) (words : List (List ℕ)) → have_sides mark parts ≡ true → Fits parts items words → AreSides (front_words mark items) (back_words mark items) words
+sides : (mark : keywords.Keyword) (parts : List Part) (items : List Item) (words : List (List ℕ)) → have_sides mark parts ≡ true → FitsParts parts items words → AreSides (front_words mark items) (back_words mark items) words
 sides mark [] items words e fit = absurd (false≢true e)
 sides mark (Nothing ∷ parts) items words e fit = absurd (false≢true e)
 sides mark (One symbol ∷ parts) items words e fit =

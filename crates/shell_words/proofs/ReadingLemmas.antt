@@ -12,10 +12,10 @@ use Rattle.shell_words.specs.declared.form.CommandForm.{CommandForm}
 use Rattle.shell_words.specs.declared.form.Part.{Part}
 use Rattle.shell_words.specs.declared.form.Part.TheVariants.{Nothing, One, Many}
 use Rattle.shell_words.specs.Item.{Item, item_in}
-use Rattle.shell_words.specs.Form.{is_of, parts_of, Fits, forms_of, IsIn, Begins}
+use Rattle.shell_words.specs.Form.{is_of, parts_of, FitsParts, forms_of, IsIn, Begins}
 use Rattle.shell_words.specs.Walk.{run_len, reach, fits, given, furthest, form_for}
 use Rattle.shell_words.specs.Made.{made_by}
-use Rattle.shell_words.specs.Reading.{first_place, capped, Asks, IsMisfit, AnswersWhole, place_of, Answers, IsReading}
+use Rattle.shell_words.specs.Reading.{first_place, capped, AsksByForm, IsMisfit, AnswersWhole, place_of, Answers, IsReading}
 use Rattle.shell_words.proofs.FormTests.{are_ended, have_examples, are_some}
 use Rattle.shell_words.proofs.FormFacts.{forms_sound, forms_apart, forms_some}
 use Rattle.shell_words.proofs.FitLemmas.{sound, complete, completed, goes_on, reaches}
@@ -33,7 +33,7 @@ tested configuring form served =
     let both = and_parts (are_ended (parts_of form)) (have_examples (parts_of form)) tests.0 in
     record { ended = both.0; shown = both.1; some = tests.1 }
 
-pub each_form : (configuring : Bool) (form : CommandForm) → Contains (forms_of configuring) form → (items : List Item) × (words : List (List ℕ)) × Fits (parts_of form) items words
+pub each_form : (configuring : Bool) (form : CommandForm) → Contains (forms_of configuring) form → (items : List Item) × (words : List (List ℕ)) × FitsParts (parts_of form) items words
 each_form configuring form served = completed (parts_of form) (tested configuring form served).shown
 
 -- one more form in front
@@ -85,7 +85,7 @@ misfit configuring items end =
     record {
       count = count;
       within = within;
-      begins = record { more = on.0; form = met.0; words = on.1; line = record { served = met.1; fits = subst (λ n. Fits (parts_of met.0) (take n items ++ on.0) on.1) met.2 on.2 } };
+      begins = record { more = on.0; form = met.0; words = on.1; line = record { served = met.1; fits = subst (λ n. FitsParts (parts_of met.0) (take n items ++ on.0) on.1) met.2 on.2 } };
       stops = λ more begun.
           let far = reaches (parts_of begun.form) (tested configuring begun.form begun.line.served).ended (take (count + 1) items) begun.more (drop (count + 1) items) begun.words begun.line.fits in
           let whole = subst (λ is. length (take (count + 1) items) ≤ reach (parts_of begun.form) is) (take-append-drop (count + 1) items) far in
@@ -121,7 +121,7 @@ pub in_none : (configuring : Bool) (items : List Item) → form_for (forms_of co
 in_none configuring items e form words line =
     none_found (forms_of configuring) items form e line.served (complete (parts_of form) items words (tested configuring form line.served).ended line.fits).0
 
-pub asks : (configuring : Bool) (items : List Item) (form : CommandForm) → form_for (forms_of configuring) items ≡ Some form → Asks configuring items (Ok (Some (made_by form.makes items (given (parts_of form) items))))
+pub asks : (configuring : Bool) (items : List Item) (form : CommandForm) → form_for (forms_of configuring) items ≡ Some form → AsksByForm configuring items (Ok (Some (made_by form.makes items (given (parts_of form) items))))
 asks configuring items form e =
     let here = found (forms_of configuring) items form e in
     record { form = form; words = given (parts_of form) items; line = record { served = here.0; fits = sound (parts_of form) items here.1 }; is = refl }
@@ -132,7 +132,7 @@ begins_front configuring front back begun = record {
   more = back ++ begun.more;
   form = begun.form;
   words = begun.words;
-  line = record { served = begun.line.served; fits = subst (λ is. Fits (parts_of begun.form) is begun.words) (append_assoc front back begun.more) begun.line.fits };
+  line = record { served = begun.line.served; fits = subst (λ is. FitsParts (parts_of begun.form) is begun.words) (append_assoc front back begun.more) begun.line.fits };
 }
 
 no_longer : (configuring : Bool) (items : List Item) (end : ℕ) (one other : Result (Option Words0) ℕ) (a : IsMisfit configuring items end one) (b : IsMisfit configuring items end other) → a.count < b.count → ⊥
@@ -160,7 +160,7 @@ one_misfit configuring items end one other a b =
 abbrev answer_of : Words0 → Result (Option Words0) ℕ
 answer_of made = Ok (Some made)
 
-one_asked : (configuring : Bool) (items : List Item) (one other : Result (Option Words0) ℕ) → Asks configuring items one → Asks configuring items other → one ≡ other
+one_asked : (configuring : Bool) (items : List Item) (one other : Result (Option Words0) ℕ) → AsksByForm configuring items one → AsksByForm configuring items other → one ≡ other
 one_asked configuring items one other a b =
     let form : a.form ≡ b.form = one_form (forms_of configuring) a.form b.form items a.words b.words (forms_apart configuring) a.line.served b.line.served a.line.fits b.line.fits in
     let mine = complete (parts_of a.form) items a.words (tested configuring a.form a.line.served).ended a.line.fits in

@@ -26,7 +26,7 @@ use Rattle.shell_words.specs.declared.form.CommandForm.{CommandForm}
 use Rattle.shell_words.specs.declared.making.Words0.{Words0}
 use Rattle.shell_words.specs.declared.reader.ReadFault.{ReadFault}
 use Rattle.shell_words.specs.Item.{Item, item_in}
-use Rattle.shell_words.specs.Form.{is_of, names, given_by, parts_of, Fits, forms_of, IsIn}
+use Rattle.shell_words.specs.Form.{is_of, names, given_by, parts_of, FitsParts, forms_of, IsIn}
 use Rattle.shell_words.specs.Number.{number_of, is_between}
 use Rattle.shell_words.specs.Made.{number_or, minutes_in, comment_in, made_by, AsksSound}
 use Rattle.shell_words.specs.Reading.{AnswersWhole, Answers, IsReading, Gives}
@@ -139,7 +139,7 @@ given_printable true items all = all
 given_printable false items all = tt
 
 -- what a form is given are words of the line
-fit_printable : (parts : List Part) (items : List Item) (words : List (List ℕ)) → ArePrintable (words_in items) → Fits parts items words → ArePrintable words
+fit_printable : (parts : List Part) (items : List Item) (words : List (List ℕ)) → ArePrintable (words_in items) → FitsParts parts items words → ArePrintable words
 fit_printable [] items words all fit = subst ArePrintable (sym fit.1) tt
 fit_printable (Nothing ∷ parts) items words all fit = fit_printable parts items words all fit
 fit_printable (One symbol ∷ parts) items words all fit =
@@ -161,7 +161,7 @@ comment_printable true words all = word_printable words (length words - 1) all
 comment_printable false words all = record { short = omega arith; printing = refl }
 
 -- a part that names nothing gives no word
-behind_unnamed : (rest : List Part → Bool) (Goal : List (List ℕ) → Type 0) → ((parts : List Part) (items : List Item) (words : List (List ℕ)) → rest parts ≡ true → Fits parts items words → Goal words) → (parts : List Part) (items : List Item) (words : List (List ℕ)) → leads is_unnamed rest parts ≡ true → Fits parts items words → Goal words
+behind_unnamed : (rest : List Part → Bool) (Goal : List (List ℕ) → Type 0) → ((parts : List Part) (items : List Item) (words : List (List ℕ)) → rest parts ≡ true → FitsParts parts items words → Goal words) → (parts : List Part) (items : List Item) (words : List (List ℕ)) → leads is_unnamed rest parts ≡ true → FitsParts parts items words → Goal words
 behind_unnamed rest Goal on [] items words e fit = absurd (false≢true e)
 behind_unnamed rest Goal on (Nothing ∷ parts) items words e fit = absurd (false≢true e)
 behind_unnamed rest Goal on (One symbol ∷ parts) items words e fit =
@@ -193,7 +193,7 @@ minutes_small (Neither one other) item others e is = absurd (false≢true e)
 minutes_small OpenBracket item others e is = absurd (false≢true e)
 minutes_small CloseBracket item others e is = absurd (false≢true e)
 
-first_time : (parts : List Part) (items : List Item) (words : List (List ℕ)) → leads is_minutes (λ others. true) parts ≡ true → Fits parts items words → IsTime words
+first_time : (parts : List Part) (items : List Item) (words : List (List ℕ)) → leads is_minutes (λ others. true) parts ≡ true → FitsParts parts items words → IsTime words
 first_time [] items words e fit = absurd (false≢true e)
 first_time (Nothing ∷ parts) items words e fit = absurd (false≢true e)
 first_time (One symbol ∷ parts) items words e fit =
@@ -201,18 +201,18 @@ first_time (One symbol ∷ parts) items words e fit =
 first_time (Many symbol ∷ parts) items words e fit = absurd (false≢true e)
 
 -- the minutes of a commit are behind its two keywords
-third_time : (parts : List Part) (items : List Item) (words : List (List ℕ)) → leads is_unnamed (leads is_unnamed (leads is_minutes (λ others. true))) parts ≡ true → Fits parts items words → IsTime words
+third_time : (parts : List Part) (items : List Item) (words : List (List ℕ)) → leads is_unnamed (leads is_unnamed (leads is_minutes (λ others. true))) parts ≡ true → FitsParts parts items words → IsTime words
 third_time parts items words e fit =
     behind_unnamed (leads is_unnamed (leads is_minutes (λ others. true))) IsTime
     (behind_unnamed (leads is_minutes (λ others. true)) IsTime first_time) parts items words e fit
 
-minutes_sound : (confirmed : Confirmed) (comment quit : Bool) (parts : List Part) (items : List Item) (words : List (List ℕ)) → are_timed (makes.Commit confirmed comment quit) parts ≡ true → Fits parts items words → minutes_in confirmed words ≤ 65535
+minutes_sound : (confirmed : Confirmed) (comment quit : Bool) (parts : List Part) (items : List Item) (words : List (List ℕ)) → are_timed (makes.Commit confirmed comment quit) parts ≡ true → FitsParts parts items words → minutes_in confirmed words ≤ 65535
 minutes_sound No comment quit parts items words e fit = omega arith
 minutes_sound InTen comment quit parts items words e fit = omega arith
 minutes_sound InMinutes comment quit parts items words e fit = third_time parts items words e fit
 
 -- what a form makes of a line is sound
-made_sound : (made : Makes) (parts : List Part) (items : List Item) (words : List (List ℕ)) → are_timed made parts ≡ true → ArePrintable (words_in items) → Fits parts items words → AsksSound (Some (made_by made items words))
+made_sound : (made : Makes) (parts : List Part) (items : List Item) (words : List (List ℕ)) → are_timed made parts ≡ true → ArePrintable (words_in items) → FitsParts parts items words → AsksSound (Some (made_by made items words))
 made_sound (makes.Configure mode) parts items words e all fit = tt
 made_sound (makes.ShowActive form) parts items words e all fit = tt
 made_sound makes.ShowCommits parts items words e all fit = tt

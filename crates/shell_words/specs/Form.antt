@@ -67,11 +67,11 @@ pub record IsRun (symbol : Symbol) (Rest : List Item → List (List ℕ) → Typ
   pub behind : Rest rest others
 
 -- the tokens are what these parts are, one after another, and give these words
-abbrev pub Fits : List Part → List Item → List (List ℕ) → Type 0
-Fits [] items words = (items ≡ []) × (words ≡ [])
-Fits (Nothing ∷ parts) items words = Fits parts items words
-Fits (One symbol ∷ parts) items words = IsLed symbol (Fits parts) items words
-Fits (Many symbol ∷ parts) items words = IsRun symbol (Fits parts) items words
+abbrev pub FitsParts : List Part → List Item → List (List ℕ) → Type 0
+FitsParts [] items words = (items ≡ []) × (words ≡ [])
+FitsParts (Nothing ∷ parts) items words = FitsParts parts items words
+FitsParts (One symbol ∷ parts) items words = IsLed symbol (FitsParts parts) items words
+FitsParts (Many symbol ∷ parts) items words = IsRun symbol (FitsParts parts) items words
 
 -- the parts of a line of a form
 abbrev pub parts_of : CommandForm → List Part
@@ -85,7 +85,7 @@ forms_of false = OPERATIONAL
 -- the tokens of a line are in one of its mode's forms, and give it these words
 pub record IsIn (configuring : Bool) (items : List Item) (form : CommandForm) (words : List (List ℕ)) : Type 0 where
   pub served : Contains (forms_of configuring) form
-  pub fits : Fits (parts_of form) items words
+  pub fits : FitsParts (parts_of form) items words
 
 -- tokens that a line of the mode begins with
 pub record Begins (configuring : Bool) (items : List Item) : Type 0 where

@@ -24,7 +24,7 @@ abbrev pub capped : ℕ → ℕ
 capped place = min place 4294967295
 
 -- a line of these tokens is in a form, and this is what it asks
-pub record Asks (configuring : Bool) (items : List Item) (answer : Result (Option Words0) ℕ) : Type 0 where
+pub record AsksByForm (configuring : Bool) (items : List Item) (answer : Result (Option Words0) ℕ) : Type 0 where
   pub form : CommandForm
   pub words : List (List ℕ)
   pub line : IsIn configuring items form words
@@ -46,7 +46,7 @@ IsInNone configuring items = (form : CommandForm) (words : List (List ℕ)) → 
 abbrev pub AnswersWhole : Bool → List Item → ℕ → Result (Option Words0) ℕ → Type 0
 AnswersWhole configuring [] end answer = answer ≡ Ok None
 AnswersWhole configuring (item ∷ items) end answer =
-    Asks configuring (item ∷ items) answer
+    AsksByForm configuring (item ∷ items) answer
     ⊎ (IsInNone configuring (item ∷ items) × IsMisfit configuring (item ∷ items) end answer)
 
 -- where a lexical fault stands; want of memory is none

@@ -5,7 +5,7 @@ ghost use Rattle.cfg_lex.specs.declared.token.Token.{Token};
 ghost use Rattle.cfg_lex.specs.Tokens.{IsCut};
 ghost use Rattle.shell_words.specs.declared.form.CommandForm.{CommandForm};
 ghost use Rattle.shell_words.specs.Examples.{HasExample, IsShown, examples};
-ghost use Rattle.shell_words.specs.Form.{Fits, IsIn, forms_of, parts_of};
+ghost use Rattle.shell_words.specs.Form.{FitsParts, IsIn, forms_of, parts_of};
 ghost use Rattle.shell_words.specs.Item.{Item, item_in};
 ghost use Rattle.shell_words.specs.declared.form.Makes.TheVariants.{Move};
 ghost use Rattle.shell_words.specs.declared.keyword.Keyword.TheVariants.{Mark};
@@ -23,7 +23,7 @@ pub fn lines_are_read_in_one_way()
         → IsCut line tokens None → IsIn configuring (map (item_in line) tokens) form words
         → IsReading configuring line (Ok (Some (made_by form.makes (map (item_in line) tokens) words))) }
     ensures each_form { (configuring : Bool) (form : CommandForm) → Contains (forms_of configuring) form
-        → (items : List Item) × (words : List (List ℕ)) × Fits (parts_of form) items words }
+        → (items : List Item) × (words : List (List ℕ)) × FitsParts (parts_of form) items words }
     ensures two_sides { (configuring : Bool) (items : List Item) (form : CommandForm) (words : List (List ℕ)) (mover : Mover)
         → IsIn configuring items form words → form.makes ≡ Move mover
         → AreSides (front_words (Mark mover) items) (back_words (Mark mover) items) words }

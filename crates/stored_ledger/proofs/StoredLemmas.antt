@@ -1,6 +1,6 @@
 -- A journal that was made or attached, as a list of commits.
 use Rattle.std.proofs.Common.{◌≡◌, ◌≢◌, inl, inr, ℕ, Bool, true, false, List, [], ◌∷◌, IsTrue, refl, sym, subst, ap, ◌∙◌, rules}
-use Rattle.disk_model.specs.Disk.{DiskView, History, Sync, Called, GoesOn, MaySync, IsImage, state_of, contents_of}
+use Rattle.disk_model.specs.Disk.{DiskView, History, Sync, Called, DiskGoesOn, MaySync, IsImage, state_of, contents_of}
 use Rattle.disk_model.specs.Pair.{BothTell, DiskPair}
 use Rattle.record_code.specs.declared.payloads.Placed.{Placed}
 use Rattle.record_code.specs.Listed.{records_of}
@@ -133,8 +133,8 @@ module _ (a b : DiskView) (limit : ℕ) (v : JournalView) (is_opened : IsOpened 
   made_is made reads = record {
     none_there = λ tell. made.none_there tell.0 tell.1;
     only = λ tell c d left right. (factory_records, made.only tell.0 tell.1 (entry_record (CommitOf factory_commit)) refl c d (image_a c left) (image_b d right), reads);
-    made_a = λ tell. subst (λ (h : History). GoesOn a.history (making_a factory_records) h) (sym a_is) (made.made_a tell);
-    made_b = λ tell. subst (λ (h : History). GoesOn b.history making_b h) (sym b_is) (made.made_b tell);
+    made_a = λ tell. subst (λ (h : History). DiskGoesOn a.history (making_a factory_records) h) (sym a_is) (made.made_a tell);
+    made_b = λ tell. subst (λ (h : History). DiskGoesOn b.history making_b h) (sym b_is) (made.made_b tell);
   }
 
   pub found_is_stored : (placed : List Placed) (kept : Kept) → IsAttached a b placed v → ReadsAs Accepts (records_of placed) kept → IsStored v kept

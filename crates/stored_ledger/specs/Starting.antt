@@ -1,6 +1,6 @@
 -- What two disks hold once a list of commits was made or opened on them, and why it may be refused. This project's own.
 use Rattle.std.specs.Prelude.{◌≡◌, ◌≢◌, Bool, true, IsTrue, ℕ, List}
-use Rattle.disk_model.specs.Disk.{Sync, Called, GoesOn, MaySync, contents_of}
+use Rattle.disk_model.specs.Disk.{Sync, Called, DiskGoesOn, MaySync, contents_of}
 use Rattle.disk_model.specs.Pair.{BothTell, DiskPair}
 use Rattle.record_code.specs.declared.payloads.Placed.{Placed}
 use Rattle.record_code.specs.Listed.{records_of, PlacedFrom}
@@ -24,8 +24,8 @@ pub record IsMade (before after : DiskPair) : Type 0 where
   pub none_there : BothTell before → IsThere (contents_of before.a.history) (contents_of before.b.history) → ⊥
   pub only : BothTell before → OnlyKept after.a.history after.b.history factory
   -- what was written where, and in which order
-  pub made_a : IsTrue before.a.tells → GoesOn before.a.history (making_a factory_records) after.a.history
-  pub made_b : IsTrue before.b.tells → GoesOn before.b.history making_b after.b.history
+  pub made_a : IsTrue before.a.tells → DiskGoesOn before.a.history (making_a factory_records) after.a.history
+  pub made_b : IsTrue before.b.tells → DiskGoesOn before.b.history making_b after.b.history
 
 -- why a journal couldn't be made, as it is told
 abbrev pub why_of_making : CreateWhy → StartWhy

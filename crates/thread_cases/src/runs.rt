@@ -1,7 +1,7 @@
 //! Runs of the service over the ends and the ticker of a case, and over disks in memory.
 
 ghost use Rattle.std.specs.Prelude.{◌≡◌, IfOk};
-ghost use Rattle.session_threads.specs.Results.{users_of};
+ghost use Rattle.session_threads.specs.Results.{users_of_ends};
 ghost use Rattle.service.specs.Run.{AreEnds};
 
 use crate::edges::{Counting, Still};
@@ -38,7 +38,7 @@ fn ends_of<S: Drop>(
     users: &[UserName],
     parts: &mut IntoIter<Part<S>>,
 ) -> Result<Vec<End<S, Counting, Still>>, Fault>
-    ensures { IfOk result (λ ends. users_of ends.items ≡ users.now) }
+    ensures { IfOk result (λ ends. users_of_ends ends.items ≡ users.now) }
 {
     let mut ends = Vec::new(alloc);
     for user in users {

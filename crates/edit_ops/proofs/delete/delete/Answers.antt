@@ -5,7 +5,7 @@ use Rattle.cfg_tree.specs.Statements.{Statements}
 use Rattle.cfg_tree.specs.Tree.{lists}
 use Rattle.edit_ops.specs.Value.{words_without}
 use Rattle.edit_ops.specs.Change.{left_at, if_there}
-use Rattle.edit_ops.specs.Made.{IsMade, IsPart}
+use Rattle.edit_ops.specs.Made.{IsPartMade, IsPart}
 use Rattle.edit_ops.proofs.FitLemmas.{part}
 use Rattle.edit_ops.proofs.DeleteLemmas.{deleted_is}
 use Rattle.edit_ops.proofs.delete.delete.Goals as goal
@@ -18,7 +18,7 @@ leave-requires-clause-part c =
 
 pub returns : goal.returns
 returns c =
-    subst (λ (x : Option Statements). IsMade c.args.tree.now (if_there c.args.target.now.path x) (λ _. ⊥) c.leave.result)
+    subst (λ (x : Option Statements). IsPartMade c.args.tree.now (if_there c.args.target.now.path x) (λ _. ⊥) c.leave.result)
     (sym (deleted_is c.args.tree.now c.args.target.now.path (map.get c.args.tree.now c.args.target.now.path) c.in-Some.value.now c.args.target.now.words
     c.in-Some.ensures.value
     (subst (λ (ws : List (List ℕ)). false ≡ (length ws == 0)) c.as_slice-gone.ensures c.if-is_empty.ensures)

@@ -3,7 +3,7 @@ use Rattle.cfg_tree.specs.Statements.{Statements}
 use Rattle.cfg_tree.specs.Moving.{IsNewName, IsCopyFault, copied}
 use Rattle.edit_ops.specs.declared.fault.EditFault.{EditFault}
 use Rattle.edit_ops.specs.Change.{move_causes, copied_to}
-use Rattle.edit_ops.specs.Made.{IsMade}
+use Rattle.edit_ops.specs.Made.{IsPartMade}
 use Rattle.edit_ops.proofs.MoveLemmas.{cause_refuses, new_name, copy_made, copy_refused, copy_crowded}
 use Rattle.edit_ops.proofs.moves.copy.Goals as goal
 
@@ -32,7 +32,7 @@ returns-in-Ok c =
 
 pub returns-in-Err-copy_statement : goal.returns-in-Err-copy_statement
 returns-in-Err-copy_statement c =
-    subst (λ (fault : EditFault). IsMade c.args.tree.now (copied_to c.args.tree.now c.args.path.now c.args.other.now) (λ _. ⊥) (Err fault)) (sym c.from.ensures)
+    subst (λ (fault : EditFault). IsPartMade c.args.tree.now (copied_to c.args.tree.now c.args.path.now c.args.other.now) (λ _. ⊥) (Err fault)) (sym c.from.ensures)
     (copy_crowded c.args.tree.now c.args.path.now c.args.other.now c.in_default.ensures.tree c.requires c.in_default.ensures.ok c.in-Err-copy_statement.fault
     c.in_default-guard.ensures.ok
     (subst (λ (m : Statements). IsCopyFault m c.args.path.now c.args.other.now c.in-Err-copy_statement.fault) c.in_ok-next.ensures c.in-Err-copy_statement.ensures.err))

@@ -3,7 +3,7 @@ use Rattle.cfg_tree.specs.Statements.{Statements}
 use Rattle.cfg_tree.specs.Tree.{IsTree}
 use Rattle.cfg_tree.specs.Change.{put_at}
 use Rattle.edit_ops.specs.Change.{with_levels}
-use Rattle.edit_ops.specs.Made.{IsMade, IsLevelsFault, IsRoomFault, LevelsPut}
+use Rattle.edit_ops.specs.Made.{IsPartMade, IsLevelsFault, IsRoomFault, LevelsPut}
 use Rattle.edit_ops.proofs.SetLemmas.{added, add_refused, add_crowded, add_room, new_is_ready}
 use Rattle.edit_ops.proofs.set.add.Goals as goal
 
@@ -24,7 +24,7 @@ put-requires-clause-ready c =
 
 pub returns-in-Ok : goal.returns-in-Ok
 returns-in-Ok c =
-    subst (λ (x : Statements). IsMade c.args.tree.now (Ok (put_at (with_levels c.args.tree.now (length c.args.path.now - 1) c.args.path.now) c.args.path.now c.args.value)) (λ _. ⊥) (Ok (Some x)))
+    subst (λ (x : Statements). IsPartMade c.args.tree.now (Ok (put_at (with_levels c.args.tree.now (length c.args.path.now - 1) c.args.path.now) c.args.path.now c.args.value)) (λ _. ⊥) (Ok (Some x)))
     (sym (c.in-Ok.ensures.ok ∙ ap (λ (x : Statements). put_at x c.args.path.now c.args.value)
     (c.in_default-put_levels.ensures.ok.is ∙ ap (λ (x : Statements). with_levels x (length c.args.path.now - 1) c.args.path.now) c.in_ok-next.ensures)))
     (added c.args.tree.now c.args.path.now c.args.value c.requires.new c.in_default.ensures.ok)

@@ -1,7 +1,7 @@
 use Rattle.std.proofs.Common.{refl, sym, ap, subst, ◌∙◌, Some, Ok}
 use Rattle.cfg_tree.specs.Statements.{Statements}
 use Rattle.cfg_tree.specs.Change.{put_at}
-use Rattle.edit_ops.specs.Made.{IsMade, IsItself, IsOther}
+use Rattle.edit_ops.specs.Made.{IsPartMade, IsItself, IsOther}
 use Rattle.edit_ops.proofs.SetLemmas.{unchanged, replaced, replace_refused, not_so}
 use Rattle.edit_ops.proofs.set.replace.Goals as goal
 
@@ -19,6 +19,6 @@ replace-requires c = subst (λ (x : Statements). IsOther x c.args.path.now c.arg
 
 pub returns : goal.returns
 returns c =
-    subst (λ (x : Statements). IsMade c.args.tree.now (Ok (put_at c.args.tree.now c.args.path.now c.args.value)) (IsItself c.args.spared c.args.path.now) (Ok (Some x)))
+    subst (λ (x : Statements). IsPartMade c.args.tree.now (Ok (put_at c.args.tree.now c.args.path.now c.args.value)) (IsItself c.args.spared c.args.path.now) (Ok (Some x)))
     (sym (c.in_ok-replace.ensures.ok ∙ ap (λ (x : Statements). put_at x c.args.path.now c.args.value) c.in_ok-next.ensures))
     (replaced c.args.tree.now c.args.path.now c.args.value c.args.spared c.requires.tree c.requires.other (not_so c.if-has.ensures.1) c.in_default.ensures.ok)

@@ -3,7 +3,7 @@ use Rattle.cfg_base.specs.declared.value.Value.{Value}
 use Rattle.cfg_tree.specs.Statements.{Statements}
 use Rattle.cfg_tree.specs.Change.{put_at}
 use Rattle.edit_ops.specs.Value.{value_set}
-use Rattle.edit_ops.specs.Made.{IsMade, IsOther, IsNewStatement}
+use Rattle.edit_ops.specs.Made.{IsPartMade, IsOther, IsNewStatement}
 use Rattle.edit_ops.proofs.NearLemmas.{set_there}
 use Rattle.edit_ops.proofs.AddLemmas.{adds_none}
 use Rattle.edit_ops.proofs.FitLemmas.{other_set, new_set}
@@ -27,7 +27,7 @@ returns-then-adds_none c =
 
 pub returns-else-adds_none : goal.returns-else-adds_none
 returns-else-adds_none c =
-    subst (λ (x : Statements). IsMade c.args.tree.now (Ok x) (λ _. ⊥) c.replace.result)
+    subst (λ (x : Statements). IsPartMade c.args.tree.now (Ok x) (λ _. ⊥) c.replace.result)
     (sym (set_there c.args.tree.now c.args.target.now.path c.in-Some.old.now c.args.target.now.words c.requires.target.steps c.in-Some.ensures.tree (sym c.in-Some.ensures.value)
     ∙ ap (put_at c.args.tree.now c.args.target.now.path) (sym c.in_ok-value-in-Some.ensures)))
     c.replace.ensures

@@ -1,7 +1,7 @@
 use Rattle.std.proofs.Common.{◌≡◌, take}
-use Rattle.session_threads.specs.Results.{users_of}
+use Rattle.session_threads.specs.Results.{users_of_ends}
 use Rattle.run_scripts.proofs.runs.ends_of.Given as goal
 
 -- the ends so far are of the first users
 abbrev pub invariant-loop-user : goal.invariant-loop-user
-invariant-loop-user l = users_of l.ends.items ≡ take l.user-index l.users
+invariant-loop-user l = users_of_ends l.ends.items ≡ take l.user-index l.users

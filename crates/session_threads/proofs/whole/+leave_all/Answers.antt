@@ -1,8 +1,17 @@
-use Rattle.std.proofs.Common.{ap, arith, ◌∙◌}
+use Rattle.std.proofs.Common.{◌≤◌, ◌∷◌, [], ap, arith, length, rules, ◌∙◌}
+use Rattle.std.proofs.lemmas.List.{length-append}
 use Rattle.session_threads.specs.Rows.{taken}
 use Rattle.session_threads.specs.Passes.{CallerPass}
-use Rattle.session_threads.proofs.RowLemmas.{AreLeft-then, caller-with_all_ended, last_here, lock-with_all_ended, room_left}
+use Rattle.session_threads.proofs.RowLemmas.{AreLeft-then, caller-with_all_ended, last_here, lock-with_all_ended, room_left, seats_left}
 use Rattle.session_threads.proofs.whole.+leave_all.Goals as goal
+
+pub leave_all-status-requires : goal.leave_all-status-requires
+leave_all-status-requires g t c =
+    let left = seats_left c.args.lock.now c.pop.new.self.items c.args.seats.items c.in-Some.place c.requires.seats c.in-Some.ensures.items in
+    let long = ap length c.in-Some.ensures.items ∙ length-append c.pop.new.self.items (c.in-Some.place ∷ []) in
+    let ends : length c.pop.new.self.items ≤ c.args.ends.now.cap = omega (arith, long, c.requires.ends.1) in
+    let turns : length c.pop.new.self.items ≤ c.args.turns.now.cap = omega (arith, long, c.requires.turns.1) in
+    search rules
 
 pub join-requires-clause-here : goal.join-requires-clause-here
 join-requires-clause-here g t c = (

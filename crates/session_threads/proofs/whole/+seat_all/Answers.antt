@@ -38,6 +38,6 @@ returns-clause-seats g t c = λ opening has.
       reader = c.in-Some-take.reader;
       end = c.in-Some.end;
       how = NoMemory;
-      turns = c.from.result;
+      turns = c.none.result;
     }) (c.seat_all.ensures.seats opening taken.0) c.in-Some.ensures.items c.push_reserved.ensures.items c.seat_all.ensures.pass
     c.split-own.ensures.new refl refl taken.1

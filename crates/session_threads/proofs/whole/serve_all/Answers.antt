@@ -1,11 +1,17 @@
+use denote.Param.{param}
+use denote.Exit.{no, unseen, yes}
+use denote.Param.Send.{IsSend, Quiet, Quiet-if}
+use mir.Syntax.{of_param}
 use Rattle.std.proofs.Common.{rules, ◌≡◌, ◌≤◌, ap, sym, subst, ◌∙◌, length, vec_capacity, vec_items}
 use Rattle.config_db.specs.View.{DatabaseView, opened}
 use Rattle.session_threads.specs.Begun.{start_of}
 use Rattle.session_shell.specs.Opened.{end_view}
 use Rattle.session_threads.specs.Looks.{ticker_view}
 use Rattle.session_threads.specs.Served.{ServedView}
+use Rattle.session_threads.proofs.SendLemmas.{place_row, place_send}
 use Rattle.session_threads.proofs.WholeLemmas.{AreServed-begun, AreServed-handed, AreServed-none, AreServed-of, all_here, as_many}
 use Rattle.session_threads.proofs.WholeLemmas.{can_serve, closes, gone_here, handed, made_of}
+use Rattle.session_threads.proofs.whole.serve_all.Lts.{arg-11-1}
 use Rattle.session_threads.proofs.whole.serve_all.Goals as goal
 
 pub returns-in-Err : goal.returns-in-Err
@@ -30,6 +36,16 @@ seat_all-requires-clause-readers g c = (
   c.args.database.opening,
   handed c.args.database c.readers-readers.result (length c.args.ends.items) c.requires.readers c.readers-readers.ensures.taken,
 )
+
+pub serve_seats-requires-send-T : goal.serve_seats-requires-send-T
+serve_seats-requires-send-T g c κs within =
+    let places : IsSend (place_row (param 1 g.row.S) (param 2 g.row.K) (param 3 g.row.C) (param 5 g.row.D) (param 6 g.row.J) g.D.Disk g.J.Naming) =
+    place_send (param 1 g.row.S) (param 2 g.row.K) (param 3 g.row.C) (param 5 g.row.D) (param 6 g.row.J) g.D.Disk g.J.Naming (search rules)
+    (search rules) (search rules) (search rules) (search rules) in
+    let left : Quiet ((arg-11-1 g.row.R g.row.S g.row.K g.row.C g.row.B g.row.D g.row.J g.R.laws g.S.laws g.K.laws g.C.laws g.B.laws g.D.laws g.J.laws
+    g.R.Threads g.R.Threads-dict g.R.Wait g.R.Wait-dict g.S.Source g.S.Source-dict g.K.Sink g.K.Sink-dict g.C.Clock g.C.Clock-dict
+    g.B.Beat g.B.Beat-dict g.D.Disk g.D.Disk-dict g.J.Naming g.J.Naming-dict κs).exit yes) = places.leaving no in
+    record { owned = places.owned; leaving = λ k. Quiet-if (k (of_param 1)) _ unseen left (λ x w. tt) }
 
 pub serve_seats-requires-after_bounds : goal.serve_seats-requires-after_bounds
 serve_seats-requires-after_bounds g c κs within =

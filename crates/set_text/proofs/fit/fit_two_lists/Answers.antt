@@ -1,6 +1,6 @@
 use Rattle.std.proofs.Common.{◌<◌, ◌∙◌, false, subst, sym, length, arith}
 use Rattle.set_text.specs.declared.phase.Phase.TheVariants.{Bare}
-use Rattle.set_text.specs.Phase.{kinds_in, Leads, StopsFrom}
+use Rattle.set_text.specs.Phase.{kinds_in, PhaseLeads, StopsFrom}
 use Rattle.set_text.proofs.TwoListsLemmas.{left_behind, two_lists_more, two_lists_first, two_lists_no_word, marked_stops, marked_more, marked_around}
 use Rattle.set_text.proofs.fit.fit_two_lists.Goals as goal
 
@@ -33,7 +33,7 @@ returns-then-ends c =
     let within : c.in_ok-count.count < length c.args.rest.now = omega (arith, are.within, c.if-count-rest.false) in
     marked_around c.args.line.now c.args.one c.args.other c.in-Some.mover c.args.rest.now c.in_ok-count.count _
     (record { are = c.in_ok-count.ensures; some = c.if-count-eq0.false; within = within; marked = sym c.in_ok-mover_of.ensures ∙ c.in-Some.is })
-    (record { phase = c.in-Ok.phase; leads = subst (λ ts. Leads false Bare (kinds_in ts) c.in-Ok.phase) (left_behind c.args.rest.now c.in_ok-count.count) c.in-Ok.ensures; ends_there = sym c.if-ends.ensures })
+    (record { phase = c.in-Ok.phase; leads = subst (λ ts. PhaseLeads false Bare (kinds_in ts) c.in-Ok.phase) (left_behind c.args.rest.now c.in_ok-count.count) c.in-Ok.ensures; ends_there = sym c.if-ends.ensures })
 
 pub returns-else-ends : goal.returns-else-ends
 returns-else-ends c =
@@ -41,4 +41,4 @@ returns-else-ends c =
     let within : c.in_ok-count.count < length c.args.rest.now = omega (arith, are.within, c.if-count-rest.false) in
     marked_more c.args.line.now c.args.one c.args.other c.in-Some.mover c.args.rest.now c.in_ok-count.count _
     (record { are = c.in_ok-count.ensures; some = c.if-count-eq0.false; within = within; marked = sym c.in_ok-mover_of.ensures ∙ c.in-Some.is })
-    (record { phase = c.in-Ok.phase; leads = subst (λ ts. Leads false Bare (kinds_in ts) c.in-Ok.phase) (left_behind c.args.rest.now c.in_ok-count.count) c.in-Ok.ensures; ends_there = sym c.if-ends.ensures })
+    (record { phase = c.in-Ok.phase; leads = subst (λ ts. PhaseLeads false Bare (kinds_in ts) c.in-Ok.phase) (left_behind c.args.rest.now c.in_ok-count.count) c.in-Ok.ensures; ends_there = sym c.if-ends.ensures })

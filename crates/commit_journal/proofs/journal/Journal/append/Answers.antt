@@ -4,7 +4,7 @@ use Rattle.commit_journal.specs.declared.flight.Flight.{Flight}
 use Rattle.commit_journal.specs.declared.flight.Flight.TheVariants.{Nothing, Record as InFlight}
 use Rattle.commit_journal.specs.Journal.{JournalView, IsWhole, PairCause, counted, disk_a, disk_b}
 use Rattle.commit_journal.specs.Steps.{IsAppended, IsAppendFaulted, IsAppendSafe, Counts, Stays, appending}
-use Rattle.disk_model.specs.Disk.{GoesOn, MadePart}
+use Rattle.disk_model.specs.Disk.{DiskGoesOn, MadePart}
 use Rattle.commit_journal.proofs.CallLemmas.{counts_calls, no_calls}
 use Rattle.commit_journal.proofs.PairLemmas.{append_leaves, append_waits, append_rests, rests_only, append_images, the_one, sound_one, behind_is}
 use Rattle.commit_journal.proofs.StepLemmas.{moved, moved_cause, moved_counts, moved_stays}
@@ -79,7 +79,7 @@ returns-in-Done g c =
             (append_rests j.b_counts h h' o rs r j.gate _ has.rests leaves (tried.done c.in-Done.is tell.0 rs r has.rests.settled sound is));
         idle = ap (λ (v : JournalView). v.flight) c.self.view_is ∙ c.requires.idle;
         gate_is = ap (λ (l : List ℕ). j.gate + length l) bytes;
-        made = λ t. subst (λ (l : List ℕ). GoesOn h (appending j.gate l) h') bytes (tried.file.made c.in-Done.is t);
+        made = λ t. subst (λ (l : List ℕ). DiskGoesOn h (appending j.gate l) h') bytes (tried.file.made c.in-Done.is t);
         four = more ∙ ap (counted j.counting_calls) (tried.four c.in-Done.is);
       });
       err = tt;

@@ -1,5 +1,5 @@
 use Rattle.std.proofs.Common.{◌∷◌, [], ◌++◌, List, ℕ, false, length, IsTrue, refl, subst, ap, ◌∙◌, arith, rules}
-use Rattle.disk_model.specs.Disk.{GoesOn, MadePart}
+use Rattle.disk_model.specs.Disk.{DiskGoesOn, MadePart}
 use Rattle.commit_journal.specs.Opening.{making}
 use Rattle.record_code.specs.Record.{Record, bodies, gated}
 use Rattle.record_code.proofs.ReadingLemmas.{length-body}
@@ -36,7 +36,7 @@ returns-in-Ok-clause-made g c =
       };
       only = λ t u r one. rests_only false _ _ _ (r ∷ [])
           (made_rests _ _ _ r (sound_one _ r all_sound one) (bytes ∙ ap (λ (l : List Record). gated (bodies l)) one) (made.a.made refl t) _ _ (made.b.made refl u));
-      made_a = λ t. subst (λ (l : List ℕ). GoesOn (view c.args.a).history (making (head_a ++ l)) (view c.make_files.new.a).history) bytes (made.a.made refl t);
+      made_a = λ t. subst (λ (l : List ℕ). DiskGoesOn (view c.args.a).history (making (head_a ++ l)) (view c.make_files.new.a).history) bytes (made.a.made refl t);
       made_b = λ u. made.b.made refl u;
     }
 

@@ -1,5 +1,5 @@
 use Rattle.std.proofs.Common.{◌≡◌, List, ℕ, take, min, length, ap, subst, ◌∙◌, arith}
-use Rattle.disk_model.specs.Disk.{State, after, at_first}
+use Rattle.disk_model.specs.Disk.{DiskState, after, at_first}
 use Rattle.disk_model.specs.declared.kept.Kept.{Kept}
 use Rattle.disk_model.specs.Kept.{RecordView, calls_of}
 use Rattle.disk_model.specs.Marks.{Knows}
@@ -23,4 +23,4 @@ returns c =
     ∙ after_recorded s c.args.call r.kept.items r.written.items r.refused
     ∙ ap (λ (v : RecordView). after s (take c.args.call v.calls)) c.self.view_is in
     let replay = c.in_ok-replayed.field-0 in
-    subst (λ (t : State). Knows replay.bytes.items replay.marks.items replay.synced t) here c.in_ok-replayed.ensures
+    subst (λ (t : DiskState). Knows replay.bytes.items replay.marks.items replay.synced t) here c.in_ok-replayed.ensures

@@ -1,6 +1,6 @@
 use Rattle.std.proofs.Common.{◌≡◌, ℕ, List, length, ap, sym, arith, ◌++◌, ◌∙◌}
 use Rattle.disk_model.specs.Kept.{RecordView}
-use Rattle.disk_model.specs.Disk.{State, contents_of}
+use Rattle.disk_model.specs.Disk.{DiskState, contents_of}
 use Rattle.disk_model.specs.Memory.{MemView}
 use Rattle.disk_model.proofs.Replayed.{past}
 use Rattle.disk_model.proofs.States.{state_first}
@@ -12,7 +12,7 @@ invariant_of-result c =
     c.in_ok-extend_from_slice.ensures.items ∙ ap (λ (l : List ℕ). l ++ c.deref.result.now) c.in_ok-bytes.ensures.items ∙ c.deref.ensures.value in
     let room = ap (λ (v : MemView). v.room) c.self.view_is in
     record {
-      bytes = items ∙ sym (ap (λ (s : State). s.contents) (state_first c.args.image.items))
+      bytes = items ∙ sym (ap (λ (s : DiskState). s.contents) (state_first c.args.image.items))
           ∙ ap (λ (r : RecordView). contents_of (past c.args.image.items r.calls)) (sym c.in_ok-new.ensures);
       within = omega (arith, ap length items, room);
       most = c.self.invariant.most;

@@ -1,7 +1,7 @@
 use Rattle.std.proofs.Common.{◌≡◌, sym, subst, rules}
 use Rattle.session_shell.specs.Transcript.{SessionView}
 use Rattle.session_shell.specs.declared.reading.Item.TheVariants.{Ask, Wrong}
-use Rattle.session_shell.specs.Steps.{Serves, standing, view_of}
+use Rattle.session_shell.specs.Steps.{ServesItem, standing, view_of}
 use Rattle.session_shell.proofs.TakeLemmas.{Serves-asked, Serves-refused}
 use Rattle.session_shell.proofs.serving.Serving.serve_item.Goals as goal
 
@@ -11,7 +11,7 @@ returns-in-Ask-clause-serves g c =
     let new : SessionView = record { coming = g.C.Clock.coming c.now-moment.new.self; held = (g.K.Sink.view c.answer.new.sink).held; faults = (g.K.Sink.view c.answer.new.sink).faults; turns = c.note.new.self.items } in
     let is : c.args.item ≡ Ask c.in-Ask.command = search rules in
     let read : c.args.self.now.reading ≡ c.self.inside.reading = search rules in
-    subst (λ i. Serves g.D.Door.follows i c.answer.result (standing c.args.door.now c.args.self.now.reading old) (standing c.ask-given.new.self c.answer.new.reading new)) (sym is)
+    subst (λ i. ServesItem g.D.Door.follows i c.answer.result (standing c.args.door.now c.args.self.now.reading old) (standing c.ask-given.new.self c.answer.new.reading new)) (sym is)
     (Serves-asked g.D.Door.follows c.in-Ask.command c.now-moment.result c.ask-given.result c.answer.result c.args.door.now c.ask-given.new.self c.args.self.now.reading c.answer.new.reading old new (search rules) (search rules) (search rules) (search rules) (search rules))
 
 pub returns-in-Wrong-clause-serves : goal.returns-in-Wrong-clause-serves
@@ -20,6 +20,6 @@ returns-in-Wrong-clause-serves g c =
     let new : SessionView = record { coming = g.C.Clock.coming c.now-moment.new.self; held = (g.K.Sink.view c.put_fault.new.sink).held; faults = (g.K.Sink.view c.put_fault.new.sink).faults; turns = c.note-in-Wrong.new.self.items } in
     let is : c.args.item ≡ Wrong c.in-Wrong.fault = search rules in
     let read : c.args.self.now.reading ≡ c.self.inside.reading = search rules in
-    subst (λ r. Serves g.D.Door.follows c.args.item c.put_fault.result (standing c.args.door.now c.args.self.now.reading old) (standing c.args.door.now r new)) read
-    (subst (λ i. Serves g.D.Door.follows i c.put_fault.result (standing c.args.door.now c.args.self.now.reading old) (standing c.args.door.now c.args.self.now.reading new)) (sym is)
+    subst (λ r. ServesItem g.D.Door.follows c.args.item c.put_fault.result (standing c.args.door.now c.args.self.now.reading old) (standing c.args.door.now r new)) read
+    (subst (λ i. ServesItem g.D.Door.follows i c.put_fault.result (standing c.args.door.now c.args.self.now.reading old) (standing c.args.door.now c.args.self.now.reading new)) (sym is)
     (Serves-refused g.D.Door.follows c.now-moment.result c.in-Wrong.fault c.put_fault.result c.args.door.now c.args.self.now.reading old new (search rules) (search rules) (search rules)))
