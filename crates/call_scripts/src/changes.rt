@@ -1,6 +1,6 @@
 //! Changes of the tree that a script keeps, and looks at it.
 
-ghost use Rattle.cfg_tree.specs.Resolve.{IsLevelPath};
+ghost use Rattle.cfg_tree.specs.Typed.{IsLevelPath};
 
 use crate::level::resolved;
 use cfg_base::{Path, Value, WordList, Words};

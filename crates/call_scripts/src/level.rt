@@ -4,11 +4,12 @@ ghost use Rattle.std.specs.Prelude.{◌≡◌, [], IfOk, IsTrue, Some, true};
 ghost use Rattle.cfg_schema.specs.declared.place.Place.{Place};
 ghost use Rattle.cfg_schema.specs.Place.{place_of};
 ghost use Rattle.cfg_schema.specs.Profile.{is_level, row_of};
-ghost use Rattle.cfg_tree.specs.Resolve.{IsLevelPath, IsTargetBelow};
+ghost use Rattle.cfg_tree.specs.Typed.{IsLevelPath};
+ghost use Rattle.cfg_resolve.specs.Resolve.{IsTargetBelow};
 
 use cfg_base::{Path, Shape, Words};
+use cfg_resolve::{Target, WordsFault, resolve};
 use cfg_schema::{Place, row};
-use cfg_tree::{Target, WordsFault, resolve};
 use script_lines::{Arg, Fault, Text, halves, say_path, say_words, words_of};
 use std::alloc::Global;
 

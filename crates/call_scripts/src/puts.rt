@@ -8,15 +8,16 @@ ghost use Rattle.cfg_schema.specs.Place.{place_of};
 ghost use Rattle.cfg_schema.specs.Profile.{row_of};
 ghost use Rattle.cfg_tree.specs.Change.{IsReady};
 ghost use Rattle.cfg_tree.specs.Children.{order_in};
-ghost use Rattle.cfg_tree.specs.Resolve.{IsTargetBelow};
 ghost use Rattle.cfg_tree.specs.Statements.{HasParent, parent_of};
 ghost use Rattle.cfg_tree.specs.Tree.{IsTree};
 ghost use Rattle.cfg_tree.specs.Typed.{AreCounted};
+ghost use Rattle.cfg_resolve.specs.Resolve.{IsTargetBelow};
 
 use crate::level::resolved;
 use cfg_base::{NoMemory, Path, Shape, Value, WordList, Words};
+use cfg_resolve::Target;
 use cfg_schema::{Place, row};
-use cfg_tree::{Target, Tree, TreeFault};
+use cfg_tree::{Tree, TreeFault};
 use script_lines::{Arg, Fault, Text, say, say_number, words_of};
 use std::alloc::Global;
 

@@ -1,6 +1,7 @@
 -- What two files spell that were just made.
 use Rattle.std.proofs.Common.{◌≡◌, ◌≤◌, ◌<◌, ◌⊎◌, inl, inr, ℕ, ◌+◌, ◌-◌, ◌%◌, ◌^◌, ◌==◌, true, false, cond, List, [], ◌∷◌, ◌++◌, length, get_or, refl, sym, ◌∙◌, ap, subst, arith, length-append}
 use Rattle.std.proofs.lemmas.List.{get_or-append_right, get_or_append_left}
+use Rattle.std.specs.Int.{w64, from_be_bytes}
 use Rattle.disk_model.specs.Disk.{DiskGoesOn, History, DiskState, contents_of, put}
 use Rattle.disk_model.proofs.Images.{put_same, put_other, put_no_shorter}
 use Rattle.disk_model.proofs.States.{length-put}
@@ -10,11 +11,16 @@ use Rattle.record_code.proofs.Slices.{slice_is}
 use Rattle.record_code.proofs.ReadingLemmas.{length-body, body_there}
 use Rattle.commit_journal.specs.Opening.{making, making_b}
 use Rattle.commit_journal.specs.Pair.{head_a, head_b, magic, file_gate, generation, HasHeader, b_counts, IsChosen, IsSettled, Rests}
+use Rattle.commit_journal.specs.Rotation.{IsSpare}
 use Rattle.commit_journal.proofs.FileLemmas.{goes_state}
 
 -- the header of A and the open gate behind it
 abbrev pub front_a : List ℕ
 front_a = 0x43 ∷ 0x4f ∷ 0x4e ∷ 0x46 ∷ 0x44 ∷ 0x4a ∷ 0x31 ∷ 0x0a ∷ 0 ∷ 0 ∷ 0 ∷ 0 ∷ 0 ∷ 0 ∷ 0 ∷ 1 ∷ 0 ∷ 1 ∷ []
+
+-- the generation that stands there
+abbrev one : List ℕ
+one = 0 ∷ 0 ∷ 0 ∷ 0 ∷ 0 ∷ 0 ∷ 0 ∷ 1 ∷ []
 
 -- a file with bytes put at its start
 front : (bytes old : List ℕ) (k : ℕ) → k < length bytes → byte (put 0 bytes old) k ≡ get_or bytes k 0
@@ -73,6 +79,18 @@ module _ (bytes old : List ℕ) (r : Record) (sound : IsSound r) (is : bytes ≡
         shut = λ opened. absurd (let z : 0 ≡ 1 = sym stands.then ∙ ap (λ (n : ℕ). byte made n) place ∙ opened in omega arith);
         inside = omega (arith, made_long, place);
       }
+
+  -- and generation 1
+  pub number_made : generation made ≡ 1
+  unfolding generation
+  number_made = ap (from_be_bytes w64) (slice_is made 8 8 one refl each)
+    where
+      each : (k : ℕ) → k < 8 → byte made (8 + k) ≡ get_or one k 0
+      each k lt =
+          let back : 8 + k - 8 ≡ k = omega arith in
+          other (8 + k) (omega arith) (inl (omega arith)) ∙ get_or_append_left front_a bytes 0 (8 + k) (omega arith)
+          ∙ get_or-append_right magic (one ++ 0 ∷ (1 ∷ [])) 8 (8 + k) 0 refl (omega arith) ∙ ap (λ (j : ℕ). get_or (one ++ 0 ∷ (1 ∷ [])) j 0) back
+          ∙ get_or_append_left one (0 ∷ (1 ∷ [])) 0 k lt
 
 module _ (old : List ℕ) where
   pub other_made : List ℕ
@@ -154,3 +172,19 @@ module _ (a a' : History) (entry : List ℕ) (r : Record) (sound : IsSound r) (i
     other_quiet = λ k. ap (λ (s : DiskState). s.pending k) (goes_state b b' making_b goes_b);
     chosen = made_is_chosen b b' goes_b;
   }
+
+  pub made_number : generation (contents_of a') ≡ 1
+  unfolding made first
+  made_number =
+      ap generation (contents_made ∙ ap (λ (l : List ℕ). put 16 (1 ∷ []) (put 0 l (contents_of a))) image_is) ∙ number_made (body 0 r) (contents_of a) r sound refl
+
+-- B is at rest beside it
+pub made_spare : (b b' : History) (number : ℕ) → DiskGoesOn b making_b b' → IsSpare number b'
+unfolding other_made
+made_spare b b' number goes =
+    let is : contents_of b' ≡ put 0 head_b (contents_of b) = ap (λ (s : DiskState). s.contents) (goes_state b b' making_b goes) in
+    record {
+      quiet = λ k. ap (λ (s : DiskState). s.pending k) (goes_state b b' making_b goes);
+      long = subst (λ (l : List ℕ). first_gate ≤ length l) (sym is) (other_header (contents_of b)).long;
+      stale = λ opened. absurd (let z : 0 ≡ 1 = sym (other_shut (contents_of b)) ∙ ap file_gate (sym is) ∙ opened in omega (arith, z));
+    }

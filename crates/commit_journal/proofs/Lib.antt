@@ -9,3 +9,6 @@ pub mod SideLemmas
 mod FileLemmas
 mod StepLemmas
 mod OpenLemmas
+mod RotateLemmas
+mod TurnLemmas
+mod JournalLemmas

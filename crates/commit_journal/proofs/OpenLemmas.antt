@@ -1,20 +1,21 @@
 -- Two files that were synced and read, as a journal.
-use Rattle.std.proofs.Common.{◌≡◌, ℕ, Bool, true, false, cond, List, IsTrue, inr, refl, sym, ◌∙◌, ap, subst}
+use Rattle.std.proofs.Common.{◌≡◌, ◌≢◌, ◌≤◌, ◌+◌, ◌%◌, ◌^◌, ◌==◌, length, ℕ, Bool, true, false, cond, List, IsTrue, inr, refl, sym, ◌∙◌, ap, subst}
 use Rattle.disk_model.specs.Disk.{Called, DiskView, History, MaySync, Sync, contents_of}
 use Rattle.disk_model.specs.Pair.{DiskPair}
 use Rattle.record_code.specs.declared.payloads.Placed.{Placed}
 use Rattle.record_code.specs.Listed.{records_of}
-use Rattle.record_code.specs.Reading.{Spells}
+use Rattle.record_code.specs.Reading.{Spells, first_gate}
+use Rattle.commit_journal.specs.declared.header.Header.{Header}
 use Rattle.commit_journal.specs.declared.flight.Flight.TheVariants.{Nothing}
 use Rattle.commit_journal.specs.declared.why.AttachWhy.{AttachWhy}
 use Rattle.commit_journal.specs.declared.why.AttachWhy.TheVariants.{NotAJournal, Damaged, DiskFault, NoMemory}
-use Rattle.commit_journal.specs.Attach.{ExplainsFile, ExplainsPair}
-use Rattle.commit_journal.specs.Files.{AreListed, IsListedFile, IsReadFile, IsSyncedFile}
-use Rattle.commit_journal.specs.Journal.{IsWhole}
-use Rattle.commit_journal.specs.Pair.{IsPair, IsQuiet, Only, PairSpells, Rests, b_counts, counting_of, first_of, second_of}
+use Rattle.commit_journal.specs.Attach.{ExplainsFile, ExplainsPair, IsHeaderOf}
+use Rattle.commit_journal.specs.Files.{AreListed, AreMarked, IsListedFile, IsReadFile, IsSyncedFile}
+use Rattle.commit_journal.specs.Journal.{IsBeside, IsNumbered, IsWhole}
+use Rattle.commit_journal.specs.Pair.{IsPair, IsQuiet, Only, PairSpells, Rests, b_counts, counting_of, file_gate, first_of, generation, second_of}
 use Rattle.commit_journal.proofs.FileLemmas.{called_quiet, may_settles}
 use Rattle.commit_journal.proofs.PairLemmas.{quiet_only}
-use Rattle.commit_journal.proofs.SideLemmas.{side_a}
+use Rattle.commit_journal.proofs.SideLemmas.{side_a, side_b}
 
 pub read_on : (a m a' : DiskView) → IsReadFile a m → IsReadFile m a' → IsReadFile a a'
 read_on a m a' one two = record { tells = two.tells ∙ one.tells; history = two.history ∙ one.history }
@@ -80,6 +81,31 @@ explained_by a m a' b n b' choice why a_read a_on b_read b_on pair is =
     (subst (λ (h : History). ExplainsPair (contents_of a.history) (contents_of h) why) (sym (read_on b n b' b_read b_on).history)
     (explains (contents_of a.history) (contents_of b.history) why pair.0 (subst (λ (l : List ℕ). ExplainsFile l why) same is)))
 
+-- what two headers say of their files, of which the first counts
+pub marked_by : (x y : DiskView) (h k : Header) → IsTrue k.is_sound → (IsTrue x.tells → IsHeaderOf (contents_of x.history) h) → (IsTrue y.tells → IsHeaderOf (contents_of y.history) k)
+    → (IsTrue k.is_open → k.generation ≢ (h.generation + 1) % 2 ^ 64) → AreMarked x y h.generation
+marked_by x y h k sound of_x of_y stale = record {
+  numbered = λ t. sym (of_x t).number;
+  long = λ t. ((of_y t).sound.0 sound).long;
+  stale = λ t opened next. stale ((of_y t).gate ∙ ap (λ (n : ℕ). n == 1) opened) ((of_y t).number ∙ next);
+}
+
+marked_read : (x y x' y' : DiskView) (number : ℕ) → IsReadFile x x' → IsReadFile y y' → AreMarked x y number → AreMarked x' y' number
+marked_read x y x' y' number x_read y_read marked = record {
+  numbered = λ t. ap (λ (h : History). generation (contents_of h)) x_read.history ∙ marked.numbered (subst IsTrue x_read.tells t);
+  long = λ t. subst (λ (h : History). first_gate ≤ length (contents_of h)) (sym y_read.history) (marked.long (subst IsTrue y_read.tells t));
+  stale = λ t. subst (λ (h : History). file_gate (contents_of h) ≡ 1 → generation (contents_of h) ≢ (number + 1) % 2 ^ 64) (sym y_read.history) (marked.stale (subst IsTrue y_read.tells t));
+}
+
+-- what the headers said stands once the files were read on
+pub are_marked : (a m a' b n b' : DiskView) (choice : Bool) (number : ℕ) → IsReadFile a m → IsReadFile m a' → IsReadFile b n → IsReadFile n b'
+    → AreMarked (first_of choice a b) (second_of choice a b) number → AreMarked (first_of choice a' b') (second_of choice a' b') number
+are_marked a m a' b n b' choice number a_read a_on b_read b_on marked =
+    let read_a = read_on a m a' a_read a_on in
+    let read_b = read_on b n b' b_read b_on in
+    marked_read (first_of choice a b) (second_of choice a b) (first_of choice a' b') (second_of choice a' b') number
+    (side_a IsReadFile choice a a' b b' read_a read_b) (side_b IsReadFile choice a a' b b' read_a read_b) marked
+
 pub first_tells : (choice : Bool) (a b : DiskView) → IsTrue a.tells → IsTrue b.tells → IsTrue (first_of choice a b).tells
 first_tells false a b one two = one
 first_tells true a b one two = two
@@ -137,3 +163,9 @@ module _ (a b a' b' : DiskView) (placed : List Placed) (gate : ℕ) (done : Type
   pub whole_now : (choice : Bool) → AreListed files choice placed gate → IsWhole (first_of choice a' b') gate Nothing
   whole_now false listed = (listed.listed.bound, λ t. (records_of placed, record { spells = listed.listed.spells t; quiet = quiet_a (subst IsTrue of_a.tells t) }))
   whole_now true listed = (listed.listed.bound, λ t. (records_of placed, record { spells = listed.listed.spells t; quiet = quiet_b (subst IsTrue of_b.tells t) }))
+
+  -- and what the headers said
+  pub beside_now : (number : ℕ) (choice : Bool) → AreMarked (first_of choice a' b') (second_of choice a' b') number
+      → IsNumbered (first_of choice a' b') number × IsBeside (second_of choice a' b') number Nothing
+  beside_now number false marked = (marked.numbered, λ t. record { quiet = quiet_b (subst IsTrue of_b.tells t); long = marked.long t; stale = marked.stale t })
+  beside_now number true marked = (marked.numbered, λ t. record { quiet = quiet_a (subst IsTrue of_a.tells t); long = marked.long t; stale = marked.stale t })

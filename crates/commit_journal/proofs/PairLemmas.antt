@@ -12,25 +12,25 @@ use Rattle.record_code.proofs.Slices.{slice_same}
 use Rattle.commit_journal.proofs.AppendLemmas.{gate_from}
 use Rattle.commit_journal.specs.Pair.{file_gate, generation, HasHeader, b_counts, PairSpells, first_of, second_of, IsChosen, IsQuiet, IsBeforeOrAfter, IsSettled, LeavesPair, Rests, Waits, SpellsEither, Only}
 
-header_same : (f c : List ℕ) → HasHeader f → Agree f c 0 first_gate → first_gate ≤ length c → HasHeader c
+pub header_same : (f c : List ℕ) → HasHeader f → Agree f c 0 first_gate → first_gate ≤ length c → HasHeader c
 header_same f c header agree long = record {
   long = long;
   begins = sym (slice_same f c 0 8 (λ k from to. agree k from (omega arith))) ∙ header.begins;
 }
 
-gate_same : (f c : List ℕ) → Agree f c 0 first_gate → file_gate f ≡ file_gate c
+pub gate_same : (f c : List ℕ) → Agree f c 0 first_gate → file_gate f ≡ file_gate c
 gate_same f c agree = agree 16 (omega arith) (omega arith)
 
-generation_same : (f c : List ℕ) → Agree f c 0 first_gate → generation f ≡ generation c
+pub generation_same : (f c : List ℕ) → Agree f c 0 first_gate → generation f ≡ generation c
 unfolding generation
 generation_same f c agree = ap (from_be_bytes w64) (slice_same f c 8 8 (λ k from to. agree k (omega arith) (omega arith)))
 
-counts_same_a : (f c o : List ℕ) → Agree f c 0 first_gate → b_counts f o ≡ b_counts c o
+pub counts_same_a : (f c o : List ℕ) → Agree f c 0 first_gate → b_counts f o ≡ b_counts c o
 counts_same_a f c o agree =
     ap (λ (g : ℕ). cond (g == 1) (cond (file_gate o == 1) (generation o == (generation f + 1) % 2 ^ 64) false) true) (gate_same f c agree)
     ∙ ap (λ (n : ℕ). cond (file_gate c == 1) (cond (file_gate o == 1) (generation o == (n + 1) % 2 ^ 64) false) true) (generation_same f c agree)
 
-counts_same_b : (o f c : List ℕ) → Agree f c 0 first_gate → b_counts o f ≡ b_counts o c
+pub counts_same_b : (o f c : List ℕ) → Agree f c 0 first_gate → b_counts o f ≡ b_counts o c
 counts_same_b o f c agree =
     ap (λ (g : ℕ). cond (file_gate o == 1) (cond (g == 1) (generation f == (generation o + 1) % 2 ^ 64) false) true) (gate_same f c agree)
     ∙ ap (λ (n : ℕ). cond (file_gate o == 1) (cond (file_gate c == 1) (n == (generation o + 1) % 2 ^ 64) false) true) (generation_same f c agree)

@@ -7,9 +7,9 @@ use Rattle.disk_model.proofs.States.{state_called}
 use Rattle.record_code.specs.Record.{Record}
 use Rattle.record_code.specs.Reading.{byte, Spells}
 use Rattle.commit_journal.specs.Pair.{IsQuiet, IsSettled, IsAfter, IsBeforeOrAfter, IsChosen, FileSettles, Waits, LeavesPair, WasLeft, SpellsEither, first_of, second_of}
-use Rattle.commit_journal.specs.Journal.{gate_behind, IsInFlight}
+use Rattle.commit_journal.specs.Journal.{gate_behind, IsRecordInFlight}
 use Rattle.commit_journal.specs.declared.flight.Flight.{Flight}
-use Rattle.commit_journal.specs.declared.flight.Flight.TheVariants.{Nothing, Record as InFlight}
+use Rattle.commit_journal.specs.declared.flight.Flight.TheVariants.{Nothing, Record as InFlight, Image as ImageInFlight}
 use Rattle.commit_journal.proofs.PairLemmas.{either_spells}
 
 settled_quiet : (s : DiskState) (cleared : Bool) → ((k : ℕ) → s.pending k ≡ false) → (k : ℕ) → (settled s cleared).pending k ≡ false
@@ -82,9 +82,10 @@ module _ (h h' : History) (rs : List Record) (r : Record) (gate : ℕ) (settles 
       not_one : byte (contents_of h') gate ≢ 1
       not_one = let e : (byte (contents_of h') gate == 1) ≡ false = sym told ∙ shut in grind (arith, nat_tests)
 
-pub in_flight : (f : Flight) → IsInFlight f → (n : ℕ) × (f ≡ InFlight n)
+pub in_flight : (f : Flight) → IsRecordInFlight f → (n : ℕ) × (f ≡ InFlight n)
 in_flight Nothing none = absurd none
 in_flight (InFlight n) some = (n, refl)
+in_flight (ImageInFlight n) none = absurd none
 
 -- each pair of images since then might have been left before
 pub settle_leaves : (b : Bool) (h h' o o' : History) → FileSettles h h' → FileSettles o o'

@@ -3,12 +3,14 @@ use Rattle.std.specs.Prelude.{◌≡◌, ◌≤◌, ◌<◌, ◌+◌, ◌-◌, �
 use Rattle.cfg_base.specs.Counts.{Rose}
 use Rattle.disk_model.specs.Disk.{DiskView, History, state_of, contents_of, IsImage}
 use Rattle.disk_model.specs.Pair.{DiskPair}
-use Rattle.record_code.specs.Record.{Record, body}
+use Rattle.record_code.specs.Record.{Record, body, bodies}
+use Rattle.record_code.specs.Reading.{first_gate}
 use Rattle.commit_journal.specs.declared.flight.Flight.{Flight}
-use Rattle.commit_journal.specs.declared.flight.Flight.TheVariants.{Nothing, Record as InFlight}
+use Rattle.commit_journal.specs.declared.flight.Flight.TheVariants.{Nothing, Record as InFlight, Image as ImageInFlight}
 use Rattle.commit_journal.specs.declared.settling.Settled.{Settled}
 use Rattle.commit_journal.specs.declared.settling.Settled.TheVariants.{Kept, NotKept}
-use Rattle.commit_journal.specs.Pair.{first_of, second_of, IsSettled, IsBeforeOrAfter, Rests, Waits, LeavesPair}
+use Rattle.commit_journal.specs.Pair.{generation, first_of, second_of, IsSettled, IsBeforeOrAfter, Rests, Waits, LeavesPair}
+use Rattle.commit_journal.specs.Rotation.{IsSpare, ReplacesFrom, WaitsReplaced}
 
 -- the disk that counts and the other one, and what is in flight
 pub record JournalView : Type 0 where
@@ -34,6 +36,19 @@ IsIdle v = v.flight ≡ Nothing
 abbrev pub IsInFlight : Flight → Type 0
 IsInFlight Nothing = ⊥
 IsInFlight (InFlight next) = Unit {0}
+IsInFlight (ImageInFlight next) = Unit {0}
+
+-- a record is
+abbrev pub IsRecordInFlight : Flight → Type 0
+IsRecordInFlight Nothing = ⊥
+IsRecordInFlight (InFlight next) = Unit {0}
+IsRecordInFlight (ImageInFlight next) = ⊥
+
+-- an image is
+abbrev pub IsImageInFlight : Flight → Type 0
+IsImageInFlight Nothing = ⊥
+IsImageInFlight (InFlight next) = ⊥
+IsImageInFlight (ImageInFlight next) = Unit {0}
 
 -- the gate behind a record at this gate, or the last place for one
 abbrev pub gate_behind : ℕ → Record → ℕ
@@ -48,6 +63,15 @@ pub record Has (v : JournalView) (rs : List Record) : Type 0 where
 pub record Awaits (v : JournalView) (rs : List Record) (r : Record) : Type 0 where
   pub flight : v.flight ≡ InFlight (gate_behind v.gate r)
   pub waits : Waits v.b_counts v.counting.history v.other.history v.gate rs r
+
+-- the gate behind the records of an image, or the last place for one
+abbrev pub image_gate : List Record → ℕ
+image_gate image = min (first_gate + length (bodies image)) (2 ^ 62 - 1)
+
+-- the journal has these records, and of the image in the other file it isn't known whether it is the list
+pub record AwaitsImage (v : JournalView) (rs image : List Record) : Type 0 where
+  pub flight : v.flight ≡ ImageInFlight (image_gate image)
+  pub waits : WaitsReplaced v.b_counts v.counting.history v.other.history v.gate rs (generation (contents_of v.counting.history)) image (image_gate image)
 
 -- a count that goes on, and stands still at its last value
 abbrev pub counted : ℕ → ℕ → ℕ
@@ -96,6 +120,20 @@ IsWhole counting gate (InFlight next) =
     × (IsTrue counting.tells → (rs : List Record) × (r : Record)
     × (next ≡ gate_behind gate r)
     × ((c : List ℕ) → IsImage (state_of counting.history) c → IsBeforeOrAfter (contents_of counting.history) rs r gate c))
+IsWhole counting gate (ImageInFlight next) =
+    (gate < 2 ^ 62)
+    × (next < 2 ^ 62)
+    × (IsTrue counting.tells → (rs : List Record) × IsSettled counting.history rs gate)
+
+-- its generation is this one
+abbrev pub IsNumbered : DiskView → ℕ → Type 0
+IsNumbered counting number = IsTrue counting.tells → generation (contents_of counting.history) ≡ number
+
+-- what is true of the other file
+abbrev pub IsBeside : DiskView → ℕ → Flight → Type 0
+IsBeside other number Nothing = IsTrue other.tells → IsSpare number other.history
+IsBeside other number (InFlight next) = IsTrue other.tells → IsSpare number other.history
+IsBeside other number (ImageInFlight next) = IsTrue other.tells → (image : List Record) × ReplacesFrom number image next other.history
 
 -- no count of faults of two disks fell, and a failure comes only where one of them rose
 pub record PairCause (a a' b b' : ℕ) (failed : Type 0) : Type 0 where
@@ -103,10 +141,11 @@ pub record PairCause (a a' b b' : ℕ) (failed : Type 0) : Type 0 where
   pub later_b : b ≤ b'
   pub rose : failed → Rose a a' ⊎ Rose b b'
 
--- the place of the gate behind a record in flight
+-- the place of the gate behind what is in flight
 abbrev pub next_of : Flight → ℕ → ℕ
 next_of Nothing gate = gate
 next_of (InFlight next) gate = next
+next_of (ImageInFlight next) gate = next
 
 -- what the journal has once it is settled
 abbrev pub HasSettled : JournalView → List Record → Record → Settled → Type 0

@@ -8,7 +8,7 @@ ghost use Rattle.commit_journal.specs.Pair.{head_a, head_b};
 
 use crate::appending::OPEN;
 use crate::flight::Flight;
-use crate::header::{Header, read_header};
+use crate::header::{FILE_GATE, Header, read_header};
 use crate::journal::Journal;
 use crate::why::{CreateFault, CreateWhy};
 use disk_model::{Disk, DiskDone};
@@ -54,9 +54,6 @@ pub(crate) fn find_journal<D: Disk>(a: &mut D, b: &mut D) -> Option<bool>
 const HEADER_A: [u8; 17] = *b"CONFDJ1\n\0\0\0\0\0\0\0\x01\0";
 
 const HEADER_B: [u8; 17] = *b"CONFDJ1\n\0\0\0\0\0\0\0\0\0";
-
-// Where the gate of a file stands.
-const FILE_GATE: u64 = 16;
 
 fn image_of(alloc: Global, entry: &[u8]) -> Result<Vec<u8>, AllocError>
     requires { length entry.now < 2 ^ 62 }
@@ -152,6 +149,7 @@ impl<D: Disk> Journal<D> {
                 other: b,
                 b_counts: false,
                 gate: FILE_GATE + entry.len() as u64,
+                generation: 1,
                 flight: Flight::Nothing,
                 limit,
                 counting_calls: 0,

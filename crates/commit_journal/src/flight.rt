@@ -7,16 +7,18 @@ pub enum Flight {
     Nothing,
     /// A record, with the place of the gate behind it.
     Record(u64),
+    /// An image in the file that doesn't count, with the place of the gate behind its records.
+    Image(u64),
 }
 
 impl Flight {
-    /// The place of the gate behind a record in flight.
+    /// The place of the gate behind what is in flight.
     pub(crate) fn next_or(self, gate: u64) -> u64
         ensures { result ≡ next_of self gate }
     {
         match self {
             Flight::Nothing => gate,
-            Flight::Record(next) => next,
+            Flight::Record(next) | Flight::Image(next) => next,
         }
     }
 }

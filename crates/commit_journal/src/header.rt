@@ -12,6 +12,12 @@ use disk_model::{Disk, DiskDone, DiskLen};
 /// The first bytes of each file: `CONFDJ1` and a line feed.
 pub(crate) const MAGIC: [u8; 8] = *b"CONFDJ1\n";
 
+/// Where the generation stands.
+pub(crate) const GENERATION: u64 = 8;
+
+/// Where the gate of the file stands.
+pub(crate) const FILE_GATE: u64 = 16;
+
 /// Where the first record's gate stands.
 pub(crate) const FIRST_GATE: u64 = 17;
 

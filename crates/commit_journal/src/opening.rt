@@ -1,10 +1,10 @@
-ghost use Rattle.std.specs.Prelude.{◌≡◌, ◌⊎◌, ◌↔◌, List, ℕ, IsTrue, IsOk, IfOk, IfErr, IsErrOf};
-ghost use Rattle.disk_model.specs.Disk.{contents_of};
+ghost use Rattle.std.specs.Prelude.{◌≡◌, ◌≢◌, ◌+◌, ◌%◌, ◌^◌, ◌⊎◌, ◌↔◌, true, false, List, ℕ, IsTrue, IsOk, IfOk, IfErr, IsErrOf};
+ghost use Rattle.disk_model.specs.Disk.{DiskView, contents_of};
 ghost use Rattle.disk_model.specs.Pair.{BothTell, pair_of};
 ghost use Rattle.commit_journal.specs.Attach.{ExplainsPair, ExplainsFile, IsHeaderOf};
-ghost use Rattle.commit_journal.specs.Files.{AreListed, IsListedFile, IsReadFile, IsSyncedFile};
+ghost use Rattle.commit_journal.specs.Files.{AreListed, AreMarked, IsListedFile, IsReadFile, IsSyncedFile};
 ghost use Rattle.commit_journal.specs.Journal.{PairCause};
-ghost use Rattle.commit_journal.specs.Pair.{IsPair, b_counts, first_of};
+ghost use Rattle.commit_journal.specs.Pair.{IsPair, b_counts, first_of, second_of};
 
 use crate::header::{Header, read_header};
 use crate::reading::{Listed, list_file};
@@ -27,13 +27,16 @@ pub(crate) fn sync_both<D: Disk>(a: &mut D, b: &mut D) -> DiskDone
 }
 
 fn is_pair(a: &Header, b: &Header) -> bool
-    ensures { (f g : List ℕ) → IsHeaderOf f a.now → IsHeaderOf g b.now → (IsTrue result ↔ IsPair f g) }
+    ensures of_files { (f g : List ℕ) → IsHeaderOf f a.now → IsHeaderOf g b.now → (IsTrue result ↔ IsPair f g) }
+    ensures sound { IsTrue result → IsTrue a.now.is_sound × IsTrue b.now.is_sound }
 {
     a.is_sound && b.is_sound && (a.is_open || b.is_open)
 }
 
 fn counts_b(a: &Header, b: &Header) -> bool
-    ensures { (f g : List ℕ) → IsHeaderOf f a.now → IsHeaderOf g b.now → result ≡ b_counts f g }
+    ensures of_files { (f g : List ℕ) → IsHeaderOf f a.now → IsHeaderOf g b.now → result ≡ b_counts f g }
+    ensures b_stale { result ≡ false → IsTrue b.now.is_open → b.now.generation ≢ (a.now.generation + 1) % 2 ^ 64 }
+    ensures a_stale { result ≡ true → IsTrue a.now.is_open → a.now.generation ≢ (b.now.generation + 1) % 2 ^ 64 }
 {
     if a.is_open {
         b.is_open && b.generation == a.generation.wrapping_add(1)
@@ -42,13 +45,42 @@ fn counts_b(a: &Header, b: &Header) -> bool
     }
 }
 
-/// Whether B counts, where these are a journal's files.
-pub(crate) fn choose<D: Disk>(a: &mut D, b: &mut D) -> Result<bool, AttachWhy>
+/// Whether B counts, and the generation of the file that does.
+#[derive(Clone, Copy, Debug, PartialEq, Eq)]
+pub(crate) struct Choice {
+    pub(crate) b_counts: bool,
+    pub(crate) generation: u64,
+}
+
+fn choice_of(a: &Header, b: &Header) -> Choice
+    ensures of_files { (f g : List ℕ) → IsHeaderOf f a.now → IsHeaderOf g b.now → result.b_counts ≡ b_counts f g }
+    ensures marked { IsTrue a.now.is_sound → IsTrue b.now.is_sound → (x y : DiskView)
+        → (IsTrue x.tells → IsHeaderOf (contents_of x.history) a.now)
+        → (IsTrue y.tells → IsHeaderOf (contents_of y.history) b.now)
+        → AreMarked (first_of result.b_counts x y) (second_of result.b_counts x y) result.generation }
+{
+    if counts_b(a, b) {
+        Choice {
+            b_counts: true,
+            generation: b.generation,
+        }
+    } else {
+        Choice {
+            b_counts: false,
+            generation: a.generation,
+        }
+    }
+}
+
+/// Which file counts, where these are a journal's files.
+pub(crate) fn choose<D: Disk>(a: &mut D, b: &mut D) -> Result<Choice, AttachWhy>
     ensures a { IsReadFile (D.view a.old) (D.view a.new) }
     ensures b { IsReadFile (D.view b.old) (D.view b.new) }
     ensures ok { IsTrue (D.view a.old).tells → IsTrue (D.view b.old).tells → IfOk result (λ choice.
         IsPair (contents_of (D.view a.old).history) (contents_of (D.view b.old).history)
-        × (choice ≡ b_counts (contents_of (D.view a.old).history) (contents_of (D.view b.old).history))) }
+        × (choice.b_counts ≡ b_counts (contents_of (D.view a.old).history) (contents_of (D.view b.old).history))) }
+    ensures marked { IfOk result (λ choice. AreMarked (first_of choice.b_counts (D.view a.old) (D.view b.old))
+        (second_of choice.b_counts (D.view a.old) (D.view b.old)) choice.generation) }
     ensures no { IsTrue (D.view a.old).tells → IsTrue (D.view b.old).tells
         → IsErrOf result AttachWhy.NotAJournal
         → IsPair (contents_of (D.view a.old).history) (contents_of (D.view b.old).history) → ⊥ }
@@ -57,7 +89,7 @@ pub(crate) fn choose<D: Disk>(a: &mut D, b: &mut D) -> Result<bool, AttachWhy>
         (D.view b.old).faults (D.view b.new).faults (IsErrOf result AttachWhy.DiskFault) }
 {
     match (read_header(a), read_header(b)) {
-        (Some(first), Some(second)) if is_pair(&first, &second) => Ok(counts_b(&first, &second)),
+        (Some(first), Some(second)) if is_pair(&first, &second) => Ok(choice_of(&first, &second)),
         (Some(_), Some(_)) => Err(AttachWhy::NotAJournal),
         _ => Err(AttachWhy::DiskFault),
     }
@@ -67,6 +99,7 @@ pub(crate) fn choose<D: Disk>(a: &mut D, b: &mut D) -> Result<bool, AttachWhy>
 #[derive(Drop)]
 pub(crate) struct Opened {
     pub(crate) b_counts: bool,
+    pub(crate) generation: u64,
     pub(crate) listed: Listed,
 }
 
@@ -98,6 +131,8 @@ pub(crate) fn open_files<D: Disk>(alloc: Global, a: &mut D, b: &mut D) -> Result
     ensures b { IsSyncedFile (D.view b.old) (D.view b.new) (IsOk result) }
     ensures ok { IfOk result (λ opened.
         AreListed (pair_of D.view a.new b.new) opened.b_counts opened.listed.payloads opened.listed.gate) }
+    ensures marked { IfOk result (λ opened. AreMarked (first_of opened.b_counts (D.view a.new) (D.view b.new))
+        (second_of opened.b_counts (D.view a.new) (D.view b.new)) opened.generation) }
     ensures err { BothTell (pair_of D.view a.old b.old) → IfErr result (λ why.
         ExplainsPair (contents_of (D.view a.new).history) (contents_of (D.view b.new).history) why) }
     ensures cause { PairCause (D.view a.old).faults (D.view a.new).faults
@@ -106,12 +141,19 @@ pub(crate) fn open_files<D: Disk>(alloc: Global, a: &mut D, b: &mut D) -> Result
     if let DiskDone::Failed = sync_both(a, b) {
         return Err(AttachWhy::DiskFault);
     }
-    let b_counts = match choose(a, b) {
+    let Choice {
+        b_counts,
+        generation,
+    } = match choose(a, b) {
         Ok(choice) => choice,
         Err(why) => return Err(why),
     };
     match list_counting(alloc, a, b, b_counts) {
-        Ok(listed) => Ok(Opened { b_counts, listed }),
+        Ok(listed) => Ok(Opened {
+            b_counts,
+            generation,
+            listed,
+        }),
         Err(why) => Err(why),
     }
 }

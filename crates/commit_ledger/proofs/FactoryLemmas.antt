@@ -1,5 +1,5 @@
 -- The factory commit is an entry, and the list begins with it.
-use Rattle.std.proofs.Common.{◌≡◌, ◌≤◌, [], ◌∷◌, length, refl, arith}
+use Rattle.std.proofs.Common.{◌≡◌, ◌≤◌, inl, [], ◌∷◌, length, refl, arith}
 use Rattle.std.specs.FinMap as map
 use Rattle.cfg_base.specs.Order.{path_cmp}
 use Rattle.cfg_base.specs.declared.value.Value.{Value}
@@ -34,14 +34,21 @@ factory_is_commit P passes = record {
 
 -- a first record is read
 pub first_is_read : (P : Statements → Type 0) (commit : Commit) → IsCommit P commit → commit.number ≡ 1 → commit.minutes ≡ 0 → ReadsAs P (entry_record (CommitOf commit) ∷ []) (opened commit)
-first_is_read P commit is number plain = (
-  opened commit,
-  record {
-    entry = CommitOf commit;
-    is_record = record { is = refl; is_entry = is };
-    commit = commit;
-    first = record { is = refl; number = number; plain = plain };
-    is = refl;
-  },
-  refl,
-)
+first_is_read P commit is number plain = record {
+  front = entry_record (CommitOf commit) ∷ [];
+  rest = [];
+  cut = refl;
+  first = opened commit;
+  begins = inl (
+    entry_record (CommitOf commit),
+    refl,
+    record {
+      entry = CommitOf commit;
+      is_record = record { is = refl; is_entry = is };
+      commit = commit;
+      first = record { is = refl; number = number; plain = plain };
+      is = refl;
+    },
+  );
+  reads = refl;
+}

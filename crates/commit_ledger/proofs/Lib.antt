@@ -5,3 +5,11 @@ pub mod TextLemmas
 pub mod ReadingLemmas
 pub mod WindowLemmas
 pub mod FactoryLemmas
+pub mod GrownLemmas
+pub mod RestoreLemmas
+pub mod BadLemmas
+pub mod ImageLemmas
+pub mod RestoredLemmas
+pub mod RecordLemmas
+pub mod KeepLemmas
+pub mod BehindLemmas

@@ -1,196 +1,291 @@
--- A list of records that is read to its end, or to the first one that breaks a rule.
-use Rattle.std.proofs.Common.{◌≡◌, ◌<◌, ◌+◌, ℕ, zero, suc, List, [], ◌∷◌, ◌++◌, length, take, drop, get_or, Option, Some, None, refl, sym, ◌∙◌, ap, subst, arith, add-one}
-use Rattle.std.proofs.lemmas.List.Elements.{All-nil}
-use Rattle.std.proofs.lemmas.Option.{none-some}
+-- Records have one reading or a bad record, and what is read or grew from it has a checkpoint that is read.
+use Rattle.std.proofs.Common.{◌≡◌, ◌≢◌, ◌≤◌, ◌<◌, ◌⊎◌, inl, inr, ⊎_elim, ℕ, ◌+◌, ◌^◌, List, [], ◌∷◌, ◌++◌, length, map, Option, Some, None, refl, sym, ◌∙◌, ap, subst, arith, append_assoc, length-append}
+use Rattle.std.specs.Prelude.{IfSome, IsSome}
+use Rattle.std.proofs.lemmas.List.{append-nil, length-map, map-append}
+use Rattle.std.proofs.lemmas.List.Elements.{All-from_recursion}
+use Rattle.std.specs.List.{AllByRecursion}
 use Rattle.cfg_tree.specs.Statements.{Statements}
 use Rattle.record_code.specs.declared.payloads.Placed.{Placed}
 use Rattle.record_code.specs.Listed.{record_of, records_of}
 use Rattle.record_code.specs.Record.{Record}
+use Rattle.commit_ledger.specs.declared.limit.TheConstants.{MAX_ENTRIES}
 use Rattle.commit_ledger.specs.declared.entry.Commit.{Commit}
 use Rattle.commit_ledger.specs.declared.entry.Confirm.{Confirm}
 use Rattle.commit_ledger.specs.declared.entry.Entry.{Entry}
 use Rattle.commit_ledger.specs.declared.entry.Entry.TheVariants.{Commit as CommitOf, Confirm as ConfirmOf}
-use Rattle.commit_ledger.specs.Kept.{Kept, KeepsMaps, BringsMap, opened, append_entry}
-use Rattle.commit_ledger.specs.Payload.{CommitForm, ConfirmForm, form_of, confirm_form, entry_record, payload_bytes}
-use Rattle.commit_ledger.specs.Reading.{IsRecordOf, IsFirstCommit, Opens, GoesOn, IsNextRead, ReadsOn, ReadsAs, IsFirstBad, IsUnread}
+use Rattle.commit_ledger.specs.Kept.{Kept, KeepsMaps, Unconfirmed, append_entry, commits_of, opened}
+use Rattle.commit_ledger.specs.Payload.{entry_record}
 use Rattle.commit_ledger.specs.Rules.{IsCommit, IsEntry, Follows}
-use Rattle.commit_ledger.proofs.FieldLemmas.{one_form, one_confirm, commit_fits, confirm_fits}
-use Rattle.commit_ledger.proofs.TextLemmas.{one_map}
-use Rattle.commit_ledger.proofs.KeptLemmas.{keeps_more}
-
--- one more record is read behind others
-reads_push : (P : Statements → Type 0) (b : Option Kept) (ps : List Placed) (m : Option Kept) (p : Placed) (n : Kept) → ReadsOn P b (records_of ps) m → IsNextRead P m (record_of p) n
-    → ReadsOn P b (records_of (ps ++ p ∷ [])) (Some n)
-reads_push P b [] m p n so_far reads = (n, subst (λ x. IsNextRead P x (record_of p) n) (sym so_far) reads, refl)
-reads_push P b (q ∷ ps) m p n so_far reads = (so_far.0, so_far.1, reads_push P (Some so_far.0) ps m p n so_far.2 reads)
-
--- a list at one of its places
-take_more : (i : ℕ) (ps : List Placed) (p : Placed) → i < length ps → take (suc i) ps ≡ take i ps ++ get_or ps i p ∷ []
-take_more i [] p within = absurd (omega (arith, within))
-take_more zero (q ∷ ps) p within = refl
-take_more (suc i) (q ∷ ps) p within = ap (λ l. q ∷ l) (take_more i ps p (omega (arith, within)))
-
-cut_at : (i : ℕ) (ps : List Placed) (p : Placed) → i < length ps → ps ≡ take i ps ++ get_or ps i p ∷ drop (suc i) ps
-cut_at i [] p within = absurd (omega (arith, within))
-cut_at zero (q ∷ ps) p within = refl
-cut_at (suc i) (q ∷ ps) p within = ap (λ l. q ∷ l) (cut_at i ps p (omega (arith, within)))
-
-pub reads_more : (P : Statements → Type 0) (k m n : Kept) (ps : List Placed) (i : ℕ) (p : Placed) → i < length ps → p ≡ get_or ps i p → ReadsOn P (Some k) (records_of (take i ps)) (Some m)
-    → GoesOn P m (record_of p) n → ReadsOn P (Some k) (records_of (take (i + 1) ps)) (Some n)
-reads_more P k m n ps i p within is so_far reads =
-    subst (λ l. ReadsOn P (Some k) (records_of l) (Some n)) (ap (λ q. take i ps ++ q ∷ []) is ∙ sym (take_more i ps p within) ∙ ap (λ j. take j ps) (sym (add-one i)))
-    (reads_push P (Some k) (take i ps) (Some m) p n so_far reads)
-
-pub first_bad : (P : Statements → Type 0) (k m : Kept) (ps : List Placed) (i : ℕ) (p : Placed) (offset : ℕ) → i < length ps → p ≡ get_or ps i p
-    → ReadsOn P (Some k) (records_of (take i ps)) (Some m) → offset ≡ p.offset → ((next : Kept) → GoesOn P m (record_of p) next → ⊥) → IsFirstBad P (Some k) ps offset
-first_bad P k m ps i p offset within is so_far place broken = record {
-  good = take i ps;
-  bad = p;
-  rest = drop (suc i) ps;
-  here = Some m;
-  cut = cut_at i ps p within ∙ ap (λ q. take i ps ++ q ∷ drop (suc i) ps) (sym is);
-  reads = so_far;
-  broken = broken;
-  place = place;
-}
-
--- a list whose first record breaks a rule, and one whose first record is read
-pub bad_at_once : (P : Statements → Type 0) (p : Placed) (ps : List Placed) (offset : ℕ) → offset ≡ p.offset → ((next : Kept) → Opens P (record_of p) next → ⊥) → IsFirstBad P None (p ∷ ps) offset
-bad_at_once P p ps offset place broken = record {
-  good = [];
-  bad = p;
-  rest = ps;
-  here = None;
-  cut = refl;
-  reads = refl;
-  broken = broken;
-  place = place;
-}
-
-pub bad_later : (P : Statements → Type 0) (first : Kept) (p : Placed) (ps : List Placed) (offset : ℕ) → Opens P (record_of p) first → IsFirstBad P (Some first) ps offset → IsFirstBad P None (p ∷ ps) offset
-bad_later P first p ps offset opens bad = record {
-  good = p ∷ bad.good;
-  bad = bad.bad;
-  rest = bad.rest;
-  here = bad.here;
-  cut = ap (λ l. p ∷ l) bad.cut;
-  reads = (first, opens, bad.reads);
-  broken = bad.broken;
-  place = bad.place;
-}
-
--- a record is of one entry
-same_commit : (c d : Commit) → form_of c ≡ form_of d → c.tree ≡ d.tree → c ≡ d
-same_commit c d form tree =
-    let path : c ≡ d =
-    ap (λ (f : CommitForm). record { number = f.number; user = f.user; via = f.via; moment = f.moment; comment = f.comment; tree = c.tree; minutes = f.minutes }) form
-    ∙ ap (λ (t : Statements). record { number = d.number; user = d.user; via = d.via; moment = d.moment; comment = d.comment; tree = t; minutes = d.minutes }) tree in
-    path
-
-same_confirm : (c d : Confirm) → confirm_form c ≡ confirm_form d → c ≡ d
-same_confirm c d is =
-    let path : c ≡ d = ap (λ (f : ConfirmForm). record { number = f.number; user = f.user; moment = f.moment }) is in
-    path
-
-same_payload : (r : Record) (e d : Entry) → r ≡ entry_record e → r ≡ entry_record d → payload_bytes e ≡ payload_bytes d
-same_payload r e d one other = ap (λ (x : Record). x.payload) (sym one ∙ other)
-
-same_kind : (r : Record) (e d : Entry) → r ≡ entry_record e → r ≡ entry_record d → (entry_record e).kind ≡ (entry_record d).kind
-same_kind r e d one other = ap (λ (x : Record). x.kind) (sym one ∙ other)
-
-pub one_entry : (P : Statements → Type 0) (r : Record) (e d : Entry) → IsRecordOf P r e → IsRecordOf P r d → e ≡ d
-one_entry P r (CommitOf c) (CommitOf d) one other =
-    let form : form_of c ≡ form_of d = one_form (form_of c) (form_of d) (commit_fits P c one.is_entry) (commit_fits P d other.is_entry)
-    (same_payload r (CommitOf c) (CommitOf d) one.is other.is) in
-    ap CommitOf (same_commit c d form (one_map c.tree d.tree one.is_entry.tree other.is_entry.tree (ap (λ (f : CommitForm). f.text) form)))
-one_entry P r (ConfirmOf c) (ConfirmOf d) one other =
-    ap ConfirmOf (same_confirm c d (one_confirm (confirm_form c) (confirm_form d) (confirm_fits c one.is_entry) (confirm_fits d other.is_entry)
-    (same_payload r (ConfirmOf c) (ConfirmOf d) one.is other.is)))
-one_entry P r (CommitOf c) (ConfirmOf d) one other =
-    let kinds : 1 ≡ 2 = same_kind r (CommitOf c) (ConfirmOf d) one.is other.is in
-    absurd (omega (arith, kinds))
-one_entry P r (ConfirmOf c) (CommitOf d) one other =
-    let kinds : 2 ≡ 1 = same_kind r (ConfirmOf c) (CommitOf d) one.is other.is in
-    absurd (omega (arith, kinds))
-
--- an entry that may not come next isn't taken in
-pub not_next : (P : Statements → Type 0) (kept : Kept) (r : Record) (e : Entry) → IsRecordOf P r e → (Follows kept e → ⊥) → (next : Kept) → GoesOn P kept r next → ⊥
-not_next P kept r e is broken next goes = broken (subst (λ x. Follows kept x) (one_entry P r goes.entry e goes.is_record is) goes.follows)
-
--- a list isn't opened by another entry than a first commit
-pub not_first : (P : Statements → Type 0) (r : Record) (e : Entry) → IsRecordOf P r e → ((c : Commit) → IsFirstCommit e c → ⊥) → (next : Kept) → Opens P r next → ⊥
-not_first P r e is broken next opens =
-    broken opens.commit (subst (λ x. IsFirstCommit x opens.commit) (one_entry P r opens.entry e opens.is_record is) opens.first)
-
-abbrev commit_in : Commit → Entry → Commit
-commit_in c (CommitOf d) = d
-commit_in c (ConfirmOf d) = c
-
--- a record leads to one value
-one_next : (P : Statements → Type 0) (b : Option Kept) (r : Record) (m n : Kept) → IsNextRead P b r m → IsNextRead P b r n → m ≡ n
-one_next P None r m n one other =
-    one.is ∙ ap (λ e. opened (commit_in one.commit e)) (sym one.first.is ∙ one_entry P r one.entry other.entry one.is_record other.is_record ∙ other.first.is) ∙ sym other.is
-one_next P (Some kept) r m n one other = one.is ∙ ap (append_entry kept) (one_entry P r one.entry other.entry one.is_record other.is_record) ∙ sym other.is
-
--- and a list of records has one reading
-one_end : (P : Statements → Type 0) (b : Option Kept) (rs : List Record) (m n : Option Kept) → ReadsOn P b rs m → ReadsOn P b rs n → m ≡ n
-one_end P b [] m n one other = sym one ∙ other
-one_end P b (r ∷ rs) m n one other =
-    one_end P (Some one.0) rs m n one.2 (subst (λ x. ReadsOn P (Some x) rs n) (one_next P b r other.0 one.0 other.1 one.1) other.2)
-
-abbrev some_in : Kept → Option Kept → Kept
-some_in k None = k
-some_in k (Some m) = m
-
-pub one_reading : (P : Statements → Type 0) (rs : List Record) (m n : Kept) → ReadsAs P rs m → ReadsAs P rs n → m ≡ n
-one_reading P rs m n one other = ap (some_in m) (one_end P None rs (Some m) (Some n) one other)
-
--- which no list has in which a record breaks a rule
-bad_not_read : (P : Statements → Type 0) (b : Option Kept) (good : List Placed) (here : Option Kept) (bad : Placed) (rest : List Placed) (m : Option Kept)
-    → ReadsOn P b (records_of good) here → ((next : Kept) → IsNextRead P here (record_of bad) next → ⊥) → ReadsOn P b (records_of (good ++ bad ∷ rest)) m → ⊥
-bad_not_read P b [] here bad rest m reads broken all = broken all.0 (subst (λ x. IsNextRead P x (record_of bad) all.0) reads all.1)
-bad_not_read P b (p ∷ good) here bad rest m reads broken all =
-    bad_not_read P (Some reads.0) good here bad rest m reads.2 broken
-    (subst (λ x. ReadsOn P (Some x) (records_of (good ++ bad ∷ rest)) m) (one_next P b (record_of p) all.0 reads.0 all.1 reads.1) all.2)
-
-pub not_read : (P : Statements → Type 0) (ps : List Placed) (offset : ℕ) (m : Kept) → IsUnread P ps offset → ReadsAs P (records_of ps) m → ⊥
-not_read P [] offset m unread reads = none-some m reads
-not_read P (p ∷ ps) offset m unread reads =
-    bad_not_read P None unread.good unread.here unread.bad unread.rest (Some m) unread.reads unread.broken (subst (λ l. ReadsOn P None (records_of l) (Some m)) unread.cut reads)
+use Rattle.commit_ledger.specs.Reading.{Begins, BeginsBadly, GoesOn, GoesThrough, IsBadBehind, IsBegun, IsFirstBad, IsUnread, Opens, ReadsAs}
+use Rattle.commit_ledger.specs.Checkpoint.{KeepForm, keep_form, keep_record, listed, commit_record, checkpoint, HaveShortTexts, IsRunAmong, Restores, Agrees, as_read}
+use Rattle.commit_ledger.proofs.RecordLemmas.{goes_push, one_more, one_opening}
+use Rattle.commit_ledger.proofs.BadLemmas.{bad_not_begun, one_bad_checkpoint, opens_kind}
+use Rattle.commit_ledger.proofs.GrownLemmas.{IsGrown, all_among, all_back, among_back, entry_grows, opened_is_grown, restored_is_grown, agreeing_is_grown, checkpoint_is_read, is_restorable, reads_agree}
+use Rattle.commit_ledger.proofs.RestoreLemmas.{one_restored, same_size}
 
 -- one more entry that may come next is read behind the others
-read_push : (P : Statements → Type 0) (b : Option Kept) (rs : List Record) (m : Option Kept) (r : Record) (n : Kept) → ReadsOn P b rs m → IsNextRead P m r n → ReadsOn P b (rs ++ r ∷ []) (Some n)
-read_push P b [] m r n so_far reads = (n, subst (λ x. IsNextRead P x r n) (sym so_far) reads, refl)
-read_push P b (q ∷ rs) m r n so_far reads = (so_far.0, so_far.1, read_push P (Some so_far.0) rs m r n so_far.2 reads)
+pub appended_is_read : (P : Statements → Type 0) (rs : List Record) (kept : Kept) (entry : Entry) → ReadsAs P rs kept → IsEntry P entry → Follows kept entry → ReadsAs P (rs ++ entry_record entry ∷ []) (append_entry kept entry)
+appended_is_read P rs kept entry reads is follows = record {
+  front = reads.front;
+  rest = reads.rest ++ entry_record entry ∷ [];
+  cut = ap (λ (l : List Record). l ++ entry_record entry ∷ []) reads.cut ∙ append_assoc reads.front reads.rest (entry_record entry ∷ []);
+  first = reads.first;
+  begins = reads.begins;
+  reads = goes_push P reads.first reads.rest kept (entry_record entry) (append_entry kept entry) reads.reads
+      (record { entry = entry; is_record = record { is = refl; is_entry = is }; follows = follows; is = refl });
+}
 
-pub appended_is_read : (P : Statements → Type 0) (rs : List Record) (kept : Kept) (entry : Entry) → ReadsAs P rs kept → IsEntry P entry → Follows kept entry
-    → ReadsAs P (rs ++ entry_record entry ∷ []) (append_entry kept entry)
-appended_is_read P rs kept entry reads is follows =
-    read_push P None rs (Some kept) (entry_record entry) (append_entry kept entry) reads
-    (record { entry = entry; is_record = record { is = refl; is_entry = is }; follows = follows; is = refl })
+-- an entry that follows a value follows one that agrees with it, and leaves the same
+pub agrees_follow : (one other : Kept) (entry : Entry) → Agrees one other → Follows other entry → Follows one entry
+agrees_follow one other entry agrees follows = by entry (subst (λ k. Follows k entry) agrees.is follows)
+  where
+    by : (e : Entry) → Follows (record one { moment = other.moment }) e → Follows one e
+    by (CommitOf c) f = record { number = f.number; moment = omega (arith, f.moment, agrees.no_later); room = f.room }
+    by (ConfirmOf c) f = record { number = f.number; moment = omega (arith, f.moment, agrees.no_later); waits = f.waits }
+
+pub agrees_append : (one other : Kept) (entry : Entry) → Agrees one other → append_entry one entry ≡ append_entry other entry
+agrees_append one other entry agrees = by entry ∙ ap (λ k. append_entry k entry) (sym agrees.is)
+  where
+    by : (e : Entry) → append_entry one e ≡ append_entry (record one { moment = other.moment }) e
+    by (CommitOf c) = refl
+    by (ConfirmOf c) = refl
+
+-- what is read has grown
+first_commit : (P : Statements → Type 0) (r : Record) (kept : Kept) (opens : Opens P r kept) → IsCommit P opens.commit
+first_commit P r kept opens = subst (IsEntry P) opens.first.is opens.is_record.is_entry
+
+begins_grown : (P : Statements → Type 0) (front : List Record) (kept : Kept) → Begins P front kept → IsGrown P kept
+begins_grown P front kept (inl one) = subst (IsGrown P) (sym one.2.is) (opened_is_grown P one.2.commit (first_commit P one.0 kept one.2) one.2.first.number)
+begins_grown P front kept (inr restores) = restored_is_grown P kept restores.rules (omega (arith, restores.moment))
+
+goes_grown : (P : Statements → Type 0) (kept : Kept) (rs : List Record) (last : Kept) → IsGrown P kept → GoesThrough P kept rs last → IsGrown P last
+goes_grown P kept [] last grown goes = subst (IsGrown P) goes grown
+goes_grown P kept (r ∷ rs) last grown goes =
+    let next = goes.1 in
+    goes_grown P goes.0 rs last (subst (IsGrown P) (sym next.is) (entry_grows P kept next.entry grown next.is_record.is_entry next.follows)) goes.2
+
+pub reads_grown : (P : Statements → Type 0) (rs : List Record) (kept : Kept) → ReadsAs P rs kept → IsGrown P kept
+reads_grown P rs kept reads = goes_grown P reads.first reads.rest kept (begins_grown P reads.front reads.first reads.begins) reads.reads
+
+-- the checkpoint of what is kept, where records are read as it or as what agrees with it, is read as what agrees with it
+pub checkpoint_reads : (P : Statements → Type 0) (rs : List Record) (one kept : Kept) → ReadsAs P rs one → Agrees one kept → ReadsAs P (checkpoint kept) (as_read kept) × Agrees (as_read kept) kept
+checkpoint_reads P rs one kept reads agrees =
+    let grown = agreeing_is_grown P one kept agrees (reads_grown P rs one reads) in (
+      record { front = checkpoint kept; rest = []; cut = sym (append-nil (checkpoint kept)); first = as_read kept; begins = inr (checkpoint_is_read P kept grown); reads = refl },
+      reads_agree P kept grown,
+    )
+
+-- each commit of a checkpoint has a short text
+each_short : (P : Statements → Type 0) (commits : List Commit) → AllByRecursion (IsCommit P) commits → HaveShortTexts commits
+each_short P [] each = tt
+each_short P (c ∷ commits) each = (each.0.text, each_short P commits each.1)
+
+pub texts_are_short : (P : Statements → Type 0) (rs : List Record) (one kept : Kept) → ReadsAs P rs one → Agrees one kept → HaveShortTexts (listed kept)
+texts_are_short P rs one kept reads agrees = each_short P (listed kept) (is_restorable P kept (agreeing_is_grown P one kept agrees (reads_grown P rs one reads))).each
+
+-- two rows of one length, and what stands behind them
+same_rows : (xs ys r s : List Record) → length xs ≡ length ys → xs ++ r ≡ ys ++ s → (xs ≡ ys) × (r ≡ s)
+same_rows [] [] r s size is = (refl, is)
+same_rows [] (y ∷ ys) r s size is = absurd (omega (arith, size))
+same_rows (x ∷ xs) [] r s size is = absurd (omega (arith, size))
+same_rows (x ∷ xs) (y ∷ ys) r s size is =
+    let tails : xs ++ r ≡ ys ++ s = cc in
+    let head : x ≡ y = cc in
+    let rest = same_rows xs ys r s (omega (arith, size)) tails in
+    (ap (λ z. z ∷ xs) head ∙ ap (λ l. y ∷ l) rest.0, rest.1)
+
+first_of_row : (r s : Record) (xs ys : List Record) → r ∷ xs ≡ s ∷ ys → r ≡ s
+first_of_row r s xs ys is = cc
+
+rest_of_row : (r s : Record) (xs ys : List Record) → r ∷ xs ≡ s ∷ ys → xs ≡ ys
+rest_of_row r s xs ys is = cc
+
+-- a list begins in one way
+one_begin : (P : Statements → Type 0) (front other rest more : List Record) (k l : Kept) → front ++ rest ≡ other ++ more → Begins P front k → Begins P other l → (k ≡ l) × (rest ≡ more)
+one_begin P front other rest more k l is (inl a) (inl b) =
+    let both : a.0 ∷ rest ≡ b.0 ∷ more = ap (λ (f : List Record). f ++ rest) (sym a.1) ∙ is ∙ ap (λ (f : List Record). f ++ more) b.1 in
+    (one_opening P a.0 k l a.2 (subst (λ r. Opens P r l) (sym (first_of_row a.0 b.0 rest more both)) b.2), rest_of_row a.0 b.0 rest more both)
+one_begin P front other rest more k l is (inl a) (inr b) =
+    let both : a.0 ∷ rest ≡ checkpoint l ++ more = ap (λ (f : List Record). f ++ rest) (sym a.1) ∙ is ∙ ap (λ (f : List Record). f ++ more) b.is in
+    absurd (let e : 1 ≡ 3 = sym (opens_kind P a.0 k a.2) ∙ ap (λ (r : Record). r.kind) (first_of_row a.0 (keep_record (keep_form l)) rest (map commit_record (listed l) ++ more) both) in omega (arith, e))
+one_begin P front other rest more k l is (inr a) (inl b) =
+    let both : b.0 ∷ more ≡ checkpoint k ++ rest = ap (λ (f : List Record). f ++ more) (sym b.1) ∙ sym is ∙ ap (λ (f : List Record). f ++ rest) a.is in
+    absurd (let e : 1 ≡ 3 = sym (opens_kind P b.0 l b.2) ∙ ap (λ (r : Record). r.kind) (first_of_row b.0 (keep_record (keep_form k)) more (map commit_record (listed k) ++ rest) both) in omega (arith, e))
+one_begin P front other rest more k l is (inr a) (inr b) =
+    let both : checkpoint k ++ rest ≡ checkpoint l ++ more = ap (λ (f : List Record). f ++ rest) (sym a.is) ∙ is ∙ ap (λ (f : List Record). f ++ more) b.is in
+    let heads = first_of_row (keep_record (keep_form k)) (keep_record (keep_form l)) (map commit_record (listed k) ++ rest) (map commit_record (listed l) ++ more) both in
+    let size : length (listed k) ≡ length (listed l) = same_size P k l a.rules b.rules heads in
+    let rows = same_rows (checkpoint k) (checkpoint l) rest more (omega (arith, size, length-map (listed k) commit_record, length-map (listed l) commit_record)) both in
+    (one_restored P (checkpoint k) k l (record { is = refl; rules = a.rules; moment = a.moment }) (record { is = rows.0; rules = b.rules; moment = b.moment }), rows.1)
+
+one_way : (P : Statements → Type 0) (k : Kept) (rs : List Record) (m n : Kept) → GoesThrough P k rs m → GoesThrough P k rs n → m ≡ n
+one_way P k [] m n a b = sym a ∙ b
+one_way P k (r ∷ rs) m n a b = one_way P a.0 rs m n a.2 (subst (λ x. GoesThrough P x rs n) (one_more P k r b.0 a.0 b.1 a.1) b.2)
+
+-- records have one reading
+pub one_reading : (P : Statements → Type 0) (rs : List Record) (m n : Kept) → ReadsAs P rs m → ReadsAs P rs n → m ≡ n
+one_reading P rs m n a b =
+    let begin = one_begin P a.front b.front a.rest b.rest a.first b.first (sym a.cut ∙ b.cut) a.begins b.begins in
+    one_way P a.first a.rest m n a.reads (subst (λ l. GoesThrough P a.first l n) (sym begin.1) (subst (λ x. GoesThrough P x b.rest n) (sym begin.0) b.reads))
 
 -- each map that is kept of records that are read is accepted
-KeepsIf : (Statements → Type 0) → Option Kept → Type 0
-KeepsIf P None = Unit {0}
-KeepsIf P (Some kept) = KeepsMaps P kept
+maps_are_accepted : (P : Statements → Type 0) (kept : Kept) → IsGrown P kept → KeepsMaps P kept
+maps_are_accepted P kept grown =
+    let all = all_back (IsCommit P) grown.early (commits_of kept) grown.each in
+    record {
+      last = (all_among (IsCommit P) (commits_of kept) kept.last all (among_back kept.last kept.older (kept.last ∷ []) (inl refl))).passes;
+      older = All-from_recursion (λ (c : Commit). P c.tree) kept.older (passes kept.older (kept.last ∷ []) all);
+      target = target kept.pending grown.run;
+    }
+  where
+    passes : (xs ys : List Commit) → AllByRecursion (IsCommit P) (xs ++ ys) → AllByRecursion (λ (c : Commit). P c.tree) xs
+    passes [] ys each = tt
+    passes (x ∷ xs) ys each = (each.0.passes, passes xs ys each.1)
 
-brings : (P : Statements → Type 0) (entry : Entry) → IsEntry P entry → BringsMap P entry
-brings P (CommitOf c) is = is.passes
-brings P (ConfirmOf c) is = tt
-
-next_keeps : (P : Statements → Type 0) (b : Option Kept) (r : Record) (n : Kept) → KeepsIf P b → IsNextRead P b r n → KeepsMaps P n
-unfolding KeepsIf
-next_keeps P None r n keeps opens =
-    let first : IsCommit P opens.commit = subst (λ e. IsEntry P e) opens.first.is opens.is_record.is_entry in
-    subst (λ k. KeepsMaps P k) (sym opens.is) (record { last = first.passes; older = All-nil (λ c. P c.tree); target = tt })
-next_keeps P (Some kept) r n keeps goes =
-    subst (λ k. KeepsMaps P k) (sym goes.is) (keeps_more P kept goes.entry keeps (brings P goes.entry goes.is_record.is_entry))
-
-reads_keep : (P : Statements → Type 0) (b : Option Kept) (rs : List Record) (m : Option Kept) → KeepsIf P b → ReadsOn P b rs m → KeepsIf P m
-unfolding KeepsIf
-reads_keep P b [] m keeps reads = subst (λ x. KeepsIf P x) reads keeps
-reads_keep P b (r ∷ rs) m keeps reads = reads_keep P (Some reads.0) rs m (next_keeps P b r reads.0 keeps reads.1) reads.2
+    target : (pending : Option Unconfirmed) → IfSome pending (IsRunAmong (grown.early ++ commits_of kept) kept) → IfSome pending (λ run. P run.target.tree)
+    target None run = tt
+    target (Some run) is = (all_among (IsCommit P) (grown.early ++ commits_of kept) run.target grown.each is.among).passes
 
 pub read_maps_are_accepted : (P : Statements → Type 0) (rs : List Record) (kept : Kept) → ReadsAs P rs kept → KeepsMaps P kept
-unfolding KeepsIf
-read_maps_are_accepted P rs kept reads = reads_keep P None rs (Some kept) tt reads
+read_maps_are_accepted P rs kept reads = maps_are_accepted P kept (reads_grown P rs kept reads)
+
+-- its commits are numbered from 1, and an unconfirmed run has room for its revert
+pub read_is_numbered : (P : Statements → Type 0) (rs : List Record) (kept : Kept) → ReadsAs P rs kept → 1 ≤ kept.last.number
+read_is_numbered P rs kept reads =
+    let grown = reads_grown P rs kept reads in
+    (all_among (IsCommit P) (grown.early ++ commits_of kept) kept.last grown.each (among_back kept.last grown.early (commits_of kept) (among_back kept.last kept.older (kept.last ∷ []) (inl refl)))).number.0
+
+pub read_has_room : (P : Statements → Type 0) (rs : List Record) (kept : Kept) → ReadsAs P rs kept → IsSome kept.pending → kept.count ≤ MAX_ENTRIES
+read_has_room P rs kept reads some = by kept.pending some (reads_grown P rs kept reads).run
+  where
+    by : (pending : Option Unconfirmed) → IsSome pending → IfSome pending (IsRunAmong ((reads_grown P rs kept reads).early ++ commits_of kept) kept) → kept.count ≤ MAX_ENTRIES
+    by None some run = absurd (cc)
+    by (Some r) some run = run.room
+
+-- records of which a further one breaks a rule aren't read
+bad_not_through : (P : Statements → Type 0) (k : Kept) (good : List Placed) (here : Kept) (bad : Placed) (rest : List Placed) (m : Kept) → GoesThrough P k (records_of good) here
+    → ((next : Kept) → GoesOn P here (record_of bad) next → ⊥) → GoesThrough P k (records_of (good ++ bad ∷ rest)) m → ⊥
+bad_not_through P k [] here bad rest m reads broken all = broken all.0 (subst (λ x. GoesOn P x (record_of bad) all.0) reads all.1)
+bad_not_through P k (p ∷ good) here bad rest m reads broken all =
+    bad_not_through P reads.0 good here bad rest m reads.2 broken
+    (subst (λ x. GoesThrough P x (records_of (good ++ bad ∷ rest)) m) (one_more P k (record_of p) all.0 reads.0 all.1 reads.1) all.2)
+
+-- and neither are those with which no list begins
+pub badly_not_begun : (P : Statements → Type 0) (p : Placed) (ps : List Placed) (offset : ℕ) (front rest : List Record) (kept : Kept) → BeginsBadly P p ps offset → records_of (p ∷ ps) ≡ front ++ rest → Begins P front kept → ⊥
+badly_not_begun P p ps offset front rest kept (inl keep) cut begins = bad_not_begun P p ps offset front rest kept keep.0 keep.1 cut begins
+badly_not_begun P p ps offset front rest kept (inr bad) cut (inl one) =
+    let row : record_of p ∷ records_of ps ≡ one.0 ∷ rest = cut ∙ ap (λ (l : List Record). l ++ rest) one.1 in
+    bad.2 kept (subst (λ r. Opens P r kept) (sym (first_of_row (record_of p) one.0 (records_of ps) rest row)) one.2)
+badly_not_begun P p ps offset front rest kept (inr bad) cut (inr restores) =
+    let row : record_of p ∷ records_of ps ≡ checkpoint kept ++ rest = cut ∙ ap (λ (l : List Record). l ++ rest) restores.is in
+    bad.0 (ap (λ (r : Record). r.kind) (first_of_row (record_of p) (keep_record (keep_form kept)) (records_of ps) (map commit_record (listed kept) ++ rest) row))
+
+records_append : (ps qs : List Placed) → records_of (ps ++ qs) ≡ records_of ps ++ records_of qs
+records_append ps qs = map-append record_of ps qs
+
+-- nor those of which one behind their beginning breaks a rule
+not_behind : (P : Statements → Type 0) (placed : List Placed) (offset : ℕ) (m : Kept) → IsBadBehind P placed offset → ReadsAs P (records_of placed) m → ⊥
+not_behind P placed offset m bad reads =
+    let begun = bad.begun in
+    let row : records_of begun.front ++ records_of bad.rest ≡ reads.front ++ reads.rest =
+    sym (records_append begun.front bad.rest) ∙ ap records_of (sym begun.cut) ∙ reads.cut in
+    let same = one_begin P (records_of begun.front) reads.front (records_of bad.rest) reads.rest bad.first reads.first row begun.begins reads.begins in
+    let through : GoesThrough P bad.first (records_of bad.rest) m =
+    subst (λ k. GoesThrough P k (records_of bad.rest) m) (sym same.0) (subst (λ l. GoesThrough P reads.first l m) (sym same.1) reads.reads) in
+    bad_not_through P bad.first bad.bad.good bad.bad.here bad.bad.bad bad.bad.rest m bad.bad.reads bad.bad.broken
+    (subst (λ l. GoesThrough P bad.first (records_of l) m) bad.bad.cut through)
+
+pub not_read : (P : Statements → Type 0) (ps : List Placed) (offset : ℕ) (m : Kept) → IsUnread P ps offset → ReadsAs P (records_of ps) m → ⊥
+not_read P [] offset m unread reads = none_begins P reads.front reads.rest reads.first reads.cut reads.begins
+  where
+    none_begins : (P : Statements → Type 0) (front rest : List Record) (k : Kept) → [] ≡ front ++ rest → Begins P front k → ⊥
+    none_begins P front rest k cut (inl one) = let e : [] ≡ one.0 ∷ rest = cut ∙ ap (λ (l : List Record). l ++ rest) one.1 in cc
+    none_begins P front rest k cut (inr restores) = let e : [] ≡ checkpoint k ++ rest = cut ∙ ap (λ (l : List Record). l ++ rest) restores.is in cc
+not_read P (p ∷ ps) offset m (inl badly) reads = badly_not_begun P p ps offset reads.front reads.rest reads.first badly reads.cut reads.begins
+not_read P (p ∷ ps) offset m (inr behind) reads = not_behind P (p ∷ ps) offset m behind reads
+
+-- the first record that breaks a rule is one
+abbrev first_placed : Placed → List Placed → Placed
+first_placed p [] = p
+first_placed p (q ∷ ps) = q
+
+abbrev rest_placed : List Placed → List Placed
+rest_placed [] = []
+rest_placed (p ∷ ps) = ps
+
+one_bad : (P : Statements → Type 0) (before : Kept) (good good' : List Placed) (bad bad' : Placed) (rest rest' : List Placed) (here here' : Kept) → good ++ bad ∷ rest ≡ good' ++ bad' ∷ rest'
+    → GoesThrough P before (records_of good) here → ((next : Kept) → GoesOn P here (record_of bad) next → ⊥) → GoesThrough P before (records_of good') here'
+    → ((next : Kept) → GoesOn P here' (record_of bad') next → ⊥) → bad ≡ bad'
+one_bad P before [] [] bad bad' rest rest' here here' same reads broken reads' broken' = ap (first_placed bad) same
+one_bad P before [] (q ∷ good') bad bad' rest rest' here here' same reads broken reads' broken' =
+    let is : q ≡ bad = ap (first_placed bad) (sym same) in
+    let next : GoesOn P here (record_of bad) reads'.0 = subst (λ (p : Placed). GoesOn P here (record_of p) reads'.0) is (subst (λ (k : Kept). GoesOn P k (record_of q) reads'.0) reads reads'.1) in
+    absurd (broken reads'.0 next)
+one_bad P before (p ∷ good) [] bad bad' rest rest' here here' same reads broken reads' broken' =
+    let is : p ≡ bad' = ap (first_placed bad) same in
+    let next : GoesOn P here' (record_of bad') reads.0 = subst (λ (q : Placed). GoesOn P here' (record_of q) reads.0) is (subst (λ (k : Kept). GoesOn P k (record_of p) reads.0) reads' reads.1) in
+    absurd (broken' reads.0 next)
+one_bad P before (p ∷ good) (q ∷ good') bad bad' rest rest' here here' same reads broken reads' broken' =
+    let is : q ≡ p = ap (first_placed p) (sym same) in
+    let one : reads'.0 ≡ reads.0 = one_more P before (record_of p) reads'.0 reads.0 (subst (λ (x : Placed). GoesOn P before (record_of x) reads'.0) is reads'.1) reads.1 in
+    one_bad P reads.0 good good' bad bad' rest rest' here here' (ap rest_placed same) reads.2 broken
+    (subst (λ (k : Kept). GoesThrough P k (records_of good') here') one reads'.2) broken'
+
+one_behind : (P : Statements → Type 0) (placed : List Placed) (m n : ℕ) → IsBadBehind P placed m → IsBadBehind P placed n → m ≡ n
+one_behind P placed m n one two =
+    let cut : one.begun.front ++ one.rest ≡ two.begun.front ++ two.rest = sym one.begun.cut ∙ two.begun.cut in
+    let row : records_of one.begun.front ++ records_of one.rest ≡ records_of two.begun.front ++ records_of two.rest =
+    sym (records_append one.begun.front one.rest) ∙ ap records_of cut ∙ records_append two.begun.front two.rest in
+    let same = one_begin P (records_of one.begun.front) (records_of two.begun.front) (records_of one.rest) (records_of two.rest) one.first two.first row one.begun.begins two.begun.begins in
+    let ends : length one.rest ≡ length two.rest = omega (arith, ap length same.1, length-map one.rest record_of, length-map two.rest record_of) in
+    let rests : one.rest ≡ two.rest = same_ends one.begun.front two.begun.front one.rest two.rest ends cut in
+    let bad : IsFirstBad P one.first one.rest n = subst (λ (k : Kept). IsFirstBad P k one.rest n) (sym same.0) (subst (λ (l : List Placed). IsFirstBad P two.first l n) (sym rests) two.bad) in
+    one.bad.place ∙ ap (λ (b : Placed). b.offset)
+    (one_bad P one.first one.bad.good bad.good one.bad.bad bad.bad one.bad.rest bad.rest one.bad.here bad.here (sym one.bad.cut ∙ bad.cut) one.bad.reads one.bad.broken bad.reads bad.broken)
+    ∙ sym bad.place
+  where
+    same_ends : (xs ys r s : List Placed) → length r ≡ length s → xs ++ r ≡ ys ++ s → r ≡ s
+    same_ends [] [] r s size is = is
+    same_ends [] (y ∷ ys) r s size is = absurd (let e = ap length is in omega (arith, e, size, length-append ys s))
+    same_ends (x ∷ xs) [] r s size is = absurd (let e = ap length is in omega (arith, e, size, length-append xs r))
+    same_ends (x ∷ xs) (y ∷ ys) r s size is = same_ends xs ys r s size (ap rest_placed is)
+
+one_badly : (P : Statements → Type 0) (p : Placed) (ps : List Placed) (m n : ℕ) → BeginsBadly P p ps m → BeginsBadly P p ps n → m ≡ n
+one_badly P p ps m n (inl one) (inl two) = one_bad_checkpoint P p ps m n one.1 two.1
+one_badly P p ps m n (inl one) (inr two) = absurd (two.0 one.0)
+one_badly P p ps m n (inr one) (inl two) = absurd (one.0 two.0)
+one_badly P p ps m n (inr one) (inr two) = one.1 ∙ sym two.1
+
+not_begun : (P : Statements → Type 0) (p : Placed) (ps : List Placed) (m n : ℕ) → BeginsBadly P p ps m → IsBadBehind P (p ∷ ps) n → ⊥
+not_begun P p ps m n badly behind =
+    badly_not_begun P p ps m (records_of behind.begun.front) (records_of behind.rest) behind.first badly (ap records_of behind.begun.cut ∙ records_append behind.begun.front behind.rest) behind.begun.begins
+
+pub one_unread : (P : Statements → Type 0) (placed : List Placed) (m n : ℕ) → IsUnread P placed m → IsUnread P placed n → m ≡ n
+one_unread P [] m n one two = one ∙ sym two
+one_unread P (p ∷ ps) m n (inl one) (inl two) = one_badly P p ps m n one two
+one_unread P (p ∷ ps) m n (inl one) (inr two) = absurd (not_begun P p ps m n one two)
+one_unread P (p ∷ ps) m n (inr one) (inl two) = absurd (not_begun P p ps n m two one)
+one_unread P (p ∷ ps) m n (inr one) (inr two) = one_behind P (p ∷ ps) m n one two
+
+-- how a journal's records are begun, and read behind that
+pub begun_alone : (P : Statements → Type 0) (p : Placed) (ps : List Placed) (kept : Kept) → Opens P (record_of p) kept → IsBegun P (p ∷ ps) kept ps
+begun_alone P p ps kept opens = record { front = p ∷ []; cut = refl; begins = inl (record_of p, refl, opens) }
+
+pub begins_badly : (P : Statements → Type 0) (p : Placed) (ps : List Placed) (offset : ℕ) → p.kind ≢ 3 → offset ≡ p.offset → ((kept : Kept) → Opens P (record_of p) kept → ⊥) → BeginsBadly P p ps offset
+begins_badly P p ps offset other place none = inr (other, place, none)
+
+pub read_whole : (P : Statements → Type 0) (placed rest : List Placed) (first last : Kept) → IsBegun P placed first rest → GoesThrough P first (records_of rest) last → ReadsAs P (records_of placed) last
+read_whole P placed rest first last begun reads = record {
+  front = records_of begun.front;
+  rest = records_of rest;
+  cut = ap records_of begun.cut ∙ records_append begun.front rest;
+  first = first;
+  begins = begun.begins;
+  reads = reads;
+}
+
+pub unread_behind : (P : Statements → Type 0) (p : Placed) (ps rest : List Placed) (first : Kept) (offset : ℕ) → IsBegun P (p ∷ ps) first rest → IsFirstBad P first rest offset → IsUnread P (p ∷ ps) offset
+unread_behind P p ps rest first offset begun bad = inr (record { first = first; rest = rest; begun = begun; bad = bad })
+
+pub unread_at_once : (P : Statements → Type 0) (p : Placed) (ps : List Placed) (offset : ℕ) → BeginsBadly P p ps offset → IsUnread P (p ∷ ps) offset
+unread_at_once P p ps offset badly = inl badly

@@ -1,11 +1,13 @@
 -- The fields of a payload that was taken apart.
-use Rattle.std.specs.Prelude.{◌≡◌, ◌≢◌, ◌≤◌, ℕ, List, length}
+use Rattle.std.specs.Prelude.{◌≡◌, ◌≢◌, ◌≤◌, ◌<◌, ◌^◌, ℕ, List, length}
 use Rattle.cfg_base.specs.declared.moment.TheConstants.{MOMENT_MAX}
 use Rattle.cfg_tree.specs.Statements.{Statements}
 use Rattle.commit_ledger.specs.declared.entry.Commit.{Commit}
 use Rattle.commit_ledger.specs.declared.entry.Confirm.{Confirm}
 use Rattle.commit_ledger.specs.declared.form.CommitRead.{CommitRead}
 use Rattle.commit_ledger.specs.declared.form.ConfirmRead.{ConfirmRead}
+use Rattle.commit_ledger.specs.declared.form.KeepRead.{KeepRead}
+use Rattle.commit_ledger.specs.Checkpoint.{KeepForm}
 use Rattle.commit_ledger.specs.Payload.{CommitForm, ConfirmForm, form_of, confirm_form, commit_bytes, confirm_bytes, most_text}
 use Rattle.commit_ledger.specs.Rules.{IsCommit, IsConfirm}
 
@@ -22,6 +24,9 @@ commit_read read = record {
 
 abbrev pub confirm_read : ConfirmRead → ConfirmForm
 confirm_read read = record { number = read.number; moment = read.moment; user = read.user.now }
+
+abbrev pub keep_read : KeepRead → KeepForm
+keep_read read = record { count = read.count; target = read.target; commits = read.commits }
 
 -- the numbers are in their ranges, and the text isn't too long
 pub record IsInRange (f : CommitForm) : Type 0 where
@@ -47,3 +52,9 @@ pub record IsConfirmFrom (f : ConfirmForm) (confirm : Confirm) : Type 0 where
 pub record IsConfirmOf (payload : List ℕ) (confirm : Confirm) : Type 0 where
   pub bytes : payload ≡ confirm_bytes (confirm_form confirm)
   pub is_confirm : IsConfirm confirm
+
+-- each number of a Keep fits its place
+pub record KeepFits (f : KeepForm) : Type 0 where
+  pub count : f.count < 2 ^ 64
+  pub target : f.target < 2 ^ 64
+  pub commits : f.commits < 2 ^ 32

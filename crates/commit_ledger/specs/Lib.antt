@@ -5,3 +5,6 @@ pub mod Listing
 pub mod Payload
 pub mod Form
 pub mod Reading
+pub mod Checkpoint
+pub mod Restoring
+pub mod Restored

@@ -1,5 +1,5 @@
 -- How the records of a journal are read as what is kept, up to the first one that breaks a rule. This is this project's own.
-use Rattle.std.specs.Prelude.{◌≡◌, ℕ, List, [], ◌∷◌, ◌++◌, Option, Some, None}
+use Rattle.std.specs.Prelude.{◌≡◌, ◌≢◌, ◌⊎◌, ℕ, List, [], ◌∷◌, ◌++◌}
 use Rattle.cfg_tree.specs.Statements.{Statements}
 use Rattle.record_code.specs.declared.payloads.Placed.{Placed}
 use Rattle.record_code.specs.Listed.{record_of, records_of}
@@ -9,13 +9,9 @@ use Rattle.commit_ledger.specs.declared.entry.Commit.{Commit}
 use Rattle.commit_ledger.specs.declared.entry.Entry.{Entry}
 use Rattle.commit_ledger.specs.declared.entry.Entry.TheVariants.{Commit as CommitOf}
 use Rattle.commit_ledger.specs.Kept.{Kept, opened, append_entry}
-use Rattle.commit_ledger.specs.Payload.{entry_record}
-use Rattle.commit_ledger.specs.Rules.{IsEntry, Follows}
-
--- the record is of that entry, whose fields keep to their ranges
-pub record IsRecordOf (accepted : Statements → Type 0) (r : Record) (entry : Entry) : Type 0 where
-  pub is : r ≡ entry_record entry
-  pub is_entry : IsEntry accepted entry
+use Rattle.commit_ledger.specs.Checkpoint.{Restores}
+use Rattle.commit_ledger.specs.Restoring.{IsBadCheckpoint}
+use Rattle.commit_ledger.specs.Rules.{IsRecordOf, Follows}
 
 -- a list begins with a commit numbered 1 that needs no confirmation
 pub record IsFirstCommit (entry : Entry) (commit : Commit) : Type 0 where
@@ -31,6 +27,10 @@ pub record Opens (accepted : Statements → Type 0) (r : Record) (kept : Kept) :
   pub first : IsFirstCommit entry commit
   pub is : kept ≡ opened commit
 
+-- records begin a list: the record of a first commit, or a checkpoint
+abbrev pub Begins : (Statements → Type 0) → List Record → Kept → Type 0
+Begins accepted front kept = ((r : Record) × (front ≡ r ∷ []) × Opens accepted r kept) ⊎ Restores accepted front kept
+
 -- a further record is of an entry that may be the next one
 pub record GoesOn (accepted : Statements → Type 0) (kept : Kept) (r : Record) (next : Kept) : Type 0 where
   pub entry : Entry
@@ -38,32 +38,51 @@ pub record GoesOn (accepted : Statements → Type 0) (kept : Kept) (r : Record) 
   pub follows : Follows kept entry
   pub is : next ≡ append_entry kept entry
 
--- a record is read behind those before it, if there are some
-abbrev pub IsNextRead : (Statements → Type 0) → Option Kept → Record → Kept → Type 0
-IsNextRead accepted None r next = Opens accepted r next
-IsNextRead accepted (Some kept) r next = GoesOn accepted kept r next
-
--- records are read one after another
-abbrev pub ReadsOn : (Statements → Type 0) → Option Kept → List Record → Option Kept → Type 0
-ReadsOn accepted before [] after = before ≡ after
-ReadsOn accepted before (r ∷ rs) after = (next : Kept) × IsNextRead accepted before r next × ReadsOn accepted (Some next) rs after
+-- further records are read behind a value
+abbrev pub GoesThrough : (Statements → Type 0) → Kept → List Record → Kept → Type 0
+GoesThrough accepted kept [] last = kept ≡ last
+GoesThrough accepted kept (r ∷ rs) last = (next : Kept) × GoesOn accepted kept r next × GoesThrough accepted next rs last
 
 -- the records of a journal are read as this
-abbrev pub ReadsAs : (Statements → Type 0) → List Record → Kept → Type 0
-ReadsAs accepted rs kept = ReadsOn accepted None rs (Some kept)
+pub record ReadsAs (accepted : Statements → Type 0) (rs : List Record) (kept : Kept) : Type 0 where
+  pub front : List Record
+  pub rest : List Record
+  pub cut : rs ≡ front ++ rest
+  pub first : Kept
+  pub begins : Begins accepted front first
+  pub reads : GoesThrough accepted first rest kept
 
--- the record at that offset is the first one that isn't read
-pub record IsFirstBad (accepted : Statements → Type 0) (before : Option Kept) (placed : List Placed) (offset : ℕ) : Type 0 where
+-- the further record at that offset is the first one that isn't read
+pub record IsFirstBad (accepted : Statements → Type 0) (before : Kept) (placed : List Placed) (offset : ℕ) : Type 0 where
   pub good : List Placed
   pub bad : Placed
   pub rest : List Placed
-  pub here : Option Kept
+  pub here : Kept
   pub cut : placed ≡ good ++ bad ∷ rest
-  pub reads : ReadsOn accepted before (records_of good) here
-  pub broken : (next : Kept) → IsNextRead accepted here (record_of bad) next → ⊥
+  pub reads : GoesThrough accepted before (records_of good) here
+  pub broken : (next : Kept) → GoesOn accepted here (record_of bad) next → ⊥
   pub place : offset ≡ bad.offset
+
+-- no list begins with these records: the first of them that breaks a rule is at that offset
+abbrev pub BeginsBadly : (Statements → Type 0) → Placed → List Placed → ℕ → Type 0
+BeginsBadly accepted p behind offset =
+    ((p.kind ≡ 3) × IsBadCheckpoint accepted p behind offset)
+    ⊎ ((p.kind ≢ 3) × (offset ≡ p.offset) × ((kept : Kept) → Opens accepted (record_of p) kept → ⊥))
+
+-- a list begins with some of these records, and the others stand behind them
+pub record IsBegun (accepted : Statements → Type 0) (placed : List Placed) (kept : Kept) (rest : List Placed) : Type 0 where
+  pub front : List Placed
+  pub cut : placed ≡ front ++ rest
+  pub begins : Begins accepted (records_of front) kept
+
+-- a list begins with these records, and one behind them breaks a rule
+pub record IsBadBehind (accepted : Statements → Type 0) (placed : List Placed) (offset : ℕ) : Type 0 where
+  pub first : Kept
+  pub rest : List Placed
+  pub begun : IsBegun accepted placed first rest
+  pub bad : IsFirstBad accepted first rest offset
 
 -- the records of a journal aren't read: there are none, or one of them breaks a rule
 abbrev pub IsUnread : (Statements → Type 0) → List Placed → ℕ → Type 0
 IsUnread accepted [] offset = offset ≡ first_gate
-IsUnread accepted (p ∷ ps) offset = IsFirstBad accepted None (p ∷ ps) offset
+IsUnread accepted (p ∷ ps) offset = BeginsBadly accepted p ps offset ⊎ IsBadBehind accepted (p ∷ ps) offset

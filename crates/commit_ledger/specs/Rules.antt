@@ -6,12 +6,13 @@ use Rattle.cfg_base.specs.Kind.{IsName}
 use Rattle.cfg_tree.specs.Statements.{Statements}
 use Rattle.cfg_tree.specs.Tree.{IsTree}
 use Rattle.cfg_values.specs.Spelling.{IsText}
+use Rattle.record_code.specs.Record.{Record}
 use Rattle.commit_ledger.specs.declared.entry.Commit.{Commit}
 use Rattle.commit_ledger.specs.declared.entry.Confirm.{Confirm}
 use Rattle.commit_ledger.specs.declared.entry.Entry.{Entry}
 use Rattle.commit_ledger.specs.declared.entry.Entry.TheVariants.{Commit as CommitOf, Confirm as ConfirmOf}
 use Rattle.commit_ledger.specs.Kept.{Kept, RoomFor}
-use Rattle.commit_ledger.specs.Payload.{text_of, most_text}
+use Rattle.commit_ledger.specs.Payload.{entry_record, text_of, most_text}
 
 -- the number of a commit
 abbrev pub IsCommitNumber : ℕ → Type 0
@@ -38,6 +39,11 @@ pub record IsConfirm (confirm : Confirm) : Type 0 where
 abbrev pub IsEntry : (Statements → Type 0) → Entry → Type 0
 IsEntry accepted (CommitOf commit) = IsCommit accepted commit
 IsEntry accepted (ConfirmOf confirm) = IsConfirm confirm
+
+-- the record is of that entry, whose fields keep to their ranges
+pub record IsRecordOf (accepted : Statements → Type 0) (r : Record) (entry : Entry) : Type 0 where
+  pub is : r ≡ entry_record entry
+  pub is_entry : IsEntry accepted entry
 
 -- commit numbers rise by 1 and moments don't fall
 pub record CommitFollows (kept : Kept) (commit : Commit) : Type 0 where

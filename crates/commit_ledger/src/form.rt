@@ -19,3 +19,11 @@ pub(crate) struct ConfirmRead<'a> {
     pub(crate) moment: u64,
     pub(crate) user: &'a [u8],
 }
+
+/// The fields of a checkpoint's first payload.
+#[derive(Clone, Copy, Debug)]
+pub(crate) struct KeepRead {
+    pub(crate) count: u64,
+    pub(crate) target: u64,
+    pub(crate) commits: u32,
+}

@@ -9,10 +9,11 @@ ghost use Rattle.commit_ledger.specs.declared.entry.Commit.{Commit};
 ghost use Rattle.commit_ledger.specs.declared.entry.Entry.{Entry};
 ghost use Rattle.commit_ledger.specs.declared.entry.Entry.TheVariants.{Commit as CommitOf};
 ghost use Rattle.commit_ledger.specs.Kept.{Kept, factory_commit, opened, newest, after_entries, commits_of, commits_in, kept_commits, KeepsMaps, BringsMap, append_entry, target_of};
+ghost use Rattle.commit_ledger.specs.Checkpoint.{Agrees, HaveShortTexts, as_read, checkpoint, listed};
 ghost use Rattle.commit_ledger.specs.Listing.{IsListing};
 ghost use Rattle.commit_ledger.specs.Payload.{entry_record, HasShortText};
-ghost use Rattle.commit_ledger.specs.Reading.{IsRecordOf, ReadsAs, IsUnread};
-ghost use Rattle.commit_ledger.specs.Rules.{IsCommit, IsEntry, Follows};
+ghost use Rattle.commit_ledger.specs.Reading.{ReadsAs, IsUnread};
+ghost use Rattle.commit_ledger.specs.Rules.{IsCommit, IsEntry, IsRecordOf, Follows};
 
 use cfg_tree::LedgerCheck;
 
@@ -43,8 +44,8 @@ pub fn kept_maps_stay_accepted<J: LedgerCheck>(judge: &J)
     let _ = judge;
 }
 
-/// Records are of one entry each and are read as one value, or aren't read, and not both; each map that is kept of them is
-/// accepted. Where they are read, one more entry that keeps to its ranges and may come next is read behind them.
+/// Records are of one entry each and are read as one value, or aren't read for one of them, and not both; each map that is kept of
+/// them is accepted. Where they are read, one more entry that keeps to its ranges and may come next is read behind them.
 pub fn records_have_one_reading<J: LedgerCheck>(judge: &J)
     ensures one_entry { (r : Record) (one two : Entry) → IsRecordOf (J.accepted judge.now) r one
         → IsRecordOf (J.accepted judge.now) r two → one ≡ two }
@@ -52,6 +53,8 @@ pub fn records_have_one_reading<J: LedgerCheck>(judge: &J)
         → ReadsAs (J.accepted judge.now) rs two → one ≡ two }
     ensures not_both { (placed : List Placed) (offset : ℕ) (kept : Kept) → IsUnread (J.accepted judge.now) placed offset
         → ReadsAs (J.accepted judge.now) (records_of placed) kept → ⊥ }
+    ensures one_bad { (placed : List Placed) (m n : ℕ) → IsUnread (J.accepted judge.now) placed m
+        → IsUnread (J.accepted judge.now) placed n → m ≡ n }
     ensures accepted { (rs : List Record) (kept : Kept) → ReadsAs (J.accepted judge.now) rs kept
         → KeepsMaps (J.accepted judge.now) kept }
     ensures read_back { (rs : List Record) (kept : Kept) (entry : Entry) → ReadsAs (J.accepted judge.now) rs kept
@@ -68,6 +71,23 @@ pub fn lists_begin_with_one_commit<J: LedgerCheck>(judge: &J)
         → ReadsAs (J.accepted judge.now) (entry_record (CommitOf commit) ∷ []) (opened commit) }
     ensures factory { J.accepted judge.now map.empty → IsCommit (J.accepted judge.now) factory_commit }
     ensures short { HasShortText (CommitOf factory_commit) }
+{
+    let _ = judge;
+}
+
+/// Where records are read as a value, or as one that differs in an earlier last moment alone, the checkpoint of that value is read
+/// as it, but for the last moment, which is then that of the last commit; the texts of its maps are short. Values that agree so are
+/// followed by the same entries, and then they are one value.
+pub fn checkpoints_are_read<J: LedgerCheck>(judge: &J)
+    ensures read { (rs : List Record) (one kept : Kept) → ReadsAs (J.accepted judge.now) rs one → Agrees one kept
+        → ReadsAs (J.accepted judge.now) (checkpoint kept) (as_read kept) }
+    ensures agrees { (rs : List Record) (one kept : Kept) → ReadsAs (J.accepted judge.now) rs one → Agrees one kept
+        → Agrees (as_read kept) kept }
+    ensures short { (rs : List Record) (one kept : Kept) → ReadsAs (J.accepted judge.now) rs one → Agrees one kept
+        → HaveShortTexts (listed kept) }
+    ensures follow { (one other : Kept) (entry : Entry) → Agrees one other → Follows other entry → Follows one entry }
+    ensures append { (one other : Kept) (entry : Entry) → Agrees one other
+        → append_entry one entry ≡ append_entry other entry }
 {
     let _ = judge;
 }

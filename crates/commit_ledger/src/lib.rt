@@ -11,6 +11,7 @@ mod date;
 mod entry;
 mod fields;
 mod form;
+mod image;
 mod laws;
 mod ledger;
 mod limit;
@@ -19,14 +20,15 @@ mod opening;
 mod payload;
 mod reading;
 mod ready;
+mod restoring;
 mod revert;
 mod sharing;
 mod text;
 
 pub use entry::{Commit, Confirm, Entry, Via};
 pub use laws::{
-    kept_maps_stay_accepted, listings_are_one_text, lists_begin_with_one_commit,
-    records_have_one_reading, the_last_fifty_commits_are_kept,
+    checkpoints_are_read, kept_maps_stay_accepted, listings_are_one_text,
+    lists_begin_with_one_commit, records_have_one_reading, the_last_fifty_commits_are_kept,
 };
 pub use ledger::{Ledger, NoRollback, Pending};
 pub use limit::{MAX_ENTRIES, limits_are_stated};

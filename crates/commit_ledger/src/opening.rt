@@ -7,13 +7,14 @@ ghost use Rattle.commit_ledger.specs.declared.entry.Commit.{Commit};
 ghost use Rattle.commit_ledger.specs.declared.entry.Entry.{Entry};
 ghost use Rattle.commit_ledger.specs.declared.opening.LedgerFault.{LedgerFault};
 ghost use Rattle.commit_ledger.specs.Kept.{Kept, opened, NumberFits, RoomFor};
-ghost use Rattle.commit_ledger.specs.Reading.{IsFirstCommit, Opens, GoesOn, ReadsOn, ReadsAs, IsFirstBad, IsUnread};
+ghost use Rattle.commit_ledger.specs.Reading.{BeginsBadly, IsBegun, IsFirstCommit, Opens, GoesOn, GoesThrough, ReadsAs, IsFirstBad, IsUnread};
 ghost use Rattle.commit_ledger.specs.Rules.{Follows, CommitFollows, ConfirmFollows};
 
 use crate::entry::{Commit, Confirm, Entry};
 use crate::ledger::{Ledger, ROOM};
 use crate::limit::MAX_ENTRIES;
 use crate::reading::entry_of;
+use crate::restoring::restore;
 use cfg_base::NoMemory;
 use cfg_tree::LedgerCheck;
 use record_code::{Payloads, Placed};
@@ -22,6 +23,9 @@ use thiserror::Error;
 
 /// The offset of a journal's first record, where a journal without one breaks the rules.
 const FIRST_RECORD: u64 = 17;
+
+/// The kind of a checkpoint's first record.
+const KEEP: u8 = 3;
 
 /// Why records aren't those of a list of commits.
 #[derive(Clone, Copy, Debug, PartialEq, Eq, Error)]
@@ -85,6 +89,26 @@ fn open<J: LedgerCheck>(alloc: Global, placed: &Placed, judge: &J) -> Result<Led
     Ok(opened(alloc, commit)?)
 }
 
+/// The ledger that records begin with, and the records behind those.
+fn begin<'a, J: LedgerCheck>(
+    alloc: Global,
+    first: &Placed,
+    behind: &'a [Placed],
+    judge: &J,
+) -> Result<(Ledger, &'a [Placed]), LedgerFault>
+    ensures ok { IfOk result (λ read. IsBegun (J.accepted judge.now) (first.now ∷ behind.now) read.0 read.1.now) }
+    ensures bad { (offset : ℕ) → IsErrOf result (LedgerFault.BadRecord offset)
+        → BeginsBadly (J.accepted judge.now) first.now behind.now offset }
+{
+    if first.kind == KEEP {
+        return restore(alloc, first, behind, judge);
+    }
+    match open(alloc, first, judge) {
+        Err(fault) => Err(fault),
+        Ok(ledger) => Ok((ledger, behind)),
+    }
+}
+
 /// The ledger of a first record and those behind it.
 fn of_records<J: LedgerCheck>(
     alloc: Global,
@@ -94,11 +118,11 @@ fn of_records<J: LedgerCheck>(
 ) -> Result<Ledger, LedgerFault>
     ensures ok { IfOk result (ReadsAs (J.accepted judge.now) (records_of (first.now ∷ rest.now))) }
     ensures bad { (offset : ℕ) → IsErrOf result (LedgerFault.BadRecord offset)
-        → IsFirstBad (J.accepted judge.now) None (first.now ∷ rest.now) offset }
+        → IsUnread (J.accepted judge.now) (first.now ∷ rest.now) offset }
 {
-    match open(alloc, first, judge) {
+    match begin(alloc, first, rest, judge) {
         Err(fault) => Err(fault),
-        Ok(mut ledger) => match ledger.read_on(alloc, rest, judge) {
+        Ok((mut ledger, further)) => match ledger.read_on(alloc, further, judge) {
             Err(fault) => Err(fault),
             Ok(()) => Ok(ledger),
         },
@@ -177,9 +201,9 @@ impl Ledger {
         records: &[Placed],
         judge: &J,
     ) -> Result<(), LedgerFault>
-        ensures ok { OnOk result (ReadsOn (J.accepted judge.now) (Some self.old) (records_of records.now) (Some self.new)) }
+        ensures ok { OnOk result (GoesThrough (J.accepted judge.now) self.old (records_of records.now) self.new) }
         ensures bad { (offset : ℕ) → IsErrOf result (LedgerFault.BadRecord offset)
-            → IsFirstBad (J.accepted judge.now) (Some self.old) records.now offset }
+            → IsFirstBad (J.accepted judge.now) self.old records.now offset }
     {
         for placed in records {
             if let Err(fault) = self.go_on(alloc, placed, judge) {

@@ -59,7 +59,8 @@ pub(crate) fn text_of(alloc: Global, tree: &Tree) -> Result<Bytes, NoMemory>
     print(alloc, tree, &Path::top(alloc))
 }
 
-fn commit_payload(alloc: Global, commit: &Commit) -> Result<Bytes, NoMemory>
+/// The payload of a commit's record.
+pub(crate) fn commit_payload(alloc: Global, commit: &Commit) -> Result<Bytes, NoMemory>
     requires { length (text_of commit.now.tree) ≤ most_text }
     ensures bytes { IfOk result (λ bytes. bytes ≡ commit_bytes (form_of commit.now)) }
     ensures size { IfOk result (λ bytes. length bytes ≤ most_payload) }

@@ -11,7 +11,8 @@ ghost use Rattle.commit_ledger.specs.declared.entry.Confirm.{Confirm};
 ghost use Rattle.commit_ledger.specs.declared.entry.Entry.{Entry};
 ghost use Rattle.commit_ledger.specs.Form.{commit_read, confirm_read, IsInRange, IsCommitFrom, IsCommitOf, IsConfirmFrom, IsConfirmOf};
 ghost use Rattle.commit_ledger.specs.Payload.{text_of, CommitFits, ConfirmFits};
-ghost use Rattle.commit_ledger.specs.Reading.{IsRecordOf};
+ghost use Rattle.commit_ledger.specs.Rules.{IsRecordOf};
+ghost use Rattle.commit_ledger.specs.declared.entry.Entry.TheVariants.{Commit as CommitOf};
 
 use crate::entry::{Commit, Confirm, Entry};
 use crate::form::{CommitRead, ConfirmRead};
@@ -170,6 +171,23 @@ fn confirm_of(alloc: Global, payload: &[u8]) -> Result<Option<Confirm>, NoMemory
     match read_confirm(payload) {
         None => Ok(None),
         Some(read) => confirm_from(alloc, &read),
+    }
+}
+
+/// The commit that a record is of, if it is one's.
+pub(crate) fn commit_in<J: LedgerCheck>(
+    alloc: Global,
+    placed: &Placed,
+    judge: &J,
+) -> Result<Option<Commit>, NoMemory>
+    ensures some { IfOk result (λ o. IfSome o (λ c. IsRecordOf (J.accepted judge.now) (record_of placed.now) (CommitOf c))) }
+    ensures none { IfOk result (λ o. IsNone o
+        → (c : Commit) → IsRecordOf (J.accepted judge.now) (record_of placed.now) (CommitOf c) → ⊥) }
+{
+    if placed.kind == 1 {
+        commit_of(alloc, placed.payload.as_slice(), judge)
+    } else {
+        Ok(None)
     }
 }
 

@@ -45,6 +45,16 @@ impl Commit {
     }
 }
 
+/// A commit whose map shares with that of the last of others what is equal in both.
+pub(crate) fn beside_last(alloc: Global, commits: &[Commit], commit: Commit) -> Commit
+    ensures { result ≡ commit }
+{
+    match commits.last() {
+        Some(before) => commit.shared_with(alloc, &before.tree),
+        None => commit,
+    }
+}
+
 impl Ledger {
     /// Makes an entry ready, whose map shares with the last one what is equal in both.
     pub(crate) fn prepare_shared(&self, alloc: Global, entry: Entry) -> Result<Ready, NoMemory>

@@ -263,3 +263,37 @@ leaves_now h h' P so_far c image = so_far.each c (last_moment (state_of h) so_fa
     last_moment : (s : DiskState) (calls : List Call) (c : List ℕ) → IsImage (after s calls) c → Since s calls c
     last_moment s [] c image = image
     last_moment s (x ∷ xs) c image = inr (inr (last_moment (step s x) xs c image))
+
+-- at or past the length of the last sync all is pending
+AllPastSync : DiskState → Type 0
+AllPastSync s = (k : ℕ) → s.synced ≤ k → k < length s.contents → s.pending k ≡ true
+
+lt_or_ge : (m n : ℕ) → (m < n) ⊎ (n ≤ m)
+lt_or_ge m n = grind arith
+
+past_sync : (s : DiskState) (calls : List Call) → AllPastSync s → AllPastSync (after s calls)
+unfolding AllPastSync
+past_sync s [] all = all
+past_sync s (Write at bytes ∷ calls) all =
+    past_sync (written s at bytes) calls (λ k from to. ⊎_elim (λ lt. still_pending s at (length bytes) k (all k from lt)) (λ ge. past_end s at (length bytes) k ge) (lt_or_ge k (length s.contents)))
+past_sync s (Missed at count ∷ calls) all = past_sync (missed s at count) calls (λ k from to. still_pending s at count k (all k from to))
+past_sync s (Sync true ∷ calls) all = past_sync (settled s true) calls (λ k from to. absurd (omega (arith, from, to)))
+past_sync s (Sync false ∷ calls) all = past_sync s calls all
+past_sync s (Refused ∷ calls) all = past_sync s calls all
+
+-- so a file with nothing pending has its whole length in each image, whatever is written to it then
+pub quiet_synced : (h : History) → ((k : ℕ) → (state_of h).pending k ≡ false) → length (contents_of h) ≤ (state_of h).synced
+unfolding state_of AllPastSync
+quiet_synced h quiet =
+    let s : DiskState = after (at_first h.first) h.calls in
+    ⊎_elim (λ lt. absurd (let t : s.pending s.synced ≡ true = past_sync (at_first h.first) h.calls (λ k from to. absurd (omega (arith, from, to))) s.synced (omega arith) lt in
+    let f : s.pending s.synced ≡ false = quiet s.synced in cc)) (λ ge. ge) (lt_or_ge s.synced (length s.contents))
+
+-- calls after calls
+pub leaves_then : (h m h' : History) (P : List ℕ → Type 0) → Leaves h m P → Leaves m h' P → Leaves h h' P
+leaves_then h m h' P one two = record {
+  calls = one.calls ++ two.calls;
+  first = two.first ∙ one.first;
+  made = two.made ∙ ap (λ (l : List Call). l ++ two.calls) one.made ∙ append_assoc h.calls one.calls two.calls;
+  each = λ d since. ⊎_elim (one.each d) (λ last. two.each d (subst (λ (s : DiskState). Since s two.calls d) (sym (state_later h m P one)) last)) (since_append (state_of h) one.calls two.calls d since);
+}

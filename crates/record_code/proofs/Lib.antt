@@ -1,2 +1,4 @@
 pub mod Slices
 pub mod ReadingLemmas
+pub mod BodiesLemmas
+pub mod EncodedLemmas

@@ -1,12 +1,11 @@
 -- Reading records: what agrees reads the same, one more at the end, and that there is one reading.
-use Rattle.std.proofs.Common.{◌≡◌, ◌≢◌, ◌≤◌, ℕ, ◌+◌, ◌-◌, nat_le, cond, List, [], ◌∷◌, ◌++◌, length, take, drop, refl, sym, ◌∙◌, ap, subst, arith, append_assoc, length-append, length-drop}
+use Rattle.std.proofs.Common.{◌≡◌, ◌≢◌, ◌≤◌, ℕ, ◌+◌, nat_le, cond, List, [], ◌∷◌, ◌++◌, length, refl, sym, ◌∙◌, ap, subst, arith, append_assoc, length-append}
 use Rattle.std.specs.Int.{w32, to_be_bytes, from_be_bytes}
-use Rattle.std.proofs.lemmas.List.{take_all, take_at, drop_at}
 use Rattle.std.proofs.lemmas.Nat.{from_be_bytes-to_be_bytes_4}
 use Rattle.std.proofs.lemmas.Bool.Decides.{nat_tests}
 use Rattle.sha2.specs.Sha256.{sha256}
 use Rattle.sha2.proofs.Facts256.{length-sha256}
-use Rattle.record_code.specs.Record.{Record, IsSound, most_payload, head, body, gated, record_in, IsBody, IsGated}
+use Rattle.record_code.specs.Record.{Record, IsSound, most_payload, head, body}
 use Rattle.record_code.specs.Reading.{byte, slice, Agree, size_at, record_at, computed_digest, kept_digest, next_gate, IsRecordAt, Reads}
 use Rattle.record_code.proofs.Slices.{slice_byte, slice_same, slice_front, slice_back}
 
@@ -172,53 +171,3 @@ body_there f g next r sound is = record {
         let at : g + 38 + n ≡ g + 1 + (5 + n) + 32 + 0 = omega arith in
         ap (λ (m : ℕ). byte f m) at
         ∙ slice_byte f (g + 1 + (5 + n) + 32) 1 (next ∷ []) 0 (slice_back f (g + 1 + (5 + n)) 32 1 (sha256 (head r)) (next ∷ []) (length-sha256 (head r)) tails) (omega arith)
-
--- the record that a body is the body of
-pub record_in-body : (r : Record) → record_in (body 0 r) ≡ r
-unfolding body
-record_in-body r =
-    let h = head r in
-    let bytes = h ++ sha256 h ++ 0 ∷ [] in
-    let size : length bytes - 38 ≡ length r.payload = omega (arith, length-body-is r) in
-    let dropped : drop 5 bytes ≡ (r.payload ++ sha256 h) ++ 0 ∷ [] =
-    ap (λ (l : List ℕ). drop 5 (l ++ 0 ∷ [])) (append_assoc front r.payload (sha256 h))
-    ∙ ap (λ (l : List ℕ). drop 5 l) (append_assoc front (r.payload ++ sha256 h) (0 ∷ []))
-    ∙ drop_at front ((r.payload ++ sha256 h) ++ 0 ∷ []) 5 refl in
-    let payload : take (length bytes - 38) (drop 5 bytes) ≡ r.payload =
-    ap (λ (n : ℕ). take n (drop 5 bytes)) size ∙ ap (λ (l : List ℕ). take (length r.payload) l) (dropped ∙ append_assoc r.payload (sha256 h) (0 ∷ [])) ∙ take_at r.payload (sha256 h ++ 0 ∷ []) (length r.payload) refl in
-    ap (λ (l : List ℕ). let s : Record = record { kind = r.kind; payload = l } in s) payload
-  where
-    front : List ℕ
-    front = (r.kind ∷ []) ++ to_be_bytes w32 (length r.payload)
-
-    length-body-is : (r : Record) → length (head r ++ sha256 (head r) ++ 0 ∷ []) ≡ 38 + length r.payload
-    length-body-is r = omega (arith, length-append (head r ++ sha256 (head r)) (0 ∷ []), length-append (head r) (sha256 (head r)), length-head r, length-sha256 (head r))
-
-pub body_is : (r : Record) (bytes : List ℕ) → IsSound r → bytes ≡ body 0 r → IsBody bytes
-body_is r bytes sound is =
-    let same : record_in bytes ≡ r = ap record_in is ∙ record_in-body r in
-    record { is = is ∙ ap (body 0) (sym same); sound = subst IsSound (sym same) sound }
-
--- all bytes behind the first
-pub behind_first : (l : List ℕ) → take (length l - 1) (drop 1 l) ≡ drop 1 l
-behind_first l = take_all (length l - 1) (drop 1 l) (omega (arith, length-drop 1 l))
-
--- a body that was put together piece by piece behind its gate
-pub pieces : (r : Record) (l0 l1 l2 l3 l4 l5 l6 number payload digest read : List ℕ) → l0 ≡ [] → l1 ≡ l0 ++ 1 ∷ [] → l2 ≡ l1 ++ r.kind ∷ []
-    → number ≡ to_be_bytes w32 (length r.payload) → l3 ≡ l2 ++ number → payload ≡ r.payload → l4 ≡ l3 ++ payload
-    → read ≡ drop 1 l4 → digest ≡ sha256 read → l5 ≡ l4 ++ digest → l6 ≡ l5 ++ 0 ∷ [] → l6 ≡ gated (body 0 r)
-unfolding body
-pieces r l0 l1 l2 l3 l4 l5 l6 number payload digest read a0 a1 a2 number_is a3 payload_is a4 read_is digest_is a5 a6 =
-    let front = (r.kind ∷ []) ++ to_be_bytes w32 (length r.payload) in
-    let e1 : l1 ≡ 1 ∷ [] = a1 ∙ ap (λ (l : List ℕ). l ++ 1 ∷ []) a0 in
-    let e2 : l2 ≡ 1 ∷ (r.kind ∷ []) = a2 ∙ ap (λ (l : List ℕ). l ++ r.kind ∷ []) e1 in
-    let e3 : l3 ≡ 1 ∷ front = a3 ∙ ap (λ (l : List ℕ). l ++ number) e2 ∙ ap (λ (l : List ℕ). 1 ∷ ((r.kind ∷ []) ++ l)) number_is in
-    let e4 : l4 ≡ 1 ∷ head r = a4 ∙ ap (λ (l : List ℕ). l ++ payload) e3 ∙ ap (λ (l : List ℕ). 1 ∷ (front ++ l)) payload_is in
-    let e5 : l5 ≡ 1 ∷ (head r ++ sha256 (head r)) = a5 ∙ ap (λ (l : List ℕ). l ++ digest) e4 ∙ ap (λ (l : List ℕ). 1 ∷ (head r ++ l)) (digest_is ∙ ap sha256 (read_is ∙ ap (λ (l : List ℕ). drop 1 l) e4)) in
-    a6 ∙ ap (λ (l : List ℕ). l ++ 0 ∷ []) e5
-
--- the bytes of a record behind its gate
-pub gated_is : (r : Record) (bytes : List ℕ) → IsSound r → bytes ≡ gated (body 0 r) → IsGated bytes
-gated_is r bytes sound is =
-    let behind : drop 1 bytes ≡ body 0 r = ap (λ (l : List ℕ). drop 1 l) is in
-    record { is_open = is ∙ ap gated (sym behind); body_is = body_is r (drop 1 bytes) sound behind }

@@ -1,6 +1,5 @@
 -- Files spell one list at most, and a refusal of them has one cause.
-use Rattle.std.proofs.Common.{◌≡◌, ◌+◌, ℕ, List, [], ◌∷◌, ◌++◌, length, Option, Some, None, refl, sym, subst, ap, ◌∙◌}
-use Rattle.cfg_tree.specs.Statements.{Statements}
+use Rattle.std.proofs.Common.{◌≡◌, ◌+◌, ℕ, List, [], ◌∷◌, length, refl, sym, subst, ap, ◌∙◌}
 use Rattle.record_code.specs.declared.payloads.Placed.{Placed}
 use Rattle.record_code.specs.Listed.{record_of, records_of, PlacedFrom}
 use Rattle.record_code.specs.Reading.{first_gate}
@@ -14,12 +13,9 @@ use Rattle.stored_ledger.specs.declared.why.StartWhy.TheVariants.{Exists, NotAJo
 use Rattle.commit_journal.specs.Attach.{ExplainsPair, IsRefusal}
 use Rattle.commit_journal.specs.Pair.{PairSpells, counting_of}
 use Rattle.commit_journal.proofs.CauseLemmas.{spelled as journal_spelled, apart as journal_apart, owed as journal_owed}
-use Rattle.commit_ledger.specs.declared.entry.Commit.{Commit}
-use Rattle.commit_ledger.specs.declared.entry.Entry.{Entry}
-use Rattle.commit_ledger.specs.declared.entry.Entry.TheVariants.{Commit as CommitOf, Confirm as ConfirmOf}
-use Rattle.commit_ledger.specs.Kept.{Kept, opened, append_entry}
-use Rattle.commit_ledger.specs.Reading.{IsNextRead, ReadsOn, ReadsAs, IsUnread}
-use Rattle.commit_ledger.proofs.ReadingLemmas.{one_entry, one_reading, not_read}
+use Rattle.commit_ledger.specs.Kept.{Kept}
+use Rattle.commit_ledger.specs.Reading.{ReadsAs, IsUnread}
+use Rattle.commit_ledger.proofs.ReadingLemmas.{one_reading, not_read, one_unread}
 use Rattle.stored_ledger.specs.Starting.{Explains, IsBadList, IsByBytes}
 use Rattle.stored_ledger.specs.Stored.{SpellsKept}
 
@@ -43,14 +39,6 @@ spelled a b kept DiskFault spells by is = by
 spelled a b kept NoMemory spells by is = by
 
 -- the first and the rest of a list that isn't empty
-abbrev first_placed : Placed → List Placed → Placed
-first_placed p [] = p
-first_placed p (q ∷ ps) = q
-
-abbrev rest_placed : List Placed → List Placed
-rest_placed [] = []
-rest_placed (p ∷ ps) = ps
-
 abbrev first_record : Record → List Record → Record
 first_record r [] = r
 first_record r (s ∷ rs) = s
@@ -78,44 +66,7 @@ placed_one g (p ∷ ps) (q ∷ qs) last last' same one two =
     (subst (λ (r : Placed). PlacedFrom (g + 38 + length r.payload) qs last') (sym first) two.1) in
     ap (λ (r : Placed). r ∷ ps) first ∙ ap (λ (l : List Placed). q ∷ l) rest
 
--- a record leads to one value
-abbrev commit_in : Commit → Entry → Commit
-commit_in c (CommitOf d) = d
-commit_in c (ConfirmOf d) = c
-
-one_next : (P : Statements → Type 0) (before : Option Kept) (r : Record) (m n : Kept) → IsNextRead P before r m → IsNextRead P before r n → m ≡ n
-one_next P None r m n one other =
-    one.is ∙ ap (λ (e : Entry). opened (commit_in one.commit e)) (sym one.first.is ∙ one_entry P r one.entry other.entry one.is_record other.is_record ∙ other.first.is)
-    ∙ sym other.is
-one_next P (Some kept) r m n one other = one.is ∙ ap (append_entry kept) (one_entry P r one.entry other.entry one.is_record other.is_record) ∙ sym other.is
-
--- so the first record that breaks a rule is one
-one_bad : (P : Statements → Type 0) (before : Option Kept) (good good' : List Placed) (bad bad' : Placed) (rest rest' : List Placed) (here here' : Option Kept)
-    → good ++ bad ∷ rest ≡ good' ++ bad' ∷ rest' → ReadsOn P before (records_of good) here → ((next : Kept) → IsNextRead P here (record_of bad) next → ⊥)
-    → ReadsOn P before (records_of good') here' → ((next : Kept) → IsNextRead P here' (record_of bad') next → ⊥) → bad ≡ bad'
-one_bad P before [] [] bad bad' rest rest' here here' same reads broken reads' broken' = ap (first_placed bad) same
-one_bad P before [] (q ∷ good') bad bad' rest rest' here here' same reads broken reads' broken' =
-    let is : q ≡ bad = ap (first_placed bad) (sym same) in
-    let next : IsNextRead P here (record_of bad) reads'.0 =
-    subst (λ (p : Placed). IsNextRead P here (record_of p) reads'.0) is (subst (λ (k : Option Kept). IsNextRead P k (record_of q) reads'.0) reads reads'.1) in
-    absurd (broken reads'.0 next)
-one_bad P before (p ∷ good) [] bad bad' rest rest' here here' same reads broken reads' broken' =
-    let is : p ≡ bad' = ap (first_placed bad) same in
-    let next : IsNextRead P here' (record_of bad') reads.0 =
-    subst (λ (q : Placed). IsNextRead P here' (record_of q) reads.0) is (subst (λ (k : Option Kept). IsNextRead P k (record_of p) reads.0) reads' reads.1) in
-    absurd (broken' reads.0 next)
-one_bad P before (p ∷ good) (q ∷ good') bad bad' rest rest' here here' same reads broken reads' broken' =
-    let is : q ≡ p = ap (first_placed p) (sym same) in
-    let one : reads'.0 ≡ reads.0 = one_next P before (record_of p) reads'.0 reads.0 (subst (λ (x : Placed). IsNextRead P before (record_of x) reads'.0) is reads'.1) reads.1 in
-    one_bad P (Some reads.0) good good' bad bad' rest rest' here here' (ap rest_placed same) reads.2 broken
-    (subst (λ (k : Kept). ReadsOn P (Some k) (records_of good') here') one reads'.2) broken'
-
-one_unread : (P : Statements → Type 0) (placed : List Placed) (m n : ℕ) → IsUnread P placed m → IsUnread P placed n → m ≡ n
-one_unread P [] m n one two = one ∙ sym two
-one_unread P (p ∷ ps) m n one two =
-    one.place ∙ ap (λ (b : Placed). b.offset) (one_bad P None one.good two.good one.bad two.bad one.rest two.rest one.here two.here (sym one.cut ∙ two.cut) one.reads one.broken two.reads two.broken)
-    ∙ sym two.place
-
+-- so the first record that breaks a rule is at one place
 one_offset : (a b : List ℕ) (m n : ℕ) → IsBadList a b m → IsBadList a b n → m ≡ n
 one_offset a b m n one two =
     let same : two.placed ≡ one.placed =

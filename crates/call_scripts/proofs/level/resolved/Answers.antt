@@ -1,4 +1,5 @@
-use Rattle.cfg_tree.proofs.TopLemmas.{top_is_level, below_top}
+use Rattle.cfg_tree.proofs.TopLemmas.{top_is_level}
+use Rattle.cfg_resolve.proofs.TargetLemmas.{below_top}
 use Rattle.call_scripts.proofs.level.resolved.Goals as goal
 
 pub resolve-requires : goal.resolve-requires

@@ -1,4 +1,5 @@
-use Rattle.commit_ledger.proofs.ReadingLemmas.{one_entry, one_reading, not_read, read_maps_are_accepted, appended_is_read}
+use Rattle.commit_ledger.proofs.RecordLemmas.{one_entry}
+use Rattle.commit_ledger.proofs.ReadingLemmas.{one_reading, one_unread, not_read, read_maps_are_accepted, appended_is_read}
 use Rattle.commit_ledger.proofs.laws.records_have_one_reading.Goals as goal
 
 pub returns-clause-one_entry : goal.returns-clause-one_entry
@@ -9,6 +10,9 @@ returns-clause-one_reading g c = one_reading (g.J.LedgerCheck.accepted c.args.ju
 
 pub returns-clause-not_both : goal.returns-clause-not_both
 returns-clause-not_both g c = not_read (g.J.LedgerCheck.accepted c.args.judge.now)
+
+pub returns-clause-one_bad : goal.returns-clause-one_bad
+returns-clause-one_bad g c = one_unread (g.J.LedgerCheck.accepted c.args.judge.now)
 
 pub returns-clause-accepted : goal.returns-clause-accepted
 returns-clause-accepted g c = read_maps_are_accepted (g.J.LedgerCheck.accepted c.args.judge.now)

@@ -1,6 +1,6 @@
 use Rattle.std.proofs.Common.{rules}
 use Rattle.record_code.specs.Listed.{record_of}
-use Rattle.commit_ledger.specs.Reading.{IsRecordOf}
+use Rattle.commit_ledger.specs.Rules.{IsRecordOf}
 use Rattle.commit_ledger.proofs.opening.open.Goals as goal
 
 pub returns-clause-ok : goal.returns-clause-ok

@@ -2,10 +2,11 @@ use Rattle.std.proofs.Common.{◌≡◌, inl, ◌+◌, ◌++◌, ◌∷◌, [], 
 use Rattle.record_code.specs.Record.{bodies}
 use Rattle.commit_journal.specs.declared.flight.Flight.{Flight}
 use Rattle.commit_journal.specs.declared.flight.Flight.TheVariants.{Nothing, Record as InFlight}
-use Rattle.commit_journal.specs.Journal.{JournalView, IsWhole, PairCause, counted, disk_a, disk_b}
+use Rattle.commit_journal.specs.Journal.{JournalView, IsBeside, IsWhole, PairCause, counted, disk_a, disk_b}
 use Rattle.commit_journal.specs.Steps.{IsAppended, IsAppendFaulted, IsAppendSafe, Counts, Stays, appending}
 use Rattle.disk_model.specs.Disk.{DiskGoesOn, MadePart}
 use Rattle.commit_journal.proofs.CallLemmas.{counts_calls, no_calls}
+use Rattle.commit_journal.proofs.JournalLemmas.{append_number}
 use Rattle.commit_journal.proofs.PairLemmas.{append_leaves, append_waits, append_rests, rests_only, append_images, the_one, sound_one, behind_is}
 use Rattle.commit_journal.proofs.StepLemmas.{moved, moved_cause, moved_counts, moved_stays}
 use Rattle.commit_journal.proofs.journal.Journal.append.Goals as goal
@@ -15,15 +16,22 @@ invariant_of-self g c =
     let view = g.D.Disk.view in
     let j = c.self.inside in
     let idle : j.flight ≡ Nothing = ap (λ (v : JournalView). v.flight) c.self.view_is ∙ c.requires.idle in
-    let old = subst (λ (f : Flight). IsWhole (view j.counting) j.gate f) idle c.self.invariant in
+    let old = subst (λ (f : Flight). IsWhole (view j.counting) j.gate f) idle c.self.invariant.0 in
     let one = the_one _ c.requires.one in
     let is = c.as_bytes-entry.ensures.bytes ∙ ap bodies one.1 in
-    let sound = sound_one _ one.0 c.as_bytes-entry.ensures.sound one.1 in
-    subst (λ (f : Flight). IsWhole (view c.append_to-tried.new.disk) (j.gate + length c.as_bytes-entry.result.now) f) (sym idle) (
-      c.append_to-tried.ensures.bound c.in-Done.is,
-      λ t. let t0 = subst IsTrue c.append_to-tried.ensures.file.tells t in
-          let stands = old.1 t0 in
-          (stands.0 ++ one.0 ∷ [], c.append_to-tried.ensures.done c.in-Done.is t0 stands.0 one.0 stands.1 sound is),
+    let sound = sound_one _ one.0 c.as_bytes-entry.ensures.sound one.1 in (
+      subst (λ (f : Flight). IsWhole (view c.append_to-tried.new.disk) (j.gate + length c.as_bytes-entry.result.now) f) (sym idle) (
+        c.append_to-tried.ensures.bound c.in-Done.is,
+        λ t. let t0 = subst IsTrue c.append_to-tried.ensures.file.tells t in
+            let stands = old.1 t0 in
+            (stands.0 ++ one.0 ∷ [], c.append_to-tried.ensures.done c.in-Done.is t0 stands.0 one.0 stands.1 sound is),
+      ),
+      (
+        λ t. let t0 = subst IsTrue c.append_to-tried.ensures.file.tells t in
+            let stands = old.1 t0 in
+            append_number _ _ stands.0 one.0 j.gate _ (c.append_to-tried.ensures.any_moment t0 stands.0 one.0 stands.1 sound is) (c.self.invariant.1.0 t0),
+        c.self.invariant.1.1,
+      ),
     )
 
 pub invariant_of-self-in-Failed : goal.invariant_of-self-in-Failed
@@ -31,19 +39,27 @@ invariant_of-self-in-Failed g c =
     let view = g.D.Disk.view in
     let j = c.self.inside in
     let idle : j.flight ≡ Nothing = ap (λ (v : JournalView). v.flight) c.self.view_is ∙ c.requires.idle in
-    let old = subst (λ (f : Flight). IsWhole (view j.counting) j.gate f) idle c.self.invariant in
+    let old = subst (λ (f : Flight). IsWhole (view j.counting) j.gate f) idle c.self.invariant.0 in
     let one = the_one _ c.requires.one in
     let is = c.as_bytes-entry.ensures.bytes ∙ ap bodies one.1 in
     let sound = sound_one _ one.0 c.as_bytes-entry.ensures.sound one.1 in (
-      old.0,
-      omega (arith, c.min.ensures),
-      λ t. let t0 = subst IsTrue c.append_to-tried.ensures.file.tells t in
-          let stands = old.1 t0 in (
-            stands.0,
-            one.0,
-            c.min.ensures ∙ behind_is j.gate c.as_bytes-entry.result.now one.0 is,
-            append_images _ _ stands.0 one.0 j.gate (c.append_to-tried.ensures.any_moment t0 stands.0 one.0 stands.1 sound is),
-          ),
+      (
+        old.0,
+        omega (arith, c.min.ensures),
+        λ t. let t0 = subst IsTrue c.append_to-tried.ensures.file.tells t in
+            let stands = old.1 t0 in (
+              stands.0,
+              one.0,
+              c.min.ensures ∙ behind_is j.gate c.as_bytes-entry.result.now one.0 is,
+              append_images _ _ stands.0 one.0 j.gate (c.append_to-tried.ensures.any_moment t0 stands.0 one.0 stands.1 sound is),
+            ),
+      ),
+      (
+        λ t. let t0 = subst IsTrue c.append_to-tried.ensures.file.tells t in
+            let stands = old.1 t0 in
+            append_number _ _ stands.0 one.0 j.gate _ (c.append_to-tried.ensures.any_moment t0 stands.0 one.0 stands.1 sound is) (c.self.invariant.1.0 t0),
+        subst (λ (f : Flight). IsBeside (view j.other) j.generation f) idle c.self.invariant.1.1,
+      ),
     )
 
 pub returns-in-Done : goal.returns-in-Done
@@ -86,6 +102,7 @@ returns-in-Done g c =
       safe = subst (λ (v : JournalView). IsAppendSafe v c.args.body.now new) c.self.view_is (record {
         crash = λ rs r tell has one.
             append_leaves j.b_counts h h' o rs r j.gate has.rests (tried.any_moment tell.0 rs r has.rests.settled (sound_one _ r all_sound one) (bytes ∙ ap bodies one));
+        choice = refl;
         other_is = refl;
         other_calls_are = refl;
       });
@@ -128,6 +145,7 @@ returns-in-Failed g c =
       safe = subst (λ (v : JournalView). IsAppendSafe v c.args.body.now new) c.self.view_is (record {
         crash = λ rs r tell has one.
             append_leaves j.b_counts h h' o rs r j.gate has.rests (tried.any_moment tell.0 rs r has.rests.settled (sound_one _ r all_sound one) (bytes ∙ ap bodies one));
+        choice = refl;
         other_is = refl;
         other_calls_are = refl;
       });

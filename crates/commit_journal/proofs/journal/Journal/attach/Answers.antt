@@ -2,10 +2,11 @@ use Rattle.std.proofs.Common.{◌≡◌, Bool, IsTrue, true, false, List, ℕ, r
 use Rattle.disk_model.specs.Disk.{contents_of}
 use Rattle.disk_model.specs.Pair.{DiskPair}
 use Rattle.commit_journal.specs.Attach.{ExplainsPair}
-use Rattle.commit_journal.specs.Files.{AreListed, IsSyncedFile}
+use Rattle.commit_journal.specs.Files.{AreListed, AreMarked, IsSyncedFile}
+use Rattle.commit_journal.specs.Pair.{first_of, second_of}
 use Rattle.commit_journal.proofs.CauseLemmas.{spelled, owed}
 use Rattle.commit_journal.proofs.FileLemmas.{may_settles}
-use Rattle.commit_journal.proofs.OpenLemmas.{only_now, rests_now, spelled_then, whole_now}
+use Rattle.commit_journal.proofs.OpenLemmas.{beside_now, only_now, rests_now, spelled_then, whole_now}
 use Rattle.commit_journal.proofs.journal.Journal.attach.Goals as goal
 
 pub returns-in-Err-clause-err : goal.returns-in-Err-clause-err
@@ -72,8 +73,11 @@ invariant_of-journal g c =
     let files : DiskPair = record { a = view c.open_files.new.a; b = view c.open_files.new.b } in
     let read = c.in-Ok.opened.listed in
     let a : IsSyncedFile (view c.args.a) (view c.open_files.new.a) (true ≡ true) = c.in-Ok.ensures.a in
-    let b : IsSyncedFile (view c.args.b) (view c.open_files.new.b) (true ≡ true) = c.in-Ok.ensures.b in
-    whole_now _ _ _ _ read.payloads read.gate _ refl a b true (subst (λ (v : Bool). AreListed files v read.payloads read.gate) c.if-opened.true c.in-Ok.ensures.ok)
+    let b : IsSyncedFile (view c.args.b) (view c.open_files.new.b) (true ≡ true) = c.in-Ok.ensures.b in (
+      whole_now _ _ _ _ read.payloads read.gate _ refl a b true (subst (λ (v : Bool). AreListed files v read.payloads read.gate) c.if-opened.true c.in-Ok.ensures.ok),
+      beside_now _ _ _ _ read.payloads read.gate _ refl a b c.in-Ok.opened.generation true
+          (subst (λ (v : Bool). AreMarked (first_of v files.a files.b) (second_of v files.a files.b) c.in-Ok.opened.generation) c.if-opened.true c.in-Ok.ensures.marked),
+    )
 
 pub invariant_of-journal-else-opened : goal.invariant_of-journal-else-opened
 invariant_of-journal-else-opened g c =
@@ -81,5 +85,8 @@ invariant_of-journal-else-opened g c =
     let files : DiskPair = record { a = view c.open_files.new.a; b = view c.open_files.new.b } in
     let read = c.in-Ok.opened.listed in
     let a : IsSyncedFile (view c.args.a) (view c.open_files.new.a) (true ≡ true) = c.in-Ok.ensures.a in
-    let b : IsSyncedFile (view c.args.b) (view c.open_files.new.b) (true ≡ true) = c.in-Ok.ensures.b in
-    whole_now _ _ _ _ read.payloads read.gate _ refl a b false (subst (λ (v : Bool). AreListed files v read.payloads read.gate) c.if-opened.false c.in-Ok.ensures.ok)
+    let b : IsSyncedFile (view c.args.b) (view c.open_files.new.b) (true ≡ true) = c.in-Ok.ensures.b in (
+      whole_now _ _ _ _ read.payloads read.gate _ refl a b false (subst (λ (v : Bool). AreListed files v read.payloads read.gate) c.if-opened.false c.in-Ok.ensures.ok),
+      beside_now _ _ _ _ read.payloads read.gate _ refl a b c.in-Ok.opened.generation false
+          (subst (λ (v : Bool). AreMarked (first_of v files.a files.b) (second_of v files.a files.b) c.in-Ok.opened.generation) c.if-opened.false c.in-Ok.ensures.marked),
+    )

@@ -4,7 +4,7 @@ use Rattle.commit_journal.specs.Opening.{making}
 use Rattle.record_code.specs.Record.{Record, bodies, gated}
 use Rattle.record_code.proofs.ReadingLemmas.{length-body}
 use Rattle.commit_journal.specs.Pair.{head_a}
-use Rattle.commit_journal.proofs.CreateLemmas.{made_rests, made_settled}
+use Rattle.commit_journal.proofs.CreateLemmas.{made_number, made_rests, made_settled, made_spare}
 use Rattle.commit_journal.proofs.PairLemmas.{the_one, sound_one, rests_only}
 use Rattle.commit_journal.proofs.journal.Journal.create.Goals as goal
 
@@ -19,8 +19,13 @@ pub invariant_of-result : goal.invariant_of-result
 invariant_of-result g c =
     let one = the_one _ c.requires in
     let is = c.with_gate-entry.ensures.bytes ∙ ap (λ (l : List Record). gated (bodies l)) one.1 in
-    let sound = sound_one _ one.0 c.with_gate-entry.ensures.sound one.1 in
-    (c.in-Ok.ensures.bound, λ t. (one.0 ∷ [], made_settled _ _ _ one.0 sound is (c.in-Ok.ensures.a.made refl (subst IsTrue c.make_files.ensures.a.tells t))))
+    let sound = sound_one _ one.0 c.with_gate-entry.ensures.sound one.1 in (
+      (c.in-Ok.ensures.bound, λ t. (one.0 ∷ [], made_settled _ _ _ one.0 sound is (c.in-Ok.ensures.a.made refl (subst IsTrue c.make_files.ensures.a.tells t)))),
+      (
+        λ t. made_number _ _ _ one.0 sound is (c.in-Ok.ensures.a.made refl (subst IsTrue c.make_files.ensures.a.tells t)),
+        λ t. made_spare _ _ 1 (c.in-Ok.ensures.b.made refl (subst IsTrue c.make_files.ensures.b.tells t)),
+      ),
+    )
 
 pub returns-in-Ok-clause-made : goal.returns-in-Ok-clause-made
 returns-in-Ok-clause-made g c =

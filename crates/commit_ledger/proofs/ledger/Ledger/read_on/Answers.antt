@@ -1,4 +1,4 @@
-use Rattle.commit_ledger.proofs.ReadingLemmas.{reads_more, first_bad}
+use Rattle.commit_ledger.proofs.RecordLemmas.{reads_more, first_bad}
 use Rattle.commit_ledger.proofs.ledger.Ledger.read_on.Goals as goal
 
 pub loop-placed-preserved : goal.loop-placed-preserved

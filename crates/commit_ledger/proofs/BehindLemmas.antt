@@ -1,0 +1,74 @@
+-- Commits that are read from records one after another, behind others.
+use Rattle.std.proofs.Common.{◌≡◌, ◌≢◌, ◌≤◌, ◌+◌, ◌-◌, ◌∙◌, inl, inr, ℕ, List, [], ◌∷◌, ◌++◌, length, take, drop, get_or, refl, sym, ap, subst, arith, append_assoc, length-append, ⊎_elim}
+use Rattle.std.proofs.lemmas.List.{append-nil, take_all}
+use Rattle.cfg_tree.specs.Statements.{Statements}
+use Rattle.record_code.specs.declared.payloads.Placed.{Placed}
+use Rattle.record_code.specs.Listed.{record_of}
+use Rattle.commit_ledger.specs.declared.entry.Commit.{Commit}
+use Rattle.commit_ledger.specs.declared.entry.Entry.TheVariants.{Commit as CommitOf}
+use Rattle.commit_ledger.specs.Kept.{Kept}
+use Rattle.commit_ledger.specs.Checkpoint.{KeepForm, IsAmong}
+use Rattle.commit_ledger.specs.Restored.{IsBadKeep, IsReadKeep, IsRestored}
+use Rattle.commit_ledger.specs.Restoring.{AreCommits, AreReadBehind, IsBadCommit, IsReadBehind}
+use Rattle.commit_ledger.specs.Rules.{IsRecordOf}
+use Rattle.commit_ledger.proofs.ImageLemmas.{first_and_rest}
+use Rattle.commit_ledger.proofs.KeepLemmas.{how_many}
+
+-- what no further commit has, and the first one hasn't either
+pub none_more : (commits : List Commit) (first : Commit) (number : ℕ) → first ≡ get_or commits 0 first → 1 ≤ length commits → first.number ≢ number
+    → ((c : Commit) → IsAmong c (take (length commits - 1) (drop 1 commits)) → c.number ≢ number) → (c : Commit) → IsAmong c commits → c.number ≢ number
+none_more commits first number is some other none c among =
+    by (subst (IsAmong c) (first_and_rest commits first is some) among)
+  where
+    by : IsAmong c (first ∷ take (length commits - 1) (drop 1 commits)) → c.number ≢ number
+    by (inl same) = λ e. other (ap (λ (d : Commit). d.number) (sym same) ∙ e)
+    by (inr rest) = none c rest
+
+pub placed_and_rest : (records : List Placed) (first : Placed) → first ≡ get_or records 0 first → 1 ≤ length records → records ≡ first ∷ take (length records - 1) (drop 1 records)
+placed_and_rest [] first is some = absurd (omega (arith, some))
+placed_and_rest (p ∷ records) first is some =
+    sym (ap (λ (q : Placed). q ∷ take (length (p ∷ records) - 1) records) is ∙ ap (λ (l : List Placed). p ∷ l) (take_all (length (p ∷ records) - 1) records (omega arith)))
+
+module _ (P : Statements → Type 0) (records : List Placed) (first : Placed) (is : first ≡ get_or records 0 first) (some : 1 ≤ length records) where
+  abbrev rest : List Placed
+  rest = take (length records - 1) (drop 1 records)
+
+  pub read_more : (before between after : List Commit) → IsReadBehind P first before between → AreReadBehind P (take (length records - 1) (drop 1 records)) between after → AreReadBehind P records before after
+  read_more before between after one more = record {
+    commits = one.commit ∷ more.commits;
+    are = subst (λ (l : List Placed). AreCommits P l (one.commit ∷ more.commits)) (sym (placed_and_rest records first is some)) (one.is_record, more.are);
+    is = more.is ∙ ap (λ (l : List Commit). l ++ more.commits) one.is ∙ append_assoc before (one.commit ∷ []) more.commits;
+  }
+
+  pub bad_first : (offset : ℕ) → offset ≡ first.offset → ((c : Commit) → IsRecordOf P (record_of first) (CommitOf c) → ⊥) → IsBadCommit P records offset
+  bad_first offset place broken = record { good = []; bad = first; rest = rest; commits = []; cut = placed_and_rest records first is some; before = tt; broken = broken; place = place }
+
+  pub bad_later : (before between : List Commit) (offset : ℕ) → IsReadBehind P first before between → IsBadCommit P (take (length records - 1) (drop 1 records)) offset → IsBadCommit P records offset
+  bad_later before between offset one bad = record {
+    good = first ∷ bad.good;
+    bad = bad.bad;
+    rest = bad.rest;
+    commits = one.commit ∷ bad.commits;
+    cut = placed_and_rest records first is some ∙ ap (λ (l : List Placed). first ∷ l) bad.cut;
+    before = (one.is_record, bad.before);
+    broken = bad.broken;
+    place = bad.place;
+  }
+
+-- of no record no commit
+pub read_none : (P : Statements → Type 0) (records : List Placed) (commits : List Commit) → records ≡ [] → AreReadBehind P records commits commits
+read_none P records commits is = record { commits = []; are = subst (λ (l : List Placed). AreCommits P l []) (sym is) tt; is = sym (append-nil commits) }
+
+-- the commits of records, behind none
+module _ (P : Statements → Type 0) (f : KeepForm) (place : ℕ) (records : List Placed) (before after : List Commit) (none : before ≡ []) (read : AreReadBehind P records before after) where
+  whole : after ≡ read.commits
+  whole = read.is ∙ ap (λ (l : List Commit). l ++ read.commits) none
+
+  pub read_size : length after ≡ length records
+  read_size = ap length whole ∙ sym (how_many P records read.commits read.are)
+
+  pub read_keep_ok : (kept : Kept) → IsRestored f after kept → IsReadKeep P f records kept
+  read_keep_ok kept restored = record { commits = read.commits; are = read.are; restored = subst (λ (l : List Commit). IsRestored f l kept) whole restored }
+
+  pub read_keep_bad : (offset : ℕ) → offset ≡ place → ((kept : Kept) → IsRestored f after kept → ⊥) → IsBadKeep P f place records offset
+  read_keep_bad offset is broken = inr (read.commits, read.are, is, λ kept restored. broken kept (subst (λ (l : List Commit). IsRestored f l kept) (sym whole) restored))

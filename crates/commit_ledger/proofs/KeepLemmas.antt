@@ -1,0 +1,143 @@
+-- A Keep and the records of its commits, as a checkpoint of one value or as one that breaks a rule.
+use Rattle.std.proofs.Common.{◌≡◌, ◌≢◌, ◌≤◌, ◌<◌, ◌⊎◌, inl, inr, ⊎_elim, ℕ, ◌+◌, ◌^◌, List, [], ◌∷◌, ◌++◌, length, take, drop, map, Option, Some, None, refl, sym, ◌∙◌, ap, subst, arith, take-append-drop}
+use Rattle.std.specs.Prelude.{IfSome}
+use Rattle.std.specs.List.{AllByRecursion}
+use Rattle.cfg_tree.specs.Statements.{Statements}
+use Rattle.record_code.specs.declared.payloads.Placed.{Placed}
+use Rattle.record_code.specs.Listed.{record_of, records_of}
+use Rattle.record_code.specs.Record.{Record}
+use Rattle.commit_ledger.specs.declared.entry.Commit.{Commit}
+use Rattle.commit_ledger.specs.declared.limit.TheConstants.{MAX_ENTRIES}
+use Rattle.commit_ledger.specs.Form.{KeepFits}
+use Rattle.commit_ledger.specs.Kept.{Kept, Unconfirmed, commits_of}
+use Rattle.commit_ledger.specs.Rules.{IsCommit}
+use Rattle.commit_ledger.specs.Reading.{IsBegun}
+use Rattle.commit_ledger.specs.Checkpoint.{KeepForm, checkpoint, commit_record, far_target, first_number, keep_bytes, keep_form, keep_record, listed, target_number, IsRestorable, IsRunAmong, Restores}
+use Rattle.commit_ledger.specs.Restored.{IsBadKeep, IsReadKeep, IsRestored}
+use Rattle.commit_ledger.specs.Restoring.{AreCommits, IsBadCheckpoint, IsKeep}
+use Rattle.commit_ledger.proofs.BadLemmas.{records_are, same_commits}
+use Rattle.commit_ledger.proofs.GrownLemmas.{all_among, most_entries}
+use Rattle.commit_ledger.proofs.RestoreLemmas.{OneKeep, full_far, one_keep, one_list, target_small}
+
+each_commit : (P : Statements → Type 0) (ps : List Placed) (cs : List Commit) → AreCommits P ps cs → AllByRecursion (IsCommit P) cs
+each_commit P [] [] are = tt
+each_commit P (p ∷ ps) (c ∷ cs) are = (are.0.is_entry, each_commit P ps cs are.1)
+each_commit P [] (c ∷ cs) are = absurd are
+each_commit P (p ∷ ps) [] are = absurd are
+
+pub how_many : (P : Statements → Type 0) (ps : List Placed) (cs : List Commit) → AreCommits P ps cs → length ps ≡ length cs
+how_many P [] [] are = refl
+how_many P (p ∷ ps) (c ∷ cs) are = let e = how_many P ps cs are.1 in omega (arith, e)
+how_many P [] (c ∷ cs) are = absurd are
+how_many P (p ∷ ps) [] are = absurd are
+
+same_form : (f g : KeepForm) → f.count ≡ g.count → f.target ≡ g.target → f.commits ≡ g.commits → f ≡ g
+same_form f g count target commits =
+    let path : f ≡ g =
+    ap (λ (n : ℕ). record { count = n; target = f.target; commits = f.commits }) count
+    ∙ ap (λ (n : ℕ). record { count = g.count; target = n; commits = f.commits }) target
+    ∙ ap (λ (n : ℕ). record { count = g.count; target = g.target; commits = n }) commits in
+    path
+
+-- a Keep that isn't told apart by its bytes
+pub same_keep : (f g : KeepForm) (behind : List Placed) → KeepFits f → IsKeep g behind → keep_bytes f ≡ keep_bytes g → IsKeep f behind
+same_keep f g behind fits keep is =
+    let one = one_keep f g fits.count (omega (arith, keep.numbers.room, most_entries)) fits.target keep.numbers.fits is in
+    let commits : f.commits ≡ g.commits = same_commits f g fits.commits (omega (arith, keep.numbers.few)) is in
+    subst (λ (h : KeepForm). IsKeep h behind) (sym (same_form f g one.count one.target commits)) keep
+
+module _ (P : Statements → Type 0) (f : KeepForm) (cs : List Commit) (each : AllByRecursion (IsCommit P) cs) where
+  pub restored_of : f.count < 2 ^ 64 → f.target < 2 ^ 64 → (kept : Kept) → Restores P (keep_record f ∷ map commit_record cs) kept → IsRestored f cs kept
+  restored_of count target kept restores =
+      let head : keep_record f ≡ keep_record (keep_form kept) = first_of restores.is in
+      let tail : map commit_record cs ≡ map commit_record (listed kept) = rest_of restores.is in
+      let lists : listed kept ≡ cs = one_list P (listed kept) cs restores.rules.each each (sym tail) in
+      let keeps : OneKeep f (keep_form kept) = one_keep f (keep_form kept) count (omega (arith, restores.rules.room, most_entries)) target
+      (target_small P kept restores.rules kept.pending restores.rules.run) (ap (λ (r : Record). r.payload) head) in
+      record {
+        listed = lists;
+        count = sym keeps.count;
+        target = sym keeps.target;
+        moment = restores.moment;
+        numbers = restores.rules.numbers;
+        few = restores.rules.few;
+        whole = restores.rules.whole;
+        full = full_far P kept restores.rules;
+        moments = subst Rattle.commit_ledger.specs.Checkpoint.AreInTime lists restores.rules.moments;
+        number = restores.rules.number;
+        run = moved kept.pending lists restores.rules.run;
+        numbered = above kept.pending restores.rules.run;
+      }
+    where
+      first_of : {r s : Record} {xs ys : List Record} → r ∷ xs ≡ s ∷ ys → r ≡ s
+      first_of is = cc
+
+      rest_of : {r s : Record} {xs ys : List Record} → r ∷ xs ≡ s ∷ ys → xs ≡ ys
+      rest_of is = cc
+
+      moved : (pending : Option Unconfirmed) → listed kept ≡ cs → IfSome pending (IsRunAmong (listed kept) kept) → IfSome pending (IsRunAmong cs kept)
+      moved None is run = tt
+      moved (Some r) is run = subst (λ (l : List Commit). IsRunAmong l kept r) is run
+
+      above : (pending : Option Unconfirmed) → IfSome pending (IsRunAmong (listed kept) kept) → IfSome pending (λ (r : Unconfirmed). r.target.number ≢ 0)
+      above None run = tt
+      above (Some r) run = λ none. omega (arith, none, (all_among (IsCommit P) (listed kept) r.target restores.rules.each run.among).number.0)
+
+  pub restores_of : f.commits ≡ length cs → f.commits ≤ f.count → f.count ≤ MAX_ENTRIES + 1 → (kept : Kept) → IsRestored f cs kept → Restores P (keep_record f ∷ map commit_record cs) kept
+  restores_of number counted room kept restored =
+      let form : f ≡ keep_form kept = same_form f (keep_form kept) (sym restored.count) (sym restored.target) (number ∙ ap length (sym restored.listed)) in
+      record {
+        is = ap (λ (g : KeepForm). keep_record g ∷ map commit_record cs) form ∙ ap (λ (l : List Commit). keep_record (keep_form kept) ∷ map commit_record l) (sym restored.listed);
+        rules = record {
+          each = subst (AllByRecursion (IsCommit P)) (sym restored.listed) each;
+          numbers = restored.numbers;
+          few = restored.few;
+          whole = restored.whole;
+          moments = subst Rattle.commit_ledger.specs.Checkpoint.AreInTime (sym restored.listed) restored.moments;
+          counted = omega (arith, ap length restored.listed, number, counted, restored.count);
+          number = restored.number;
+          room = omega (arith, restored.count, room);
+          run = moved kept.pending restored.run;
+        };
+        moment = restored.moment;
+      }
+    where
+      moved : (pending : Option Unconfirmed) → IfSome pending (IsRunAmong cs kept) → IfSome pending (IsRunAmong (listed kept) kept)
+      moved None run = tt
+      moved (Some r) run = subst (λ (l : List Commit). IsRunAmong l kept r) (sym restored.listed) run
+
+-- a Keep that is followed as it states
+module _ (P : Statements → Type 0) (p : Placed) (behind : List Placed) (f : KeepForm) (stated : p.payload ≡ keep_bytes f) (keep : IsKeep f behind) where
+  abbrev ps : List Placed
+  ps = take f.commits behind
+
+  pub begun : p.kind ≡ 3 → (rest : List Placed) → rest ≡ drop f.commits behind → length (take f.commits behind) ≡ f.commits → (kept : Kept) → IsReadKeep P f (take f.commits behind) kept → IsBegun P (p ∷ behind) kept rest
+  begun three rest is size kept read = record {
+    front = p ∷ ps;
+    cut = ap (λ (l : List Placed). p ∷ l) (sym (take-append-drop f.commits behind) ∙ ap (λ (l : List Placed). ps ++ l) (sym is));
+    begins = inr (subst (λ (l : List Record). Restores P l kept) (sym row)
+        (restores_of P f read.commits (each_commit P ps read.commits read.are) (sym size ∙ how_many P ps read.commits read.are) keep.numbers.counted keep.numbers.room kept read.restored));
+  }
+    where
+      first : record_of p ≡ keep_record f
+      first =
+          let path : record_of p ≡ keep_record f =
+          ap (λ (n : ℕ). record { kind = n; payload = p.payload }) three ∙ ap (λ (b : List ℕ). record { kind = 3; payload = b }) stated in
+          path
+
+      row : records_of (p ∷ ps) ≡ keep_record f ∷ map commit_record read.commits
+      row = ap (λ (r : Record). r ∷ records_of ps) first ∙ ap (λ (l : List Record). keep_record f ∷ l) (records_are P ps read.commits read.are)
+
+  pub bad_there : f.target < 2 ^ 64 → (offset : ℕ) → IsBadKeep P f p.offset (take f.commits behind) offset → IsBadCheckpoint P p behind offset
+  bad_there target offset (inl bad) = inr (f, stated, keep, inl bad)
+  bad_there target offset (inr (cs, are, place, none)) = inr (
+    f,
+    stated,
+    keep,
+    inr (
+      cs,
+      are,
+      place,
+      λ kept restores. none kept (restored_of P f cs (each_commit P ps cs are) (omega (arith, keep.numbers.room, most_entries)) target kept restores),
+    ),
+  )

@@ -1,0 +1,127 @@
+//! What is kept, as the records with which a file of the journal begins anew.
+
+ghost use Rattle.std.specs.Prelude.{◌≡◌, ◌≤◌, ◌++◌, ◌∷◌, [], map, length, IfOk, IfSome, IsNone};
+ghost use Rattle.record_code.specs.Record.{most_payload};
+ghost use Rattle.commit_ledger.specs.declared.entry.Entry.TheVariants.{Commit as CommitOf};
+ghost use Rattle.commit_ledger.specs.Checkpoint.{HaveShortTexts, checkpoint, commit_record, far_target, first_number, keep_bytes, keep_form, listed, target_number};
+ghost use Rattle.commit_ledger.specs.Form.{keep_read};
+ghost use Rattle.commit_ledger.specs.Payload.{HasShortText};
+
+use crate::entry::Commit;
+use crate::form::KeepRead;
+use crate::ledger::Ledger;
+use crate::payload::commit_payload;
+use cfg_base::{Bytes, NoMemory};
+use record_code::{Encoded, encode};
+use std::alloc::Global;
+
+/// The bytes of a checkpoint's first payload.
+const KEEP_BYTES: usize = 20;
+
+/// The kinds of a commit's record and of a checkpoint's first one.
+const COMMIT: u8 = 1;
+
+const KEEP: u8 = 3;
+
+fn keep_payload(alloc: Global, keep: &KeepRead) -> Result<Bytes, NoMemory>
+    ensures bytes { IfOk result (λ bytes. bytes ≡ keep_bytes (keep_read keep.now)) }
+    ensures size { IfOk result (λ bytes. length bytes ≤ most_payload) }
+{
+    let mut bytes = Vec::with_capacity(alloc, KEEP_BYTES)?;
+    bytes.extend_from_slice(&keep.count.to_be_bytes())?;
+    bytes.extend_from_slice(&keep.target.to_be_bytes())?;
+    bytes.extend_from_slice(&keep.commits.to_be_bytes())?;
+    Ok(Bytes::from(bytes))
+}
+
+/// Puts the record of a commit behind others.
+fn with_commit(alloc: Global, image: Encoded, commit: &Commit) -> Result<Encoded, NoMemory>
+    requires { HasShortText (CommitOf commit.now) }
+    ensures { IfOk result (λ e. e ≡ image ++ commit_record commit.now ∷ []) }
+{
+    let payload = commit_payload(alloc, commit)?;
+    image.with(COMMIT, &payload)
+}
+
+/// Puts the records of commits behind others, one after another.
+fn with_commits(alloc: Global, image: Encoded, commits: &[Commit]) -> Result<Encoded, NoMemory>
+    requires { HaveShortTexts commits.now }
+    ensures { IfOk result (λ e. e ≡ image ++ map commit_record commits.now) }
+{
+    match commits {
+        [] => Ok(image),
+        [first, rest @ ..] => match with_commit(alloc, image, first) {
+            Ok(longer) => with_commits(alloc, longer, rest),
+            Err(NoMemory) => Err(NoMemory),
+        },
+    }
+}
+
+impl Ledger {
+    fn first_number(&self) -> u64
+        ensures { result ≡ first_number self.now }
+    {
+        match self.older.as_slice() {
+            [] => self.last.number,
+            [first, ..] => first.number,
+        }
+    }
+
+    /// What an unconfirmed run goes back to, where it is older than the commits that are kept.
+    fn far_target(&self) -> Option<&Commit>
+        ensures some { IfSome result (λ target. far_target (first_number self.now) self.now.pending ≡ target.now ∷ []) }
+        ensures none { IsNone result → far_target (first_number self.now) self.now.pending ≡ [] }
+    {
+        match &self.pending {
+            Some(run) if run.target.number < self.first_number() => Some(&run.target),
+            _ => None,
+        }
+    }
+
+    fn target_number(&self) -> u64
+        ensures { result ≡ target_number self.now.pending }
+    {
+        match &self.pending {
+            Some(run) => run.target.number,
+            None => 0,
+        }
+    }
+
+    /// What the first record of a checkpoint states.
+    fn keep(&self) -> KeepRead
+        ensures { keep_read result ≡ keep_form self.now }
+    {
+        let far = match self.far_target() {
+            Some(_) => 1,
+            None => 0,
+        };
+        KeepRead {
+            count: self.count,
+            target: self.target_number(),
+            commits: far + self.older.len() as u32 + 1,
+        }
+    }
+
+    /// Puts the record of that target behind others.
+    fn with_far_target(&self, alloc: Global, image: Encoded) -> Result<Encoded, NoMemory>
+        requires { HaveShortTexts (listed self.now) }
+        ensures { IfOk result (λ e. e ≡ image ++ map commit_record (far_target (first_number self.now) self.now.pending)) }
+    {
+        match self.far_target() {
+            Some(target) => with_commit(alloc, image, target),
+            None => Ok(image),
+        }
+    }
+
+    /// What is kept as the records of a checkpoint. Each map is printed once, one after another.
+    pub fn keep_image(&self, alloc: Global) -> Result<Encoded, NoMemory>
+        requires { HaveShortTexts (listed self.now) }
+        ensures { IfOk result (λ image. image ≡ checkpoint self.now) }
+    {
+        let keep = keep_payload(alloc, &self.keep())?;
+        let image = encode(alloc, KEEP, &keep)?;
+        let image = self.with_far_target(alloc, image)?;
+        let image = with_commits(alloc, image, &self.older)?;
+        with_commit(alloc, image, &self.last)
+    }
+}
