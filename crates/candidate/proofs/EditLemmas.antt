@@ -6,7 +6,7 @@ use Rattle.cfg_tree.proofs.ValuesLemmas.{never_differ}
 use Rattle.cfg_base.specs.declared.path.Step.{Step}
 use Rattle.commands.specs.declared.command.Op.{Op}
 use Rattle.cfg_tree.specs.Statements.{Statements}
-use Rattle.cfg_tree.specs.Resolve.{IsLevelPath}
+use Rattle.cfg_tree.specs.Typed.{IsLevelPath}
 use Rattle.edit_ops.proofs.UniqueLemmas.{one_map}
 use Rattle.candidate.specs.Edits.{Edit, CandidateView, AreEditsOf, IsEdited, IsCandidateChange, fresh, after_edit, after_edits}
 

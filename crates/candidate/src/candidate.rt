@@ -1,5 +1,5 @@
 ghost use Rattle.std.specs.Prelude.{◌≡◌, ◌||◌, false, OnOk, OnErr, IfOk, IfErr};
-ghost use Rattle.cfg_tree.specs.Resolve.{IsLevelPath};
+ghost use Rattle.cfg_tree.specs.Typed.{IsLevelPath};
 ghost use Rattle.edit_ops.specs.Answer.{IsEditFault};
 ghost use Rattle.candidate.specs.Edits.{fresh, IsEdited, IsCandidateChange};
 

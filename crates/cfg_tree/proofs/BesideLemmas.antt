@@ -19,8 +19,7 @@ use Rattle.cfg_tree.specs.Moving.{IsNewName}
 use Rattle.cfg_tree.proofs.MapLemmas.{same_step}
 use Rattle.cfg_tree.proofs.PathLemmas.{split, same_ends, child_longer}
 use Rattle.cfg_tree.proofs.TypedLemmas.{place_snoc}
-use Rattle.cfg_tree.proofs.FollowLemmas.{typed_place, typed_front, typed_last}
-use Rattle.cfg_tree.proofs.OwnLemmas.{follows_behind}
+use Rattle.cfg_tree.proofs.FollowLemmas.{follows_behind, typed_place, typed_front, typed_last}
 use Rattle.cfg_tree.proofs.ReadyLemmas.{no_child}
 
 -- what begins with a path as long begins with that path

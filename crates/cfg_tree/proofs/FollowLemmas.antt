@@ -1,6 +1,7 @@
 -- What a typed path tells of its place, of its last step, and of the levels above it.
 use Rattle.std.proofs.Common.{◌≡◌, ℕ, zero, suc, ◌<◌, Bool, true, false, not, ◌||◌, List, [], ◌∷◌, ◌++◌, length, take, refl, sym, ap, subst, ◌∙◌, Some, arith, if◌then◌else◌}
 use Rattle.std.specs.List.{list_all}
+use Rattle.cfg_base.specs.declared.path.TheConstants.{MAX_STEPS}
 use Rattle.cfg_base.specs.declared.path.Step.{Step}
 use Rattle.cfg_base.specs.declared.kind.Shape.{Shape}
 use Rattle.cfg_base.specs.declared.kind.Shape.TheVariants.{Container, Fixed, Keyed, Bare, Leaf, Flag, Many}
@@ -16,10 +17,9 @@ use Rattle.cfg_schema.specs.Facts.{has_beginning}
 use Rattle.cfg_schema.specs.Place.{top_place, place_after, and_then, place_from, place_of}
 use Rattle.cfg_schema.proofs.TestLemmas.{both_true, bare, same_is}
 use Rattle.cfg_schema.proofs.RowFacts.{number_at}
-use Rattle.cfg_schema.proofs.LevelLemmas.{led_to, all_at, head_is}
+use Rattle.cfg_schema.proofs.LevelLemmas.{led_to, all_at, head_is, path_most}
 use Rattle.cfg_tree.specs.Statements.{parent_of, last_of}
-use Rattle.cfg_tree.specs.Typed.{IsNamed, FollowsFrom, IsTypedPath, AreCounted}
-use Rattle.cfg_tree.specs.Resolve.{IsLevelPath}
+use Rattle.cfg_tree.specs.Typed.{IsNamed, FollowsFrom, IsTypedPath, AreCounted, IsLevelPath}
 use Rattle.cfg_tree.proofs.PathLemmas.{split}
 
 some_same : {A : Type 0} (x y : A) → Some x ≡ Some y → x ≡ y
@@ -74,6 +74,12 @@ follows_front (step ∷ rest) (suc n) start f = (f.0, f.1, f.2, follows_front re
 
 pub typed_front : (path : List Step) (n : ℕ) → IsTypedPath path → IsTypedPath (take n path)
 typed_front path n f = follows_front path n top_place f
+
+-- the steps behind a level follow rows from where the level leads
+pub follows_behind : (level rest : List Step) (start here : Place) → FollowsFrom (level ++ rest) start → place_from level start ≡ Some here → FollowsFrom rest here
+follows_behind [] rest start here f e = subst (λ (p : Place). FollowsFrom rest p) (some_same start here e) f
+follows_behind (s ∷ level) rest start here f e =
+    follows_behind level rest f.0 here f.3 (ap (and_then (place_from level)) (sym f.1) ∙ e)
 
 -- where its last step leads
 follows_end : (above : List Step) (step : Step) (start here : Place) → FollowsFrom (above ++ step ∷ []) start → place_from above start ≡ Some here
@@ -151,6 +157,10 @@ parent_is_level path long typed = record {
       let led = typed_last path long typed here e
       in below_is_level here led.0.row (row_within (parent_of path) here (typed_front path _ typed) e) (led_to here led.0 (last_of path) led.1).stood;
 }
+
+-- there is room for one step more below a path that follows rows
+pub room_below : (path : List Step) (here : Place) → place_of path ≡ Some here → length path < MAX_STEPS
+room_below path here e = let most = (path_most path here e).2 in omega (arith, most)
 
 -- a level has no words
 pub level_counted : (shape : Shape) → is_level shape ≡ true → AreCounted shape []

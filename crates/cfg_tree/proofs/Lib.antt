@@ -12,15 +12,11 @@ pub mod ClearLemmas
 pub mod TypedLemmas
 pub mod RoomLemmas
 pub mod ChildrenLemmas
-pub mod SpelledLemmas
-pub mod ReadsLemmas
 pub mod TopLemmas
 pub mod AfterLemmas
 pub mod FollowLemmas
 pub mod NameLemmas
 pub mod ReadyLemmas
-pub mod TargetLemmas
-pub mod UniqueLemmas
 pub mod OnceLemmas
 pub mod PutAnswerLemmas
 pub mod OtherLemmas
@@ -31,6 +27,7 @@ pub mod PartLemmas
 pub mod MovedLemmas
 pub mod MovesLemmas
 pub mod RenamedLemmas
+pub mod RelaidLemmas
 mod CanonicalLemmas
 mod LevelLemmas
 mod GatherLemmas

@@ -1,5 +1,5 @@
 -- What a copy and a change of a name leave: what look-ups tell, as the code makes them.
-use Rattle.std.proofs.Common.{◌≡◌, ℕ, ◌-◌, ◌<◌, Bool, true, cond, List, length, get_or, sym, ap, ◌∙◌, Option, Some, None, if◌then◌else◌}
+use Rattle.std.proofs.Common.{◌≡◌, ℕ, ◌-◌, ◌<◌, Bool, true, false, cond, List, length, get_or, sym, ap, ◌∙◌, Option, Some, None, if◌then◌else◌}
 use Rattle.std.specs.FinMap as map
 use Rattle.std.specs.Map.{keys_of}
 use Rattle.cfg_base.specs.Order.{path_cmp}
@@ -12,6 +12,7 @@ use Rattle.cfg_tree.specs.Statements.{Statements, parent_of, last_of, is_below}
 use Rattle.cfg_tree.specs.Shown.{shown, without_all}
 use Rattle.cfg_tree.specs.Change.{with_order, with_order_of, is_ordered, cleared}
 use Rattle.cfg_tree.specs.Renaming.{IsListedAs, reordered_by}
+use Rattle.cfg_tree.specs.Relaid.{left_by}
 use Rattle.cfg_tree.specs.Moving.{part_of, placed, with_part, in_place, relisted, copied, renamed}
 use Rattle.cfg_tree.proofs.BelowLemmas.{keys_filter}
 use Rattle.cfg_tree.proofs.ClearLemmas.{all_taken}
@@ -54,15 +55,19 @@ copy_made m from to part r long is_part listing =
     ∙ ap (λ (b : Bool). cond b (or_else (map.get m (placed to from (parent_of to))) (map.get m (parent_of to))) (map.get m (parent_of to))) (parent_out to long))
 
 -- what was taken away before a part is put under its new name
-pub part_taken : (m : EntryMap (List Step) Value) (path : List Step) (part : List (Pair Value)) → IsOrdered path_cmp m → part ≡ part_of (shown m) path
+part_taken : (m : EntryMap (List Step) Value) (path : List Step) (part : List (Pair Value)) → IsOrdered path_cmp m → part ≡ part_of (shown m) path
     → without_all (shown m) (keys_of part) ≡ cleared (shown m) path
 part_taken m path part sorted is_part =
     all_taken m path (keys_of part) sorted
     (ap (λ (es : List (Pair Value)). keys_of es) (is_part ∙ sym (part_is m path sorted)) ∙ keys_filter (is_below path) m.entries)
 
+-- what is left before a part is put elsewhere
+pub part_left : (stays : Bool) (m : EntryMap (List Step) Value) (path : List Step) (part : List (Pair Value)) (left : Statements) → IsOrdered path_cmp m
+    → part ≡ part_of (shown m) path → left ≡ (if stays then shown m else without_all (shown m) (keys_of part)) → left ≡ left_by stays (shown m) path
+part_left true m path part left sorted is_part is_left = is_left
+part_left false m path part left sorted is_part is_left = is_left ∙ part_taken m path part sorted is_part
+
 -- a change of a name as the code makes it
-pub rename_made : (m : EntryMap (List Step) Value) (from to : List Step) (part : List (Pair Value)) (left : Statements) → IsOrdered path_cmp m
-    → part ≡ part_of (shown m) from → left ≡ without_all (shown m) (keys_of part) → relisted (with_part from to left part) from to ≡ renamed (shown m) from to
-rename_made m from to part left sorted is_part is_left =
-    ap (λ (x : Statements). relisted (with_part from to x part) from to) (is_left ∙ part_taken m from part sorted is_part)
-    ∙ ap (λ (es : List (Pair Value)). relisted (with_part from to (cleared (shown m) from) es) from to) is_part
+pub rename_made : (m : Statements) (from to : List Step) (part : List (Pair Value)) → part ≡ part_of m from
+    → relisted (with_part from to (cleared m from) part) from to ≡ renamed m from to
+rename_made m from to part is_part = ap (λ (es : List (Pair Value)). relisted (with_part from to (cleared m from) es) from to) is_part

@@ -43,7 +43,7 @@ placed_back from to k h =
     ∙ sym r.1
 
 -- which path is put at a place
-placed_is : (from to q k : List Step) → is_below from k ≡ true
+pub placed_is : (from to q k : List Step) → is_below from k ≡ true
     → eq_by_cmp path_cmp q (placed from to k) ≡ (is_below to q && eq_by_cmp path_cmp (placed to from q) k)
 placed_is from to q k h =
     same_test _ _
@@ -117,7 +117,7 @@ part_sorted : (m : Statements) (from : List Step) → T (is_sorted path_cmp (par
 part_sorted m from = is_sorted-where_key path_cmp (is_below from) (map.entries m) (map.entries_sorted m)
 
 -- what is found in a part is what is there
-find_part : (m : Statements) (from k : List Step) → is_below from k ≡ true → find path_cmp k (part_of m from) ≡ map.get m k
+pub find_part : (m : Statements) (from k : List Step) → is_below from k ≡ true → find path_cmp k (part_of m from) ≡ map.get m k
 find_part m from k h =
     find-where_key path_cmp (is_below from) k (λ x tie. ap (is_below from) (sym (path_same k x tie))) (map.entries m)
     ∙ ap (λ (b : Bool). cond b (find path_cmp k (map.entries m)) None) h

@@ -8,11 +8,10 @@ use Rattle.cfg_schema.specs.declared.place.Place.{Place}
 use Rattle.cfg_schema.specs.Profile.{row_of, same_word}
 use Rattle.cfg_schema.specs.Place.{place_of}
 use Rattle.cfg_tree.specs.Statements.{Statements, parent_of, HasParent}
-use Rattle.cfg_tree.specs.Typed.{IsTypedPath, AreCounted}
+use Rattle.cfg_tree.specs.Typed.{IsTypedPath, AreCounted, IsLevelPath}
 use Rattle.cfg_tree.specs.Tree.{ordered_head, step_of, IsOrderBy, IsOrderOf, IsStatementMap, IsTree}
 use Rattle.cfg_tree.specs.Change.{IsReady}
 use Rattle.cfg_tree.specs.Children.{order_in}
-use Rattle.cfg_tree.specs.Resolve.{IsLevelPath}
 use Rattle.cfg_tree.proofs.PathLemmas.{child_longer, same_ends, split}
 use Rattle.cfg_tree.proofs.FollowLemmas.{bare_name, level_counted}
 

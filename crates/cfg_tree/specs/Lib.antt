@@ -10,9 +10,9 @@ pub mod Union
 pub mod Values
 pub mod Children
 pub mod After
-pub mod Resolve
 pub mod OwnWords
 pub mod Renaming
+pub mod Relaid
 pub mod Stated
 pub mod Naming
 pub mod Full

@@ -8,9 +8,9 @@ use Rattle.cfg_base.specs.declared.kind.Shape.{Shape}
 use Rattle.cfg_base.specs.declared.kind.Shape.TheVariants.{Keyed, Bare, Leaf, Many}
 use Rattle.cfg_schema.specs.declared.place.Place.{Place}
 use Rattle.cfg_schema.specs.declared.rows.Row.{Row}
-use Rattle.cfg_schema.specs.Profile.{row_of, same_word}
+use Rattle.cfg_schema.specs.Profile.{row_of, is_level, same_word}
 use Rattle.cfg_schema.specs.Child.{IsNoHead}
-use Rattle.cfg_schema.specs.Place.{top_place, place_after}
+use Rattle.cfg_schema.specs.Place.{top_place, place_after, place_of}
 use Rattle.cfg_values.specs.Spelling.{IsCanonical, IsCanonicalOf}
 use Rattle.cfg_values.specs.Pattern.{IsPattern}
 
@@ -56,11 +56,22 @@ FollowsFrom (step ∷ rest) here =
 abbrev pub IsTypedPath : List Step → Type 0
 IsTypedPath path = FollowsFrom path top_place
 
+-- the top, or a level that a typed map may have
+pub record IsLevelPath (level : List Step) : Type 0 where
+  pub typed : IsTypedPath level
+  pub opens : (here : Place) → place_of level ≡ Some here → is_level (row_of here.row).shape ≡ true
+
 -- as many and as different words as a statement of the shape has
 abbrev pub AreCounted : Shape → List (List ℕ) → Type 0
 AreCounted Leaf words = length words ≡ 1
 AreCounted Many words = (0 < length words) × IsDistinct same_word words
 AreCounted _ words = words ≡ []
+
+-- each of the first words spells a value of the kind, and the words are the canonical spellings of these, in order
+abbrev pub AllSpelled : Kind → List (List ℕ) → List (List ℕ) → Type 0
+AllSpelled kind [] [] = Unit {0}
+AllSpelled kind (bytes ∷ more) (word ∷ words) = IsCanonicalOf kind bytes word × AllSpelled kind more words
+AllSpelled kind _ _ = ⊥
 
 -- each word is the canonical spelling of a value of the kind
 abbrev pub AreCanonical : Kind → List (List ℕ) → Type 0

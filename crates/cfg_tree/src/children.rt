@@ -9,7 +9,6 @@ ghost use Rattle.cfg_tree.specs.Tree.{step_of};
 ghost use Rattle.cfg_tree.specs.Children.{order_in, row_steps, children_of};
 
 use crate::below::steps_below;
-use crate::reading::copied;
 use crate::store::Entries;
 use cfg_base::{NoMemory, Path, Step, Word, WordList};
 use cfg_schema::{Place, RowId, RowWords, head, row, rows_below};
@@ -21,6 +20,16 @@ fn order_at(alloc: Global, entries: &Entries, path: &Path) -> Result<WordList, N
     match entries.get(path) {
         Some(value) => Ok(value.order.clone()?),
         None => Ok(WordList::new(alloc)),
+    }
+}
+
+// The word of bytes that are part of a word.
+fn copied(alloc: Global, bytes: &[u8]) -> Result<Word, NoMemory>
+    ensures { IfOk result (λ word. word ≡ bytes.now) }
+{
+    match Word::of(alloc, bytes) {
+        Ok(word) => Ok(word),
+        Err(_) => Err(NoMemory),
     }
 }
 

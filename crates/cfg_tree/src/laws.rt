@@ -1,15 +1,10 @@
-//! Words and puts have one answer each, a statement's own words name it, a walk gathers its tree, statements in
-//! turn make one, and what a copy and a change of a name leave.
+//! Puts have one answer each, a walk gathers its tree, statements in turn make one, and what a copy and a change of a
+//! name leave.
 
-ghost use Rattle.std.specs.Prelude.{◌≡◌, ◌≢◌, ◌<◌, ◌≤◌, ◌++◌, ℕ, Bool, true, false, List, [], Ok, Err, Result, Some};
+ghost use Rattle.std.specs.Prelude.{◌≡◌, ◌≢◌, ◌<◌, ◌≤◌, ℕ, Bool, true, false, List};
 ghost use Rattle.std.specs.FinMap as map;
 ghost use Rattle.cfg_base.specs.declared.path.Step.{Step};
-ghost use Rattle.cfg_tree.specs.declared.target.Target.{Target};
-ghost use Rattle.cfg_tree.specs.declared.target.WordsFault.{WordsFault};
-ghost use Rattle.cfg_tree.specs.declared.target.WordsFault.TheVariants.{NoMemory};
 ghost use Rattle.cfg_tree.specs.declared.limit.TheConstants.{MAX_STATEMENTS};
-ghost use Rattle.cfg_tree.specs.Resolve.{IsLevelPath, IsTargetBelow, ResolvesTo, target};
-ghost use Rattle.cfg_tree.specs.OwnWords.{own_words};
 ghost use Rattle.cfg_tree.specs.Tree.{IsTree};
 ghost use Rattle.cfg_base.specs.declared.value.Value.{Value};
 ghost use Rattle.cfg_tree.specs.declared.fault.TreeFault.{TreeFault};
@@ -25,21 +20,6 @@ ghost use Rattle.cfg_entries.specs.EntryMap.{Pair};
 /// The limit that the clauses of this crate cite, by its number.
 pub fn limits_are_stated()
     ensures { MAX_STATEMENTS ≡ 16384 }
-{}
-
-/// Words have one answer at a level, but for want of memory: one target or one refusal.
-pub fn words_have_one_answer()
-    ensures { (level : List Step) (words : List (List ℕ)) (one other : Result Target WordsFault) → IsLevelPath level
-        → ResolvesTo level words one → ResolvesTo level words other → one ≢ Err NoMemory → other ≢ Err NoMemory → one ≡ other }
-{}
-
-/// The own words of a statement that a typed map may have, and then the words of its value, name it below the top and
-/// below each level above it. So each statement of a configuration is named by its own words.
-pub fn own_words_name_their_statement()
-    ensures below { (level rest : List Step) (words : List (List ℕ)) → IsTargetBelow level (target (level ++ rest) words)
-        → ResolvesTo level (own_words rest ++ words) (Ok (target (level ++ rest) words)) }
-    ensures kept { (m : Statements) (path : List Step) (value : Value) → IsTree m → map.get m path ≡ Some value
-        → ResolvesTo [] (own_words path ++ value.words) (Ok (target path value.words)) }
 {}
 
 /// A put has one answer, but for want of memory: one map or one refusal.

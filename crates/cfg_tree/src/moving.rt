@@ -1,17 +1,21 @@
 //! A statement, with all below it, under another name of its row.
 
-ghost use Rattle.std.specs.Prelude.{◌≡◌, ◌<◌, ◌++◌, length, drop, OnOk, OnErr, IfOk, IfErr, if◌then◌else◌};
+ghost use Rattle.std.specs.Prelude.{◌≡◌, ◌<◌, List, ◌++◌, length, None, OnOk, OnErr, IfOk, IfErr, if◌then◌else◌};
+ghost use Rattle.std.specs.FinMap as finite;
 ghost use Rattle.std.specs.Map.{keys_of};
 ghost use Rattle.cfg_base.specs.Order.{path_cmp};
+ghost use Rattle.cfg_base.specs.declared.path.Step as steps;
 ghost use Rattle.cfg_entries.specs.EntryMap.{IsOrdered};
 ghost use Rattle.cfg_schema.specs.Profile.{same_word};
 ghost use Rattle.cfg_tree.specs.Tree.{IsTree};
 ghost use Rattle.cfg_tree.specs.Shown.{shown, without_all};
+ghost use Rattle.cfg_tree.specs.Relaid.{left_by};
 ghost use Rattle.cfg_tree.specs.Moving.{part_of, with_part, in_place, relisted, copied, renamed, IsNewName, IsCopyFault};
 ghost use Rattle.cfg_tree.specs.declared.moving.CopyFault.TheVariants.{NoMemory};
 
 use crate::limit::MAX_STATEMENTS;
-use crate::reorder::{carry_out, is_ordered, listing_of, pushed};
+use crate::relaid::{placed, relaid};
+use crate::reorder::{carry_out, is_ordered, listing_of};
 use crate::store::{Entries, is_below, put_entry, set_order, take_entry};
 use cfg_base::{NoMemory, Path, Value, Word, WordList};
 use std::alloc::Global;
@@ -50,19 +54,6 @@ fn part_of(alloc: Global, entries: &Entries, path: &Path) -> Result<Vec<(Path, V
     Ok(part)
 }
 
-/// A path, and the steps of another one behind its first ones.
-fn placed(to: &Path, count: usize, path: &Path) -> Result<Path, NoMemory>
-    requires { length to.now ≡ count }
-    ensures { IfOk result (λ place. place ≡ to.now ++ drop count path.now) }
-{
-    let steps = path.steps();
-    let mut place = to.clone()?;
-    for k in count..steps.len() {
-        place = pushed(&place, &steps[k])?;
-    }
-    Ok(place)
-}
-
 /// Takes each of these statements away.
 fn take_part(entries: &mut Entries, part: &[(Path, Value)]) -> Result<(), NoMemory>
     ensures { OnOk result (shown entries.new ≡ without_all (shown entries.old) (keys_of part.now)) }
@@ -89,6 +80,59 @@ fn put_part(
         put_entry(entries, place, value)?;
     }
     Ok(())
+}
+
+/// The statements without those of a part, or all of them where they stay.
+fn left_by(entries: &Entries, part: &[(Path, Value)], stays: bool) -> Result<Entries, NoMemory>
+    ensures { IfOk result (λ left. shown left ≡ (if stays then shown entries.now else without_all (shown entries.now) (keys_of part.now))) }
+{
+    let mut left = entries.clone()?;
+    if stays {
+        return Ok(left);
+    }
+    take_part(&mut left, part)?;
+    Ok(left)
+}
+
+/// The statements with a part under another path, each put there by itself.
+fn with_each(
+    entries: &Entries,
+    part: Vec<(Path, Value)>,
+    from: &Path,
+    to: &Path,
+    stays: bool,
+) -> Result<Entries, NoMemory>
+    requires lengths { length to.now ≡ length from.now }
+    requires part { part.items ≡ part_of (shown entries.now) from.now }
+    requires ordered { IsOrdered path_cmp entries.now }
+    ensures { IfOk result (λ made. shown made ≡ with_part from.now to.now (left_by stays (shown entries.now) from.now) part.items) }
+{
+    let mut made = left_by(entries, &part, stays)?;
+    put_part(&mut made, part, from, to)?;
+    Ok(made)
+}
+
+/// The statements with a part under another path.
+fn with_part(
+    alloc: Global,
+    entries: &Entries,
+    part: Vec<(Path, Value)>,
+    from: &Path,
+    to: &Path,
+    stays: bool,
+) -> Result<Entries, NoMemory>
+    requires lengths { length to.now ≡ length from.now }
+    requires part { part.items ≡ part_of (shown entries.now) from.now }
+    requires ordered { IsOrdered path_cmp entries.now }
+    requires free { (rest : List steps.Step) → finite.get (shown entries.now) (to.now ++ rest) ≡ None }
+    ensures { IfOk result (λ made. shown made ≡ with_part from.now to.now (left_by stays (shown entries.now) from.now) part.items) }
+{
+    // A walk past eight statements costs less than the block and the page that are made anew for one that is put.
+    if part.len() < entries.len() / 8 {
+        with_each(entries, part, from, to, stays)
+    } else {
+        relaid(alloc, entries, part, from, to, stays)
+    }
 }
 
 /// A name, or the new one where it is the old one.
@@ -147,12 +191,13 @@ fn copy_part(
     requires steps { 0 < length to.now }
     requires lengths { length to.now ≡ length from.now }
     requires part { part.items ≡ part_of (shown entries.old) from.now }
+    requires ordered { IsOrdered path_cmp entries.old }
+    requires free { (rest : List steps.Step) → finite.get (shown entries.old) (to.now ++ rest) ≡ None }
     ensures ok { OnOk result (shown entries.new ≡ copied (shown entries.old) from.now to.now) }
     ensures unchanged { OnErr result (entries.new ≡ entries.old) }
 {
     let reorder = listing_of(alloc, entries, to, true)?;
-    let mut next = entries.clone()?;
-    put_part(&mut next, part, from, to)?;
+    let mut next = with_part(alloc, entries, part, from, to, true)?;
     carry_out(&mut next, reorder)?;
     *entries = next;
     Ok(())
@@ -169,12 +214,11 @@ fn rename_part(
     requires lengths { length to.now ≡ length from.now }
     requires part { part.items ≡ part_of (shown entries.old) from.now }
     requires ordered { IsOrdered path_cmp entries.old }
+    requires free { (rest : List steps.Step) → finite.get (shown entries.old) (to.now ++ rest) ≡ None }
     ensures ok { OnOk result (shown entries.new ≡ renamed (shown entries.old) from.now to.now) }
     ensures unchanged { OnErr result (entries.new ≡ entries.old) }
 {
-    let mut next = entries.clone()?;
-    take_part(&mut next, &part)?;
-    put_part(&mut next, part, from, to)?;
+    let mut next = with_part(alloc, entries, part, from, to, false)?;
     relist(alloc, &mut next, from, to)?;
     *entries = next;
     Ok(())

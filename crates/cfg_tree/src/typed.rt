@@ -22,7 +22,8 @@ fn is_canonical(alloc: Global, kind: Kind, bytes: &[u8]) -> Result<bool, NoMemor
     }
 }
 
-pub fn is_open(kind: Kind) -> bool
+/// Whether a wildcard name may stand in a group for a name of the kind.
+pub fn is_open_kind(kind: Kind) -> bool
     ensures { Decides result (IsOpenKind kind) }
 {
     !matches!(kind, Kind::OneOf(_))
@@ -31,7 +32,7 @@ pub fn is_open(kind: Kind) -> bool
 fn is_name(alloc: Global, in_group: bool, kind: Kind, bytes: &[u8]) -> Result<bool, NoMemory>
     ensures { IfOk result (λ answer. Decides answer (IsName in_group kind bytes.now)) }
 {
-    if in_group && is_open(kind) && is_pattern(bytes) {
+    if in_group && is_open_kind(kind) && is_pattern(bytes) {
         return Ok(true);
     }
     is_canonical(alloc, kind, bytes)

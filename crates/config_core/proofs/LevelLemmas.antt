@@ -5,8 +5,7 @@ use Rattle.std.proofs.lemmas.List.Elements.{All-nil}
 use Rattle.std.specs.List.{All}
 use Rattle.cfg_base.specs.declared.path.Step.{Step}
 use Rattle.cfg_schema.specs.Place.{top_place}
-use Rattle.cfg_tree.specs.Resolve.{IsLevelPath}
-use Rattle.cfg_tree.specs.Typed.{IsTypedPath}
+use Rattle.cfg_tree.specs.Typed.{IsTypedPath, IsLevelPath}
 use Rattle.cfg_tree.proofs.FollowLemmas.{parent_is_level, typed_front, typed_place}
 use Rattle.cfg_tree.proofs.TopLemmas.{top_is_level}
 use Rattle.config_core.specs.Levels.{AreLevels, is_level_at, is_level_place}

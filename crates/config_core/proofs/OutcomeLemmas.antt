@@ -8,12 +8,13 @@ use Rattle.commands.specs.declared.command.Form.TheVariants.{Curly, SetLines, In
 use Rattle.commands.specs.declared.command.LoadWay.{LoadWay}
 use Rattle.commands.specs.declared.command.Op.{Op}
 use Rattle.cfg_base.specs.declared.path.Step.{Step}
-use Rattle.cfg_tree.specs.declared.target.Target.{Target}
-use Rattle.cfg_tree.specs.declared.target.WordsFault.{WordsFault}
-use Rattle.cfg_tree.specs.declared.target.WordsFault.TheVariants as words
+use Rattle.cfg_resolve.specs.declared.target.Target.{Target}
+use Rattle.cfg_resolve.specs.declared.target.WordsFault.{WordsFault}
+use Rattle.cfg_resolve.specs.declared.target.WordsFault.TheVariants as words
 use Rattle.cfg_tree.specs.Full.{Expansion}
 use Rattle.cfg_tree.specs.Statements.{Statements}
-use Rattle.cfg_tree.specs.Resolve.{ResolvesTo, IsLevelPath}
+use Rattle.cfg_tree.specs.Typed.{IsLevelPath}
+use Rattle.cfg_resolve.specs.Resolve.{ResolvesTo}
 use Rattle.cfg_tree.proofs.TopLemmas.{top_is_level}
 use Rattle.edit_ops.specs.declared.fault.EditFault.{EditFault}
 use Rattle.edit_ops.specs.declared.fault.EditFault.TheVariants as edit

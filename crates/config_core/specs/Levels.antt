@@ -4,7 +4,7 @@ use Rattle.cfg_base.specs.declared.path.Step.{Step}
 use Rattle.cfg_schema.specs.declared.place.Place.{Place}
 use Rattle.cfg_schema.specs.Profile.{row_of, is_level}
 use Rattle.cfg_schema.specs.Place.{place_of}
-use Rattle.cfg_tree.specs.Resolve.{IsLevelPath}
+use Rattle.cfg_tree.specs.Typed.{IsLevelPath}
 
 -- where a session stands: its level, and the levels that `exit` goes back to, the last one first
 pub record Position : Type 0 where

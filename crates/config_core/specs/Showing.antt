@@ -8,11 +8,11 @@ use Rattle.commands.specs.declared.command.Form.{Form}
 use Rattle.commands.specs.declared.command.Form.TheVariants.{Curly, SetLines, Inherited}
 use Rattle.cfg_base.specs.declared.path.Step.{Step}
 use Rattle.cfg_tree.specs.declared.limit.TheConstants.{MAX_EXPANDED}
-use Rattle.cfg_tree.specs.declared.target.Target.{Target}
-use Rattle.cfg_tree.specs.declared.target.WordsFault.{WordsFault}
+use Rattle.cfg_resolve.specs.declared.target.Target.{Target}
+use Rattle.cfg_resolve.specs.declared.target.WordsFault.{WordsFault}
 use Rattle.cfg_tree.specs.Full.{Expansion}
 use Rattle.cfg_tree.specs.Statements.{Statements}
-use Rattle.cfg_tree.specs.Resolve.{ResolvesTo}
+use Rattle.cfg_resolve.specs.Resolve.{ResolvesTo}
 use Rattle.curly_print.specs.Printed.{printed}
 use Rattle.curly_print.specs.Inherited.{printed_full}
 use Rattle.set_text.specs.Printed.{printed_set}

@@ -3,8 +3,7 @@
 
 ghost use Rattle.std.specs.Prelude.{◌≡◌, ◌<◌, ◌↔◌, ℕ, true, List, IfSome};
 ghost use Rattle.cfg_base.specs.declared.path.Step.{Step};
-ghost use Rattle.cfg_tree.specs.Resolve.{IsLevelPath};
-ghost use Rattle.cfg_tree.specs.Typed.{IsTypedPath};
+ghost use Rattle.cfg_tree.specs.Typed.{IsTypedPath, IsLevelPath};
 ghost use Rattle.commands.specs.declared.command.Command.{Command};
 ghost use Rattle.commit_ledger.specs.Kept.{Kept, factory};
 ghost use Rattle.config_core.specs.declared.event.Event.{Event};
@@ -18,7 +17,7 @@ ghost use Rattle.config_core.specs.Machine.{Fits, IsNotAskedBy, Steps};
 ghost use Rattle.config_core.specs.Soundness.{IsSoundKept, IsSoundMade, IsSoundState, OwnByMode};
 
 use candidate::edits_have_one_answer;
-use cfg_tree::words_have_one_answer;
+use cfg_resolve::words_have_one_answer;
 use commit_check::{checks_have_one_answer, nothing_is_accepted};
 use commit_ledger::listings_are_one_text;
 use edit_ops::changes_have_one_answer;

@@ -3,11 +3,11 @@
 //! Guarantees: `prepare` then `accept` is exactly one step of the machine (specs/Machine.antt);
 //! `prepare` changes nothing and takes all memory, `accept` can't fail and takes none. The active configuration is accepted
 //! at the beginning and after every step (src/laws.rt).
-//! Leaves to others: which statement words name (`cfg_tree`), what a change makes of the statements (`edit_ops`) and of a
-//! candidate (`candidate`), what a private candidate makes of the active configuration (`private_merge`), what groups bring
-//! (`group_expand`), which configurations are accepted (`commit_check`), how statements are printed (`curly_print`,
-//! `set_text`), where events come from and what is kept of them (`session_history`, `service`), and how a reply is written
-//! (`reply_text`).
+//! Leaves to others: which statement words name (`cfg_resolve`), what a change makes of the statements (`edit_ops`) and
+//! of a candidate (`candidate`), what a private candidate makes of the active configuration (`private_merge`), what
+//! groups bring (`group_expand`), which configurations are accepted (`commit_check`), how statements are printed
+//! (`curly_print`, `set_text`), where events come from and what is kept of them (`session_history`, `service`), and how
+//! a reply is written (`reply_text`).
 #![tactic(auto)]
 
 mod access;

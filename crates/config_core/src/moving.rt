@@ -2,7 +2,7 @@
 
 ghost use Rattle.std.specs.Prelude.{◌≡◌, ℕ, List, Err, IfOk};
 ghost use Rattle.cfg_base.specs.declared.path.Step.{Step};
-ghost use Rattle.cfg_tree.specs.Resolve.{ResolvesTo};
+ghost use Rattle.cfg_resolve.specs.Resolve.{ResolvesTo};
 ghost use Rattle.cfg_tree.specs.Typed.{IsTypedPath};
 ghost use Rattle.commands.specs.declared.command.Command.{Command};
 ghost use Rattle.config_core.specs.declared.reply.Reply.TheVariants.{Left};
@@ -19,7 +19,7 @@ use crate::refusing::{is_level_at, refusal_of};
 use crate::reply::{Refusal, Reply};
 use candidate::Candidate;
 use cfg_base::{Moment, NoMemory, Path, Words};
-use cfg_tree::{WordsFault, resolve};
+use cfg_resolve::{WordsFault, resolve};
 use commands::Mode;
 use edit_ops::EditFault;
 

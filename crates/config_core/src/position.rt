@@ -1,7 +1,7 @@
 //! Moves through levels.
 
 ghost use Rattle.std.specs.Prelude.{◌≡◌, IfOk};
-ghost use Rattle.cfg_tree.specs.Resolve.{IsLevelPath};
+ghost use Rattle.cfg_tree.specs.Typed.{IsLevelPath};
 ghost use Rattle.config_core.specs.Levels.{at_top, moved_to, moved_up, moved_back};
 
 use cfg_base::{NoMemory, Path};

@@ -4,7 +4,7 @@ ghost use Rattle.std.specs.Prelude.{◌≡◌, ◌≤◌, ℕ, List, [], IfOk};
 ghost use Rattle.std.specs.FinMap as map;
 ghost use Rattle.commands.specs.declared.command.Form.{Form};
 ghost use Rattle.cfg_tree.specs.declared.limit.TheConstants.{MAX_EXPANDED};
-ghost use Rattle.cfg_tree.specs.Resolve.{IsLevelPath};
+ghost use Rattle.cfg_tree.specs.Typed.{IsLevelPath};
 ghost use Rattle.group_expand.specs.Expansion.{IsExpansion};
 ghost use Rattle.config_core.specs.Showing.{ShowAsksFor, IsShow, IsShowActive, ShowsBelow, ShowsExpansion, path_alone};
 
@@ -12,7 +12,8 @@ use crate::position::Position;
 use crate::refusing::refusal_of;
 use crate::reply::{Refusal, Reply};
 use cfg_base::{NoMemory, Path, Words};
-use cfg_tree::{Full, Target, Tree, resolve};
+use cfg_resolve::{Target, resolve};
+use cfg_tree::{Full, Tree};
 use commands::{Command, Form};
 use curly_print::{print, print_inherited};
 use edit_ops::EditFault;

@@ -1,7 +1,7 @@
 //! Shows of configurations and of the list of commits, as steps.
 
 ghost use Rattle.std.specs.Prelude.{◌≡◌, IfOk};
-ghost use Rattle.cfg_tree.specs.Resolve.{IsLevelPath};
+ghost use Rattle.cfg_tree.specs.Typed.{IsLevelPath};
 ghost use Rattle.commands.specs.declared.command.Command.{Command};
 ghost use Rattle.config_core.specs.Callers.{IsCaller};
 ghost use Rattle.config_core.specs.Serving.{Does, Shows};

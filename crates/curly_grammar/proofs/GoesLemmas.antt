@@ -17,7 +17,7 @@ use Rattle.cfg_schema.specs.Profile.{row_of}
 use Rattle.cfg_values.specs.Spelling.{IsCanonicalOf}
 use Rattle.cfg_tree.specs.Gather.{is_many}
 use Rattle.cfg_tree.specs.Tree.{step_of}
-use Rattle.cfg_tree.specs.Resolve.{AllSpelled}
+use Rattle.cfg_tree.specs.Typed.{AllSpelled}
 use Rattle.curly_grammar.specs.declared.phase.Marks.{Marks}
 use Rattle.curly_grammar.specs.declared.phase.Phase.{Phase}
 use Rattle.curly_grammar.specs.declared.phase.Phase.TheVariants.{Between, Marked, Naming, Valuing, Listing, After}

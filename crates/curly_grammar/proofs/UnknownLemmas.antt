@@ -22,7 +22,7 @@ use Rattle.cfg_schema.specs.Child as schema
 use Rattle.cfg_schema.proofs.ChildLemmas.{child_begins}
 use Rattle.cfg_values.specs.Spelling.{IsCanonicalOf}
 use Rattle.cfg_tree.specs.Gather.{is_many}
-use Rattle.cfg_tree.specs.Resolve.{AllSpelled}
+use Rattle.cfg_tree.specs.Typed.{AllSpelled}
 use Rattle.cfg_tree.specs.Stated.{different}
 use Rattle.cfg_tree.specs.declared.limit.TheConstants.{MAX_STATEMENTS}
 use Rattle.cfg_tree.specs.Tree.{step_of}

@@ -28,8 +28,7 @@ use Rattle.cfg_values.specs.Spelling.{IsCanonicalOf}
 use Rattle.cfg_tree.specs.Statements.{Statements}
 use Rattle.cfg_tree.specs.Stated.{stated_from_none}
 use Rattle.cfg_tree.specs.Tree.{step_of}
-use Rattle.cfg_tree.specs.Typed.{IsNameOf}
-use Rattle.cfg_tree.specs.Resolve.{AllSpelled}
+use Rattle.cfg_tree.specs.Typed.{IsNameOf, AllSpelled}
 pub use Rattle.curly_grammar.specs.declared.level.Level.{Level}
 
 -- the signs

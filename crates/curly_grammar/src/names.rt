@@ -1,12 +1,12 @@
 //! The names and the values that words are.
 
-ghost use Rattle.std.specs.Prelude.{◌≡◌, Decides, IfOk};
-ghost use Rattle.cfg_tree.specs.Typed.{IsOpenKind};
+ghost use Rattle.std.specs.Prelude.{◌≡◌, IfOk};
 ghost use Rattle.curly_grammar.specs.Answer.{IsNameGiven, IsSpelled};
 
 use crate::fault::Why;
 use crate::stop::Stop;
 use cfg_base::{Kind, NoMemory, Word};
+use cfg_tree::is_open_kind;
 use cfg_values::{ValueFault, is_pattern, read_value};
 use std::alloc::Global;
 
@@ -31,18 +31,11 @@ pub(crate) fn spelling(alloc: Global, kind: Kind, bytes: &[u8]) -> Result<Word, 
     }
 }
 
-/// Whether a wildcard name may stand for a name of the kind.
-fn is_open(kind: Kind) -> bool
-    ensures { Decides result (IsOpenKind kind) }
-{
-    !matches!(kind, Kind::OneOf(_))
-}
-
 /// The name that the bytes are.
 pub(crate) fn name(alloc: Global, in_group: bool, kind: Kind, bytes: &[u8]) -> Result<Word, Stop>
     ensures { IsNameGiven in_group kind bytes.now result }
 {
-    if in_group && is_open(kind) && is_pattern(bytes) {
+    if in_group && is_open_kind(kind) && is_pattern(bytes) {
         return match copied(alloc, bytes) {
             Ok(word) => Ok(word),
             Err(_) => Err(Stop::NoMemory),

@@ -23,9 +23,8 @@ use Rattle.cfg_schema.proofs.TestLemmas.{both, both_true, neither, not_true, sam
 use Rattle.cfg_schema.proofs.LevelLemmas.{head_is, led_to}
 use Rattle.cfg_schema.proofs.BegunLemmas.{name_begins_row}
 use Rattle.cfg_values.specs.Spelling.{IsCanonical}
-use Rattle.cfg_tree.specs.Typed.{IsNamed, AreCounted, AreCanonical, AreWordsOf}
+use Rattle.cfg_tree.specs.Typed.{IsNamed, AreCounted, AreCanonical, AreWordsOf, AllSpelled}
 use Rattle.cfg_tree.specs.Tree.{step_of}
-use Rattle.cfg_tree.specs.Resolve.{AllSpelled}
 use Rattle.cfg_tree.specs.OwnWords.{words_of_step, own_words}
 use Rattle.cfg_tree.proofs.NameLemmas.{name_some}
 use Rattle.cfg_tree.proofs.TypedLemmas.{bare_step}

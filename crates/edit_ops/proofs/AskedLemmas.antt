@@ -2,10 +2,10 @@
 use Rattle.std.proofs.Common.{◌≡◌, ◌==◌, ℕ, eqb-true, true, List, [], ◌∷◌, length, refl, sym, subst, ◌∙◌, inl, Result, Ok, Err, arith}
 use Rattle.std.specs.Result.{IfErr, IsErr, IsErrAnd}
 use Rattle.cfg_base.specs.declared.path.Step.{Step}
-use Rattle.cfg_tree.specs.declared.target.Target.{Target}
-use Rattle.cfg_tree.specs.declared.target.WordsFault.TheVariants as words
+use Rattle.cfg_resolve.specs.declared.target.Target.{Target}
+use Rattle.cfg_resolve.specs.declared.target.WordsFault.TheVariants as words
 use Rattle.cfg_tree.specs.Statements.{parent_of, last_of}
-use Rattle.cfg_tree.specs.Resolve.{ResolvesTo, target}
+use Rattle.cfg_resolve.specs.Resolve.{ResolvesTo, target}
 use Rattle.cfg_tree.proofs.PathLemmas.{split}
 use Rattle.edit_ops.specs.declared.fault.EditFault.{EditFault}
 use Rattle.edit_ops.specs.declared.fault.EditFault.TheVariants.{NoMemory}

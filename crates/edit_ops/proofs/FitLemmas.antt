@@ -12,12 +12,12 @@ use Rattle.cfg_schema.specs.declared.place.Place.{Place}
 use Rattle.cfg_schema.specs.Profile.{row_of, same_word}
 use Rattle.cfg_schema.specs.Place.{place_of}
 use Rattle.cfg_values.specs.Spelling.{IsCanonical}
-use Rattle.cfg_tree.specs.declared.target.Target.{Target}
+use Rattle.cfg_resolve.specs.declared.target.Target.{Target}
 use Rattle.cfg_tree.specs.Statements.{Statements}
 use Rattle.cfg_tree.specs.Typed.{AreCounted, AreCanonical, AreWordsOf}
 use Rattle.cfg_tree.specs.Tree.{lists, IsTree}
 use Rattle.cfg_tree.specs.Change.{FitsProfile}
-use Rattle.cfg_tree.specs.Resolve.{AreGiven}
+use Rattle.cfg_resolve.specs.Resolve.{AreGiven}
 use Rattle.edit_ops.specs.Value.{no_value, has_words, is_many, at_row, words_set, joined, value_set, words_without}
 use Rattle.edit_ops.specs.Made.{IsTarget, IsEnough, IsOther, IsNewStatement, IsPart}
 use Rattle.cfg_base.proofs.WordLemmas.{joined-distinct, joined-all, joined-longer, joined-some, distinct-left, fewer-left}

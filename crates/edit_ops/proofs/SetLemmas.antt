@@ -11,10 +11,9 @@ use Rattle.cfg_tree.specs.declared.limit.TheConstants.{MAX_STATEMENTS}
 use Rattle.cfg_tree.specs.declared.fault.TreeFault.{TreeFault}
 use Rattle.cfg_tree.specs.declared.fault.TreeFault.TheVariants as tree_fault
 use Rattle.cfg_tree.specs.Statements.{Statements, size_of, last_of, is_below, HasParent}
-use Rattle.cfg_tree.specs.Typed.{IsTypedPath}
+use Rattle.cfg_tree.specs.Typed.{IsTypedPath, IsLevelPath}
 use Rattle.cfg_tree.specs.Tree.{IsTree}
 use Rattle.cfg_tree.specs.Change.{is_ordered, put_last, put_at, IsReady, FitsProfile, IsPutFault}
-use Rattle.cfg_tree.specs.Resolve.{IsLevelPath}
 use Rattle.std.specs.Bool.{Decides}
 use Rattle.cfg_base.specs.contracts.value.ValuePartialEq.TheImpl as equal
 use Rattle.cfg_tree.proofs.SameLemmas.{same_value}

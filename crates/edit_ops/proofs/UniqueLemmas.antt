@@ -7,15 +7,16 @@ use Rattle.std.specs.declared.cmp.Ordering.TheVariants.{Less, Equal, Greater}
 use Rattle.cfg_base.specs.Order.{path_cmp, paths_total}
 use Rattle.cfg_base.specs.declared.path.Step.{Step}
 use Rattle.cfg_tree.specs.declared.limit.TheConstants.{MAX_STATEMENTS}
-use Rattle.cfg_tree.specs.declared.target.Target.{Target}
-use Rattle.cfg_tree.specs.declared.target.WordsFault.{WordsFault}
-use Rattle.cfg_tree.specs.declared.target.WordsFault.TheVariants as words
+use Rattle.cfg_resolve.specs.declared.target.Target.{Target}
+use Rattle.cfg_resolve.specs.declared.target.WordsFault.{WordsFault}
+use Rattle.cfg_resolve.specs.declared.target.WordsFault.TheVariants as words
 use Rattle.cfg_tree.specs.Statements.{Statements, size_of, parent_of}
-use Rattle.cfg_tree.specs.Resolve.{ResolvesTo, IsLevelPath, target}
+use Rattle.cfg_tree.specs.Typed.{IsLevelPath}
+use Rattle.cfg_resolve.specs.Resolve.{ResolvesTo, target}
 use Rattle.cfg_tree.proofs.MapLemmas.{path_same}
 use Rattle.cfg_tree.proofs.FollowLemmas.{parent_is_level}
-use Rattle.cfg_tree.proofs.TargetLemmas.{resolved_target}
-use Rattle.cfg_tree.proofs.UniqueLemmas.{resolved_once}
+use Rattle.cfg_resolve.proofs.TargetLemmas.{resolved_target}
+use Rattle.cfg_resolve.proofs.UniqueLemmas.{resolved_once}
 use Rattle.commands.specs.declared.command.Op.{Op}
 use Rattle.edit_ops.specs.declared.fault.EditFault.{EditFault}
 use Rattle.edit_ops.specs.declared.fault.EditFault.TheVariants.{Unknown, BadValue, Incomplete, Extra, NotNamed, NotOrdered, NotThere, AlreadyThere, Protected, TooMany, NoMemory}

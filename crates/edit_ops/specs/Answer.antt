@@ -4,11 +4,11 @@ use Rattle.commands.specs.declared.command.Op.{Op}
 use Rattle.commands.specs.declared.command.Op.TheVariants.{Set, Delete, Activate, Deactivate, Protect, Unprotect, Rename, Copy, Insert}
 use Rattle.cfg_base.specs.declared.path.Step.{Step}
 use Rattle.cfg_tree.specs.declared.limit.TheConstants.{MAX_STATEMENTS}
-use Rattle.cfg_tree.specs.declared.target.Target.{Target}
-use Rattle.cfg_tree.specs.declared.target.WordsFault.{WordsFault}
-use Rattle.cfg_tree.specs.declared.target.WordsFault.TheVariants as words
+use Rattle.cfg_resolve.specs.declared.target.Target.{Target}
+use Rattle.cfg_resolve.specs.declared.target.WordsFault.{WordsFault}
+use Rattle.cfg_resolve.specs.declared.target.WordsFault.TheVariants as words
 use Rattle.cfg_tree.specs.Statements.{Statements, size_of, parent_of}
-use Rattle.cfg_tree.specs.Resolve.{ResolvesTo, target}
+use Rattle.cfg_resolve.specs.Resolve.{ResolvesTo, target}
 use Rattle.edit_ops.specs.declared.fault.EditFault.{EditFault}
 use Rattle.edit_ops.specs.declared.fault.EditFault.TheVariants.{Unknown, BadValue, Incomplete, Extra, Protected, TooMany, NoMemory}
 use Rattle.edit_ops.specs.Value.{has_words_at}

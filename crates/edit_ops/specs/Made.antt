@@ -13,11 +13,11 @@ use Rattle.cfg_tree.specs.declared.fault.TreeFault.{TreeFault}
 use Rattle.cfg_tree.specs.declared.fault.TreeFault.TheVariants as put
 use Rattle.cfg_tree.specs.declared.moving.CopyFault.{CopyFault}
 use Rattle.cfg_tree.specs.declared.moving.CopyFault.TheVariants as copy
-use Rattle.cfg_tree.specs.declared.target.Target.{Target}
+use Rattle.cfg_resolve.specs.declared.target.Target.{Target}
 use Rattle.cfg_tree.specs.Statements.{Statements, size_of, parent_of, is_below, HasParent}
-use Rattle.cfg_tree.specs.Typed.{IsTypedPath, AreCanonical}
+use Rattle.cfg_tree.specs.Typed.{IsTypedPath, AreCanonical, IsLevelPath}
 use Rattle.cfg_tree.specs.Tree.{IsOrderOf}
-use Rattle.cfg_tree.specs.Resolve.{AreGiven, IsLevelPath}
+use Rattle.cfg_resolve.specs.Resolve.{AreGiven}
 pub use Rattle.cfg_tree.specs.Change.{FitsProfile, IsOther}
 use Rattle.edit_ops.specs.declared.fault.EditFault.{EditFault}
 use Rattle.edit_ops.specs.declared.fault.EditFault.TheVariants.{Unknown, BadValue, Protected, TooMany, NoMemory}

@@ -1,7 +1,7 @@
 //! One change of the statements.
 
 ghost use Rattle.std.specs.Prelude.{◌≡◌, IfOk, IfErr, OnErr};
-ghost use Rattle.cfg_tree.specs.Resolve.{IsLevelPath};
+ghost use Rattle.cfg_tree.specs.Typed.{IsLevelPath};
 ghost use Rattle.edit_ops.specs.Change.{changed};
 ghost use Rattle.edit_ops.specs.Block.{IsSpared};
 ghost use Rattle.edit_ops.specs.Answer.{IsChange, IsEditFault, IsWhole};

@@ -3,8 +3,8 @@
 ghost use Rattle.std.specs.Prelude.{◌≡◌, ◌<◌, [], length, Decides, Ok, IfOk, IfErr};
 ghost use Rattle.std.specs.Option.{option_copied};
 ghost use Rattle.cfg_tree.specs.Statements.{parent_of};
-ghost use Rattle.cfg_tree.specs.Typed.{IsTypedPath};
-ghost use Rattle.cfg_tree.specs.Resolve.{IsLevelPath, ResolvesTo, target};
+ghost use Rattle.cfg_tree.specs.Typed.{IsTypedPath, IsLevelPath};
+ghost use Rattle.cfg_resolve.specs.Resolve.{ResolvesTo, target};
 ghost use Rattle.edit_ops.specs.Change.{words_of, second_words};
 ghost use Rattle.edit_ops.specs.Answer.{NamesSubject, HasNoWords, IsWhole, IsNameFault, IsWordsFault, unwhole};
 ghost use Rattle.edit_ops.specs.Made.{IsTarget, IsBesidePath, IsSubject};
@@ -14,7 +14,7 @@ use crate::fault::EditFault;
 use crate::subject::Subject;
 use crate::words::has_words;
 use cfg_base::{NoMemory, Path, Words};
-use cfg_tree::{Target, resolve};
+use cfg_resolve::{Target, resolve};
 use commands::Op;
 use std::alloc::Global;
 

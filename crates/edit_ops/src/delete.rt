@@ -11,7 +11,8 @@ use crate::fault::EditFault;
 use crate::guard::{guard, guard_below};
 use crate::set::replace;
 use cfg_base::{Path, Value, WordList};
-use cfg_tree::{Target, Tree};
+use cfg_resolve::Target;
+use cfg_tree::Tree;
 use std::alloc::Global;
 
 /// The statements without one and all below it.

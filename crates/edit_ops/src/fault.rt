@@ -4,7 +4,8 @@ ghost use Rattle.edit_ops.specs.Made.{fault_of_put, fault_of_copy};
 ghost use Rattle.edit_ops.specs.declared.fault.EditFault.TheVariants.{NoMemory};
 
 use cfg_base::{NoMemory, Path};
-use cfg_tree::{CopyFault, TreeFault, WordsFault};
+use cfg_resolve::WordsFault;
+use cfg_tree::{CopyFault, TreeFault};
 use std::alloc::{AllocError, AllocFailed};
 use thiserror::Error;
 

@@ -3,7 +3,7 @@
 ghost use Rattle.std.specs.Prelude.{◌≡◌, ◌≢◌, Bool, List};
 ghost use Rattle.cfg_base.specs.declared.path.Step.{Step};
 ghost use Rattle.cfg_tree.specs.Statements.{Statements};
-ghost use Rattle.cfg_tree.specs.Resolve.{IsLevelPath};
+ghost use Rattle.cfg_tree.specs.Typed.{IsLevelPath};
 ghost use Rattle.commands.specs.declared.command.Op.{Op};
 ghost use Rattle.edit_ops.specs.declared.fault.EditFault.{EditFault};
 ghost use Rattle.edit_ops.specs.declared.fault.EditFault.TheVariants.{NoMemory};

@@ -13,7 +13,8 @@ use crate::fault::EditFault;
 use crate::guard::guard;
 use crate::words::{is_many, words_set};
 use cfg_base::{NoMemory, Path, Value, WordList, Words};
-use cfg_tree::{Target, Tree};
+use cfg_resolve::Target;
+use cfg_tree::Tree;
 use std::alloc::Global;
 
 fn no_value(alloc: Global) -> Value

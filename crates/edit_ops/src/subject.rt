@@ -4,7 +4,7 @@ ghost use Rattle.std.specs.Prelude.{◌≡◌};
 ghost use Rattle.edit_ops.specs.Change.{other_of};
 
 use cfg_base::Path;
-use cfg_tree::Target;
+use cfg_resolve::Target;
 
 /// What the words of a change name: a statement with words behind it, and a second statement where the change has words
 /// for one.

@@ -13,7 +13,7 @@ use Rattle.cfg_schema.proofs.TestLemmas.{same}
 use Rattle.cfg_schema.proofs.LevelLemmas.{led_to, all_at}
 use Rattle.cfg_tree.specs.Statements.{Statements, parent_of, last_of}
 use Rattle.cfg_tree.specs.Tree.{IsTree}
-use Rattle.cfg_tree.specs.Resolve.{IsLevelPath}
+use Rattle.cfg_tree.specs.Typed.{IsLevelPath}
 use Rattle.cfg_tree.proofs.PathLemmas.{split, same_ends}
 use Rattle.cfg_tree.proofs.FollowLemmas.{typed_place, typed_front, typed_last, parent_is_level}
 use Rattle.group_expand.specs.Sources.{apply_step, except_step, same_step}

@@ -5,7 +5,7 @@ use Rattle.cfg_base.specs.declared.path.Step.{Step}
 use Rattle.commands.specs.declared.command.LoadWay.{LoadWay}
 use Rattle.commands.specs.declared.command.LoadWay.TheVariants.{Merge, Override, Replace, SetLines}
 use Rattle.cfg_tree.specs.Statements.{Statements, size_of}
-use Rattle.cfg_tree.specs.Resolve.{IsLevelPath}
+use Rattle.cfg_tree.specs.Typed.{IsLevelPath}
 use Rattle.cfg_tree.proofs.TopLemmas.{top_is_level}
 use Rattle.cfg_tree.proofs.UnionLemmas.{union_once}
 use Rattle.curly_grammar.specs.declared.fault.TextFault.{TextFault}

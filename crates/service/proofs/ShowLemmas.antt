@@ -1,7 +1,7 @@
 -- What is shown of a list of commits that is kept is one thing.
 use Rattle.std.proofs.Common.{◌≡◌, ℕ, [], refl, ap, None}
 use Rattle.cfg_tree.proofs.TopLemmas.{top_is_level}
-use Rattle.cfg_tree.specs.Resolve.{IsLevelPath}
+use Rattle.cfg_tree.specs.Typed.{IsLevelPath}
 use Rattle.commands.specs.declared.command.Command.{Command}
 use Rattle.commands.specs.declared.command.Command.TheVariants.{Configure, ShowActive, ShowCommits, Logout, Edit, Up, Top, Exit, ExitAll, Show, Change, Load, Rollback, CheckOnly, Commit, Update, Status}
 use Rattle.commit_ledger.specs.Kept.{Kept}

@@ -8,9 +8,8 @@ use Rattle.commands.specs.declared.command.Command.{Command}
 use Rattle.commands.specs.declared.command.Command.TheVariants.{Configure, ShowActive, ShowCommits, Logout, Edit, Up, Top, Exit, ExitAll, Show, Change, Load, Rollback, CheckOnly, Commit, Update, Status}
 use Rattle.cfg_base.specs.declared.path.Step.{Step}
 use Rattle.cfg_tree.specs.Statements.{Statements}
-use Rattle.cfg_tree.specs.Typed.{IsTypedPath}
-use Rattle.cfg_tree.specs.Resolve.{IsLevelPath}
-use Rattle.cfg_tree.proofs.TargetLemmas.{resolved_target}
+use Rattle.cfg_tree.specs.Typed.{IsTypedPath, IsLevelPath}
+use Rattle.cfg_resolve.proofs.TargetLemmas.{resolved_target}
 use Rattle.commit_ledger.specs.declared.entry.Commit.{Commit as CommitMade}
 use Rattle.commit_ledger.specs.declared.entry.Entry.{Entry}
 use Rattle.commit_ledger.specs.declared.entry.Entry.TheVariants.{Commit as CommitOf, Confirm as ConfirmOf}

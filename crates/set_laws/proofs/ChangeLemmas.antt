@@ -15,8 +15,8 @@ use Rattle.cfg_tree.specs.Statements.{Statements, size_of}
 use Rattle.cfg_tree.specs.Typed.{AreCanonical}
 use Rattle.cfg_tree.specs.Tree.{IsTree}
 use Rattle.cfg_tree.specs.OwnWords.{own_words}
-use Rattle.cfg_tree.specs.Resolve.{AreGiven, ResolvesTo, target}
-use Rattle.cfg_tree.proofs.OwnLemmas.{below_named}
+use Rattle.cfg_resolve.specs.Resolve.{AreGiven, ResolvesTo, target}
+use Rattle.cfg_resolve.proofs.OwnLemmas.{below_named}
 use Rattle.edit_ops.specs.Answer.{IsChange}
 use Rattle.edit_ops.specs.Block.{IsFree}
 use Rattle.set_text.specs.Printed.{Line}

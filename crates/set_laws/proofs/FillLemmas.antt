@@ -28,7 +28,7 @@ use Rattle.cfg_tree.specs.Change.{put_at}
 use Rattle.cfg_tree.specs.Children.{children_of}
 use Rattle.cfg_tree.specs.Gather.{joined_at}
 use Rattle.cfg_tree.specs.OwnWords.{own_words}
-use Rattle.cfg_tree.specs.Resolve.{AreGiven}
+use Rattle.cfg_resolve.specs.Resolve.{AreGiven}
 use Rattle.cfg_tree.specs.Stated.{stated_one, stated}
 use Rattle.cfg_tree.proofs.FollowLemmas.{typed_place}
 use Rattle.cfg_tree.proofs.PathLemmas.{child_longer}

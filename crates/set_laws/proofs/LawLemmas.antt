@@ -13,14 +13,14 @@ use Rattle.cfg_schema.specs.declared.place.Place.{Place}
 use Rattle.cfg_schema.specs.Profile.{profile, row_of}
 use Rattle.cfg_schema.specs.Place.{top_place, place_of}
 use Rattle.cfg_tree.specs.declared.limit.TheConstants.{MAX_STATEMENTS}
-use Rattle.cfg_tree.specs.declared.target.Target.{Target}
-use Rattle.cfg_tree.specs.declared.target.WordsFault.{WordsFault}
+use Rattle.cfg_resolve.specs.declared.target.Target.{Target}
+use Rattle.cfg_resolve.specs.declared.target.WordsFault.{WordsFault}
 use Rattle.cfg_tree.specs.Statements.{Statements, size_of, is_below}
 use Rattle.cfg_tree.specs.Typed.{FollowsFrom}
 use Rattle.cfg_tree.specs.Tree.{IsTree}
 use Rattle.cfg_tree.specs.Change.{put_at}
 use Rattle.cfg_tree.specs.OwnWords.{words_of_step, own_words}
-use Rattle.cfg_tree.specs.Resolve.{Reads, no_words, refused, whole, ended, goes_on, ResolvesTo, target}
+use Rattle.cfg_resolve.specs.Resolve.{Reads, no_words, refused, whole, ended, goes_on, ResolvesTo, target}
 use Rattle.cfg_tree.specs.Stated.{stated}
 use Rattle.cfg_tree.proofs.FollowLemmas.{typed_place}
 use Rattle.cfg_tree.proofs.MapLemmas.{same_statements}

@@ -12,7 +12,7 @@ use Rattle.cfg_tree.specs.Statements.{Statements, size_of}
 use Rattle.cfg_tree.specs.Tree.{IsTree}
 use Rattle.cfg_tree.specs.Change.{put_at}
 use Rattle.cfg_tree.specs.OwnWords.{own_words}
-use Rattle.cfg_tree.specs.Resolve.{ResolvesTo, target}
+use Rattle.cfg_resolve.specs.Resolve.{ResolvesTo, target}
 use Rattle.cfg_tree.proofs.MapLemmas.{same_path}
 use Rattle.cfg_tree.proofs.PathLemmas.{same_or_not, get_here, get_other}
 use Rattle.edit_ops.specs.Change.{words_of, second_words, changed}

@@ -15,7 +15,7 @@ use Rattle.cfg_tree.specs.Typed.{AreCanonical, AreWordsOf}
 use Rattle.cfg_tree.specs.Change.{put_at}
 use Rattle.cfg_tree.specs.Gather.{is_many}
 use Rattle.cfg_tree.specs.OwnWords.{own_words}
-use Rattle.cfg_tree.specs.Resolve.{AreGiven}
+use Rattle.cfg_resolve.specs.Resolve.{AreGiven}
 use Rattle.cfg_tree.proofs.PathLemmas.{child_longer}
 use Rattle.cfg_tree.proofs.StepLemmas.{puts}
 use Rattle.edit_ops.specs.Value.{value_or_none, value_set, words_set, at_row, is_many_at, has_words, has_words_at}

@@ -6,7 +6,7 @@ use Rattle.cfg_tree.specs.Shown.{shown}
 use Rattle.cfg_tree.specs.Statements.{Statements}
 use Rattle.cfg_tree.specs.Tree.{IsTree}
 use Rattle.cfg_tree.proofs.MapLemmas.{len_is}
-use Rattle.cfg_tree.proofs.BesideLemmas.{lengths}
+use Rattle.cfg_tree.proofs.BesideLemmas.{lengths, none_new}
 use Rattle.cfg_tree.proofs.RenamedLemmas.{copied_kept, copied_crowded}
 use Rattle.cfg_tree.proofs.moving.copy_in.Goals as goal
 
@@ -29,3 +29,6 @@ returns-clause-kept c =
     (copied_kept c.args.entries.now c.args.from.now c.args.to.now _ _ c.requires.tree c.requires.new
     (c.len-2.ensures ∙ c.in_ok-part.part.ok.0 ∙ ap (λ (es : List (Pair Value)). length es) c.in_ok-part.ensures.part)
     (c.len.ensures.len ∙ sym (len_is c.args.entries.now.entries c.len.ensures.ordered)) c.if-len.false)
+
+pub copy_part-requires-clause-free : goal.copy_part-requires-clause-free
+copy_part-requires-clause-free c = none_new (shown c.args.entries.now) _ _ c.requires.tree.statements c.requires.new

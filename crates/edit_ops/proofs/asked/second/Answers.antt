@@ -1,6 +1,6 @@
 use Rattle.std.proofs.Common.{List, sym, subst}
 use Rattle.cfg_base.specs.declared.path.Step.{Step}
-use Rattle.cfg_tree.specs.Resolve.{IsLevelPath}
+use Rattle.cfg_tree.specs.Typed.{IsLevelPath}
 use Rattle.cfg_tree.proofs.FollowLemmas.{parent_is_level}
 use Rattle.edit_ops.proofs.AskedLemmas.{memory_fault, memory_only, names_alone}
 use Rattle.edit_ops.proofs.asked.second.Goals as goal

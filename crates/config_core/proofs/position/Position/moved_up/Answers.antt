@@ -1,5 +1,5 @@
 use Rattle.std.proofs.Common.{sym, subst}
-use Rattle.cfg_tree.specs.Resolve.{IsLevelPath}
+use Rattle.cfg_tree.specs.Typed.{IsLevelPath}
 use Rattle.config_core.proofs.LevelLemmas.{level_front, alone}
 use Rattle.config_core.proofs.position.Position.moved_up.Goals as goal
 

@@ -1,7 +1,7 @@
 use Rattle.std.proofs.Common.{rules, ◌≡◌, ◌+◌, ◌-◌, ◌*◌, ◌<◌, List, length, None, Some, arith, sym, ap, ◌∙◌, flat_map}
 use Rattle.cfg_base.specs.declared.path.Step.{Step}
 use Rattle.cfg_schema.specs.Place.{place_of}
-use Rattle.cfg_tree.proofs.TargetLemmas.{room_below}
+use Rattle.cfg_tree.proofs.FollowLemmas.{room_below}
 use Rattle.curly_print.specs.Printing.{own_if_of_row, own_row}
 use Rattle.printing_order.proofs.NumberLemmas.{no_length, some_levels}
 use Rattle.printing_order.proofs.PutLemmas.{put_nothing, put_same}

@@ -1,7 +1,7 @@
 use Rattle.std.proofs.Common.{rules, ◌≡◌, ◌+◌, ◌-◌, ◌*◌, ◌<◌, List, length, None, Some, arith, sym, ap, ◌∙◌, ◌++◌, ◌∷◌, [], flat_map}
 use Rattle.cfg_base.specs.declared.path.Step.{Step}
 use Rattle.cfg_schema.specs.Place.{place_of}
-use Rattle.cfg_tree.proofs.TargetLemmas.{room_below}
+use Rattle.cfg_tree.proofs.FollowLemmas.{room_below}
 use Rattle.printing_order.specs.Listed.{items_below}
 use Rattle.printing_order.specs.Listing.{items_if_of_row, row_items}
 use Rattle.printing_order.proofs.NumberLemmas.{no_length, some_levels}

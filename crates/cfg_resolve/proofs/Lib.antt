@@ -1,0 +1,5 @@
+mod SpelledLemmas
+mod ReadsLemmas
+pub mod TargetLemmas
+pub mod UniqueLemmas
+pub mod OwnLemmas

@@ -1,5 +1,0 @@
-use Rattle.cfg_tree.proofs.OwnLemmas.{below_named, kept_named}
-use Rattle.cfg_tree.proofs.laws.own_words_name_their_statement.Goals as goal
-
-pub returns : goal.returns
-returns c = record { below = below_named; kept = kept_named }

@@ -1,5 +1,0 @@
-use Rattle.cfg_tree.proofs.UniqueLemmas.{resolved_once}
-use Rattle.cfg_tree.proofs.laws.words_have_one_answer.Goals as goal
-
-pub returns : goal.returns
-returns c = resolved_once

@@ -1,6 +1,0 @@
-use Rattle.std.proofs.Common.{take}
-use Rattle.cfg_tree.specs.Resolve.{AllSpelled}
-use Rattle.cfg_tree.proofs.reading.spellings_of.Given as goal
-
-abbrev pub invariant-loop-word : goal.invariant-loop-word
-invariant-loop-word l = AllSpelled l.kind (take l.word-index l.words) l.spelled
