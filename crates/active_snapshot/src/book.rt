@@ -30,7 +30,7 @@ impl Rule<Shown, u64> for Law {
     ghost moves = { λ ask before after answer. ⊤ };
 }
 
-/// Whoever adds a view trades nothing.
+/// Adding a view exchanges no tokens.
 struct Nothing;
 
 impl Gain<Shown, u64> for Nothing {

@@ -144,9 +144,10 @@ impl<J: Naming> SnapWriter<J> {
         self.proposal = None;
     }
 
-    /// Whether the last view that was kept isn't published yet.
+    /// Whether the last view that was kept isn't published yet. Where it is, all are.
     pub fn is_late(&self) -> bool
-        ensures { result ≡ self.now.late }
+        ensures late { result ≡ self.now.late }
+        ensures whole { result ≡ false → self.now.published ≡ length self.now.list }
     {
         self.late
     }

@@ -31,15 +31,15 @@ use Rattle.config_db.specs.Numbers.{AreAtMost, calls_of, none_called}
 use Rattle.config_db.specs.Crash.{BothCalled, CountsOn, IsSafeWhile, Spelt}
 use Rattle.config_db.specs.Disks.{GoesOn}
 use Rattle.config_db.specs.Writing.{IsFoundOut, IsWritten, flight_after, kept_after, records_after}
-use Rattle.config_db.specs.Shown.{IsShown, Shows, ShowsSettled}
+use Rattle.config_db.specs.Shown.{IsShown, Shows, ShowsOn, ShowsSettled}
 use Rattle.config_db.specs.Book.{IsBook, Stands}
-use Rattle.config_db.specs.Moves.{Happens, IsUnsettled, Turns, noted}
+use Rattle.config_db.specs.Moves.{Happens, IsSettledBy, IsUnsettled, Turns, noted}
 use Rattle.config_db.proofs.CalledLemmas.{called_left, called_none}
 use Rattle.config_db.proofs.DiskLemmas.{goes_nowhere, tell_each, tell_since}
 use Rattle.config_db.proofs.NumberLemmas.{rising_more}
 use Rattle.config_db.proofs.SafeLemmas.{appends_safe, noted_safe, settles_safe}
 use Rattle.config_db.proofs.MachineLemmas.{Leaves, flying, free_steps, free_turns, kept_settled, made_follows, made_is_sound, plan_leaves, put_off_leaves, put_off_turns, settling_fits, settling_leaves, settling_turns}
-use Rattle.config_db.proofs.ShownLemmas.{shows_on, shows_settled, shows_written}
+use Rattle.config_db.proofs.ShownLemmas.{settled_on, shows_on, shows_settled, shows_written, still_shown, written_on}
 use Rattle.config_db.proofs.BookLemmas.{book_after, book_unsettled, stands_found, stands_unfound, stands_written}
 
 -- the database behind an event
@@ -106,9 +106,9 @@ module _ (v : DatabaseView) (book : IsBook v)
   comes : (j' : JournalView) (events' : List Happened) (s' : State) (w' : WriterState) (caller moment : ℕ) (event : Event) (outcome : Outcome) (reply : Reply) (calls : Calls) (kept : Kept) (flight : Option Made)
       → calls ≡ calls_of j' → events' ≡ v.events ++ noted caller moment event outcome calls ∷ [] → Turns v.state caller moment event outcome reply s' → Leaves v.state s' kept flight
       → Stands j' kept flight → GoesOn v.journal j' → (Tell v.journal → BothCalled v.journal j') → (outcome ≡ Done → flight ≡ None) → (outcome ≡ Fault → IsSome flight)
-      → Safe j' (noted caller moment event outcome (calls_of j')) s' → ShowsThen j' (noted caller moment event outcome (calls_of j')) s' w'
+      → Safe j' (noted caller moment event outcome (calls_of j')) s' → ShowsThen j' (noted caller moment event outcome (calls_of j')) s' w' → ShowsOn v.shown w'
       → Comes caller moment event outcome reply v (next v j' events' s' w')
-  comes j' events' s' w' caller moment event outcome reply calls kept flight told grown turns leaves stands goes called done failed safe shows =
+  comes j' events' s' w' caller moment event outcome reply calls kept flight told grown turns leaves stands goes called done failed safe shows on =
       let grown' : events' ≡ v.events ++ noted caller moment event outcome (calls_of j') ∷ [] = grown ∙ ap (λ c. v.events ++ noted caller moment event outcome c ∷ []) told in
       let same : IsSameRun v (next v j' events' s' w') = record { opening = refl; users = refl } in
       record {
@@ -121,6 +121,7 @@ module _ (v : DatabaseView) (book : IsBook v)
           called = called;
           done = λ is. leaves.flight_is ∙ done is;
           failed = λ is. ap is_some leaves.flight_is ∙ failed is;
+          shown = on;
         };
       }
 
@@ -137,6 +138,7 @@ module _ (v : DatabaseView) (book : IsBook v)
       (stands_written v.journal j' v.state.kept (made_in plan.effect) outcome before written follows)
       written.goes (λ t. called_left v.journal j' (SpellsEither before.records (records_after before.records (made_in plan.effect) Done)) t written.counts (written.crash before.records before.holds t)) (none_done (made_in plan.effect) outcome) (some_failed (made_in plan.effect) outcome written.calm) safe
       (λ leads. shows_written (opened v) v.events v.state v.shown book.shows (noted caller moment event outcome (calls_of j') ∷ []) s' leads (made_in plan.effect) outcome w' free shown leaves.kept_is leaves.flight_is)
+      (written_on (made_in plan.effect) outcome v.shown w' shown)
     where
       leaves : Leaves v.state s' (kept_after v.state.kept (made_in plan.effect) outcome) (flight_after (made_in plan.effect) outcome)
       leaves = subst (λ t. Leaves v.state t (kept_after v.state.kept (made_in plan.effect) outcome) (flight_after (made_in plan.effect) outcome)) (sym is) (plan_leaves plan outcome v.state free written.calm)
@@ -172,21 +174,22 @@ module _ (v : DatabaseView) (book : IsBook v)
     made_sound = subst (λ f. IfSome f (IsSoundMade v.state.kept v.state.greatest)) is_made book.sound.flight
 
     -- a settling
-    pub settled_so : (j' : JournalView) (events' : List Happened) (s' : State) (w' : WriterState) (caller moment : ℕ) (is_kept : Bool) (reply : Reply) (calls : Calls) (plan : Plan)
-        → v.state.greatest ≤ moment → IsPrepared v.state caller moment (Settle is_kept) plan
-        → IsFoundOut (Some is_kept) v.journal j' → ShowsSettled is_kept v.shown w' → calls ≡ calls_of j' → s' ≡ applied plan Done v.state → reply ≡ replied plan.effect plan.reply Done
-        → events' ≡ v.events ++ noted caller moment (Settle is_kept) Done calls ∷ [] → Comes caller moment (Settle is_kept) Done reply v (next v j' events' s' w')
-    settled_so j' events' s' w' caller moment is_kept reply calls plan no_earlier prepared found shown told is replies grown =
-        let turned = settling_turns v.state caller moment is_kept plan made is_made (settling_fits v.state caller moment is_kept some no_earlier) prepared in
+    pub settled_so : (j' : JournalView) (events' : List Happened) (s' : State) (w' : WriterState) (caller moment : ℕ) (is_kept : Bool) (calls : Calls)
+        → v.state.greatest ≤ moment → IsFoundOut (Some is_kept) v.journal j' → ShowsSettled is_kept v.shown w' → calls ≡ calls_of j' → (by : IsSettledBy caller moment is_kept v.state s')
+        → events' ≡ v.events ++ noted caller moment (Settle is_kept) Done calls ∷ []
+        → Comes caller moment (Settle is_kept) Done (replied by.plan.effect by.plan.reply Done) v (next v j' events' s' w')
+    settled_so j' events' s' w' caller moment is_kept calls no_earlier found shown told by grown =
+        let turned = settling_turns v.state caller moment is_kept by.plan made is_made (settling_fits v.state caller moment is_kept some no_earlier) by.prepared in
         let leaves : Leaves v.state s' (kept_settled v.state.kept made is_kept) None =
-        subst (λ t. Leaves v.state t (kept_settled v.state.kept made is_kept) None) (sym (is ∙ turned.state)) (settling_leaves v.state caller moment is_kept turned.turned made is_made turned.steps) in
-        comes j' events' s' w' caller moment (Settle is_kept) Done reply calls (kept_settled v.state.kept made is_kept) None told grown
-        (subst (λ t. Turns v.state caller moment (Settle is_kept) Done reply t) (sym is) (subst (λ r. Turns v.state caller moment (Settle is_kept) Done r (applied plan Done v.state)) (sym replies) turned))
+        subst (λ t. Leaves v.state t (kept_settled v.state.kept made is_kept) None) (sym (by.is ∙ turned.state)) (settling_leaves v.state caller moment is_kept turned.turned made is_made turned.steps) in
+        comes j' events' s' w' caller moment (Settle is_kept) Done (replied by.plan.effect by.plan.reply Done) calls (kept_settled v.state.kept made is_kept) None told grown
+        (subst (λ t. Turns v.state caller moment (Settle is_kept) Done (replied by.plan.effect by.plan.reply Done) t) (sym by.is) turned)
         leaves
         (stands_found v.journal j' v.state.kept made is_kept here found (made_follows v.state.kept v.state.greatest (Some made) made_sound))
         found.goes (λ t. called_left v.journal j' (WasLeft (a_of v.journal) (b_of v.journal)) t found.counts (found.crash t)) (λ done. refl) (λ failed. absurd (cc))
         (notes j' (noted caller moment (Settle is_kept) Done (calls_of j')) s' found.goes.calls refl (settles j' found.goes found.counts found.crash))
         (λ leads. shows_settled (opened v) v.events v.state v.shown book.shows (noted caller moment (Settle is_kept) Done (calls_of j') ∷ []) s' leads made is_kept w' is_made shown leaves.kept_is leaves.flight_is)
+        (settled_on is_kept v.shown w' shown)
 
     -- a settling that failed
     pub unsettled_book : (j' : JournalView) → IsFoundOut None v.journal j' → IsBook (next v j' v.events v.state v.shown)
@@ -196,7 +199,7 @@ module _ (v : DatabaseView) (book : IsBook v)
         (settles j' found.goes found.counts found.crash)
 
     pub unsettled_so : (j' : JournalView) → IsFoundOut None v.journal j' → IsUnsettled v (next v j' v.events v.state v.shown)
-    unsettled_so j' found = record { state = refl; events = refl; same = record { opening = refl; users = refl }; goes = found.goes; called = λ t. called_left v.journal j' (WasLeft (a_of v.journal) (b_of v.journal)) t found.counts (found.crash t); rose = found.cause refl }
+    unsettled_so j' found = record { state = refl; events = refl; same = record { opening = refl; users = refl }; goes = found.goes; called = λ t. called_left v.journal j' (WasLeft (a_of v.journal) (b_of v.journal)) t found.counts (found.crash t); rose = found.cause refl; shown = refl }
 
     -- a command while an entry is in flight
     pub put_off_so : (events' : List Happened) (s' : State) (caller moment : ℕ) (event : Event) (reply : Reply) (calls : Calls) (plan : Plan)
@@ -213,3 +216,4 @@ module _ (v : DatabaseView) (book : IsBook v)
         book.stands (goes_nowhere v.journal) (λ t. called_none v.journal) (λ done. absurd (cc)) (λ failed. some)
         (notes v.journal (noted caller moment event Fault (calls_of v.journal)) s' (goes_nowhere v.journal).calls refl book.safe)
         (λ leads. shows_on (opened v) v.events v.state v.shown book.shows (noted caller moment event Fault (calls_of v.journal) ∷ []) s' leaves.kept_is leaves.flight_is)
+        (still_shown v.shown v.shown refl refl)

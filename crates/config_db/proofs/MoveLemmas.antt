@@ -11,6 +11,7 @@ use Rattle.config_core.specs.declared.event.Outcome.TheVariants.{Fault}
 use Rattle.config_core.specs.declared.reply.Reply.{Reply}
 use Rattle.session_history.specs.declared.history.Happened.{Happened}
 use Rattle.session_history.proofs.EventLemmas.{Leads-append}
+use Rattle.active_snapshot.specs.States.{WriterState}
 use Rattle.config_db.specs.View.{DatabaseView, IsSameRun}
 use Rattle.config_db.specs.Numbers.{calls_of}
 use Rattle.config_db.specs.Disks.{GoesOn}
@@ -21,6 +22,7 @@ use Rattle.config_db.proofs.CalledLemmas.{called_none, called_then}
 use Rattle.config_db.proofs.DiskLemmas.{goes_further, goes_nowhere, rose_first, rose_last, tell_on}
 use Rattle.config_db.proofs.BookLemmas.{turn_leads}
 use Rattle.config_db.proofs.FaultLemmas.{counted_more, counted_none, counted_one}
+use Rattle.config_db.proofs.ShownLemmas.{shown_further, still_shown}
 
 module _ (caller moment : ℕ) where
   same_run : (u v w : DatabaseView) → IsSameRun u v → IsSameRun v w → IsSameRun u w
@@ -37,6 +39,7 @@ module _ (caller moment : ℕ) where
     same = record { opening = refl; users = refl };
     goes = goes_nowhere v.journal;
     called = λ t. called_none v.journal;
+    shown = still_shown v.shown v.shown refl refl;
   }
 
   -- a settling failed
@@ -50,6 +53,7 @@ module _ (caller moment : ℕ) where
     same = un.same;
     goes = un.goes;
     called = un.called;
+    shown = still_shown v.shown v'.shown (ap (λ (w : WriterState). w.list) un.shown) (ap (λ (w : WriterState). w.published) un.shown);
   }
 
   causes_first : (u v w : DatabaseView) (own : List Happened) → AllByRecursion (HasCause u.journal v.journal) own → GoesOn v.journal w.journal
@@ -78,6 +82,7 @@ module _ (caller moment : ℕ) where
         same = same_run u v w before.same happens.same;
         goes = goes_further u.journal v.journal w.journal before.goes happens.goes;
         called = λ t. called_then u.journal v.journal w.journal (before.called t) (happens.called (tell_on u.journal v.journal before.goes t));
+        shown = shown_further u.shown v.shown w.shown before.shown happens.shown;
       }
 
   pub extends_one : (v w : DatabaseView) (event : Event) (outcome : Outcome) (reply : Reply) → Happens caller moment event outcome reply v w
@@ -98,4 +103,5 @@ module _ (caller moment : ℕ) where
     same = same_run u v w first.same next.same;
     goes = goes_further u.journal v.journal w.journal first.goes next.goes;
     called = λ t. called_then u.journal v.journal w.journal (first.called t) (next.called (tell_on u.journal v.journal first.goes t));
+    shown = shown_further u.shown v.shown w.shown first.shown next.shown;
   }

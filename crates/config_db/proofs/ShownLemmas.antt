@@ -1,6 +1,6 @@
 -- What readers are shown, as events come.
-use Rattle.std.proofs.Common.{◌≡◌, ◌≤◌, ◌<◌, ℕ, List, [], ◌∷◌, ◌++◌, Bool, true, false, Option, None, Some, inl, inr, refl, sym, ap, subst, ◌∙◌, Result, Ok, Err, arith}
-use Rattle.std.specs.Prelude.{IfSome, OnOk}
+use Rattle.std.proofs.Common.{◌≡◌, ◌≤◌, ◌<◌, ℕ, List, [], ◌∷◌, ◌++◌, Bool, true, false, length, length-append, Option, None, Some, inl, inr, ⊎_elim, refl, sym, ap, subst, ◌∙◌, Result, Ok, Err, arith}
+use Rattle.std.specs.Prelude.{IfSome, OnOk, OnErr}
 use Rattle.std.specs.FinMap as map
 use Rattle.std.specs.List.{AllByRecursion, last_or}
 use Rattle.cfg_tree.specs.declared.limit.TheConstants.{MAX_EXPANDED}
@@ -23,10 +23,10 @@ use Rattle.session_history.specs.declared.history.Happened.{Happened}
 use Rattle.session_history.specs.Events.{Leads}
 use Rattle.session_history.specs.Kept.{WasKept}
 use Rattle.session_history.proofs.KeptLemmas.{WasKept-append, WasKept-last, WasKept-opening}
-use Rattle.active_snapshot.specs.States.{WriterState, first_written}
+use Rattle.active_snapshot.specs.States.{WriterState, all_published, first_written, with_kept}
 use Rattle.active_snapshot.specs.Views.{IsLast, with_proposal}
 use Rattle.config_db.specs.Writing.{flight_after, kept_after}
-use Rattle.config_db.specs.Shown.{CanFollow, CanFollowLast, IsShown, Keeps, Proposes, ProposesNext, PublishesLate, Shows, ShowsSettled, waiting_view}
+use Rattle.config_db.specs.Shown.{CanFollow, CanFollowLast, IsShown, Keeps, Proposes, ProposesNext, Shows, ShowsOn, ShowsSettled, waiting_view}
 use Rattle.config_db.proofs.AllLemmas.{All-append, All-map}
 use Rattle.config_db.proofs.MachineLemmas.{kept_settled}
 
@@ -45,9 +45,87 @@ last_is_one views one other is_one is_other = same_some one other (sym is_one �
 pub nothing_proposed : (first : State) (events : List Happened) (s : State) (w : WriterState) → Shows first events s w → s.flight ≡ None → w.proposal ≡ None
 nothing_proposed first events s w shows free = shows.proposed ∙ ap (waiting_view s.kept) free
 
--- what is kept where nothing waits is what was kept
-keeps_nothing : (w w' : WriterState) → w.proposal ≡ None → Keeps w w' → w'.list ≡ w.list
-keeps_nothing w w' none keeps = keeps.list ∙ ap (with_proposal w.list) none
+-- a writer with nothing that waits keeps what it kept
+kept_none : (w : WriterState) → w.proposal ≡ None → with_kept w ≡ w
+kept_none w none =
+    ap (λ (p : Option Kept). record w { list = with_proposal w.list p; proposal = None }) none ∙ ap (λ (p : Option Kept). record w { proposal = p }) (sym none)
+
+-- a late writer published all, or memory was wanting for that
+pub late_published : {E : Type 0} (result : Result (Unit {0}) E) (w w' : WriterState) → w.proposal ≡ None → OnOk result (w' ≡ all_published (with_kept w)) → OnOk result (w' ≡ all_published w)
+late_published (Ok done) w w' none is = is ∙ ap all_published (kept_none w none)
+late_published (Err fault) w w' none is = tt
+
+pub late_still : {E : Type 0} (result : Result (Unit {0}) E) (w w' : WriterState) → w.late ≡ true → w.proposal ≡ None → OnErr result (w' ≡ record (with_kept w) { late = true }) → OnErr result (w' ≡ w)
+late_still (Ok done) w w' late none is = tt
+late_still (Err fault) w w' late none is =
+    is ∙ ap (λ (x : WriterState). record x { late = true }) (kept_none w none) ∙ ap (λ (b : Bool). record w { late = b }) (sym late)
+
+-- a writer that isn't late has published all
+pub published_all : (w : WriterState) → w.late ≡ false → w.published ≡ length w.list → w ≡ all_published w
+published_all w late published = ap (λ (b : Bool). record w { late = b }) late ∙ ap (λ (n : ℕ). record w { late = false; published = n }) published
+
+-- what waits is kept, whether it could be published or not
+pub keeps_of : {E : Type 0} (result : Result (Unit {0}) E) (w w' : WriterState) → OnOk result (w' ≡ all_published (with_kept w))
+    → OnErr result (w' ≡ record (with_kept w) { late = true }) → Keeps w w'
+keeps_of (Ok done) w w' ok err =
+    let list : w'.list ≡ with_proposal w.list w.proposal = ap (λ (x : WriterState). x.list) ok in
+    record {
+      list = list;
+      proposal = ap (λ (x : WriterState). x.proposal) ok;
+      published = inr (ap (λ (x : WriterState). x.published) ok ∙ sym (ap length list));
+    }
+keeps_of (Err fault) w w' ok err = record {
+  list = ap (λ (x : WriterState). x.list) err;
+  proposal = ap (λ (x : WriterState). x.proposal) err;
+  published = inl (ap (λ (x : WriterState). x.published) err);
+}
+
+-- the same is shown
+pub still_shown : (w w' : WriterState) → w'.list ≡ w.list → w'.published ≡ w.published → ShowsOn w w'
+still_shown w w' list published = record { longer = omega (arith, ap length list); published = inl published }
+
+-- more is shown, and then more
+pub shown_further : (u v w : WriterState) → ShowsOn u v → ShowsOn v w → ShowsOn u w
+shown_further u v w first next = record {
+  longer = omega (arith, first.longer, next.longer);
+  published = ⊎_elim (λ same. ⊎_elim (λ before. inl (same ∙ before)) (λ all. inr (omega (arith, same, all))) first.published)
+      (λ all. inr (omega (arith, first.longer, all))) next.published;
+}
+
+longer_with : (views : List Kept) (proposal : Option Kept) → length views ≤ length (with_proposal views proposal)
+longer_with views None = omega arith
+longer_with views (Some next) = omega (arith, length-append views (next ∷ []))
+
+-- what waits is kept
+keeps_on : (w w' : WriterState) → Keeps w w' → ShowsOn w w'
+keeps_on w w' keeps =
+    let longer : length w.list ≤ length w'.list = omega (arith, ap length keeps.list, longer_with w.list w.proposal) in
+    record { longer = longer; published = ⊎_elim (λ same. inl same) (λ all. inr (omega (arith, all, longer))) keeps.published }
+
+proposed_on : (entry : Entry) (w ready : WriterState) → ProposesNext entry w ready → ShowsOn w ready
+proposed_on entry w ready next = still_shown w ready (ap (λ (x : WriterState). x.list) next.is) (ap (λ (x : WriterState). x.published) next.is)
+
+-- what an event makes was written
+pub written_on : (made : Option Made) (outcome : Outcome) (w w' : WriterState) → IsShown made outcome w w' → ShowsOn w w'
+written_on None outcome w w' shown =
+    let same = shown.publishes ∙ shown.proposes in
+    still_shown w w' (ap (λ (x : WriterState). x.list) same) (ap (λ (x : WriterState). x.published) same)
+written_on (Some made) Done w w' shown = shown_further w shown.ready w' (proposed_on made.entry w shown.ready shown.proposes) (keeps_on shown.ready w' shown.publishes)
+written_on (Some made) Fault w w' shown =
+    shown_further w shown.ready w' (proposed_on made.entry w shown.ready shown.proposes)
+    (still_shown shown.ready w' (ap (λ (x : WriterState). x.list) shown.publishes) (ap (λ (x : WriterState). x.published) shown.publishes))
+
+-- what was in flight was settled
+pub settled_on : (is_kept : Bool) (w w' : WriterState) → ShowsSettled is_kept w w' → ShowsOn w w'
+settled_on true w w' keeps = keeps_on w w' keeps
+settled_on false w w' withdrawn = still_shown w w' (ap (λ (x : WriterState). x.list) withdrawn) (ap (λ (x : WriterState). x.published) withdrawn)
+
+-- all that was kept was published first
+pub all_since : (w w' : WriterState) → ShowsOn (all_published w) w' → length w.list ≤ w'.published
+all_since w w' on = ⊎_elim (λ (same : w'.published ≡ length w.list). omega (arith, same)) (λ all. all) on.published
+
+pub shown_since : (w w' : WriterState) → ShowsOn (all_published w) w' → ShowsOn w w'
+shown_since w w' on = record { longer = on.longer; published = inr (all_since w w' on) }
 
 -- how a database begins to show
 pub shows_begin : (opening : Kept) (users : List (List ℕ)) → Shows (opening_of opening users) [] (opening_of opening users) (first_written opening)
@@ -84,13 +162,14 @@ module _ (first : State) where
     all_more : (more : List Happened) → AllByRecursion (WasKept first (events ++ more)) w.list
     all_more more = All-map (WasKept first events) (WasKept first (events ++ more)) w.list (λ view was. WasKept-append first events more view was) shows.all
 
-    -- a late writer published
-    pub shows_late : (w' : WriterState) → PublishesLate w w' → Shows first events s w'
-    shows_late w' (inl same) = subst (Shows first events s) (sym same) shows
-    shows_late w' (inr (late, keeps)) =
-        let free = shows.late late in
-        let none = nothing_proposed first events s w shows free in
-        shows_same_list events s s shows.more w w' shows.begins shows.last (keeps_nothing w w' none keeps) refl shows.all (keeps.proposal ∙ sym (ap (waiting_view s.kept) free)) (λ is. free)
+    -- nothing waits where the writer is late
+    pub late_waits : w.late ≡ true → w.proposal ≡ None
+    late_waits late = nothing_proposed first events s w shows (shows.late late)
+
+    -- all that is kept was published
+    pub shows_published : (w' : WriterState) → w' ≡ all_published w → Shows first events s w'
+    shows_published w' is =
+        subst (Shows first events s) (sym is) (shows_same_list events s s shows.more w (all_published w) shows.begins shows.last refl refl shows.all shows.proposed (λ late. absurd (cc)))
 
     -- events after which the same is kept and in flight
     pub shows_on : (more : List Happened) (s' : State) → s'.kept ≡ s.kept → s'.flight ≡ s.flight → Shows first (events ++ more) s' w

@@ -1,6 +1,6 @@
 -- What comes before a command, and what is answered.
-use Rattle.std.specs.Prelude.{◌≡◌, ◌≤◌, ℕ, Bool, List, [], ◌∷◌, ◌++◌, length, max, IsSome}
-use Rattle.commit_journal.specs.Journal.{disks_of}
+use Rattle.std.specs.Prelude.{◌≡◌, ◌≤◌, ◌⊎◌, ℕ, Bool, List, [], ◌∷◌, ◌++◌, length, max, IsSome}
+use Rattle.commit_journal.specs.Journal.{JournalView, disks_of}
 use Rattle.disk_model.specs.Pair.{FaultOnEither}
 use Rattle.commands.specs.declared.command.Command.{Command}
 use Rattle.config_core.specs.declared.event.Event.TheVariants.{Revert, Command as CommandOf}
@@ -19,6 +19,7 @@ use Rattle.config_db.specs.declared.answer.Ticked.{Ticked}
 use Rattle.config_db.specs.declared.answer.Ticked.TheVariants.{Nothing, Settled, Reverted, DiskFault, NoMemory as TickedNoMemory}
 use Rattle.config_db.specs.View.{DatabaseView}
 use Rattle.config_db.specs.Numbers.{calls_of}
+use Rattle.config_db.specs.Crash.{last_calls}
 use Rattle.config_db.specs.Moves.{Extends, Happens}
 
 -- nothing comes before a command at that moment
@@ -40,13 +41,22 @@ pub record IsOneSettling (own : List Happened) : Type 0 where
   pub settles : IsSettling one.event
   pub done : one.outcome ≡ Done
 
+-- no disk was called behind these events, and none at all where there are none
+pub record NoneCalledBehind (own : List Happened) (j j' : JournalView) : Type 0 where
+  pub none : own ≡ [] → j' ≡ j
+  pub calls : last_calls (calls_of j) own ≡ calls_of j'
+
+-- all that was kept before is published now, or memory was wanting for that and nothing was done
+abbrev pub PublishesFirst : Type 0 → DatabaseView → DatabaseView → Type 0
+PublishesFirst wanting v v' = (length v.shown.list ≤ v'.shown.published) ⊎ (wanting × (v' ≡ v))
+
 -- what was needed before a command, and what came of it
 abbrev pub Clears : ℕ → Ticked → List Happened → DatabaseView → DatabaseView → Type 0
 Clears moment Nothing own v v' = (own ≡ []) × IsClear moment v'
 Clears moment Settled own v v' = IsOneSettling own × IsClear moment v'
 Clears moment Reverted own v v' = EndsReverted own × IsClear moment v'
 Clears moment DiskFault own v v' = IsSome v'.state.flight × FaultOnEither (disks_of v.journal) (disks_of v'.journal)
-Clears moment TickedNoMemory own v v' = Unit {0}
+Clears moment TickedNoMemory own v v' = NoneCalledBehind own v.journal v'.journal
 
 -- what was needed before a command at that moment was done, in the name of that caller
 pub record MakesWay (caller moment : ℕ) (ticked : Ticked) (v v' : DatabaseView) : Type 0 where
@@ -97,6 +107,7 @@ pub record CatchesUp (caller moment : ℕ) (ticked : Ticked) (v v' : DatabaseVie
   pub extends : Extends caller moment own v v'
   pub no_command : NoCommand own
   pub clears : ClearsBehind moment ticked own v v'
+  pub quiet : NoneCalledBehind own v.journal v'.journal
   -- the greatest moment doesn't fall, and isn't a later one than that
   pub since : v.state.greatest ≤ v'.state.greatest
   pub no_later : v'.state.greatest ≤ moment
@@ -124,9 +135,15 @@ pub record IsAnswered (caller moment : ℕ) (command : Command) (place : ℕ) (r
   -- it has the numbers of calls that the journal tells
   pub calls : last.calls ≡ calls_of v'.journal
 
+-- a command for which memory was wanting is no event, and no disk was called since the last event of the call: what came of a
+-- disk's call is told by an event
+pub record IsUnasked (own : List Happened) (v v' : DatabaseView) : Type 0 where
+  pub no_command : NoCommand own
+  pub quiet : NoneCalledBehind own v.journal v'.journal
+
 abbrev pub IsAnswer : ℕ → ℕ → Command → Answered → List Happened → DatabaseView → DatabaseView → Type 0
 IsAnswer caller moment command (Kept place reply) own v v' = IsAnswered caller moment command place reply own v v'
-IsAnswer caller moment command NoMemory own v v' = NoCommand own
+IsAnswer caller moment command NoMemory own v v' = IsUnasked own v v'
 
 -- a command was asked
 pub record Answers (caller moment : ℕ) (command : Command) (answered : Answered)

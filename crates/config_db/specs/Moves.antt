@@ -10,15 +10,20 @@ use Rattle.config_core.specs.declared.event.Outcome.{Outcome}
 use Rattle.config_core.specs.declared.event.Outcome.TheVariants.{Done, Fault}
 use Rattle.config_core.specs.declared.reply.Reply.{Reply}
 use Rattle.config_core.specs.Machine.{Fits, Steps}
+use Rattle.config_core.specs.Plan.{Plan}
+use Rattle.config_core.specs.Prepared.{IsPrepared, applied}
 use Rattle.config_core.specs.Serving.{Turned}
 use Rattle.config_core.specs.State.{State}
 use Rattle.session_history.specs.declared.history.Happened.{Happened}
 use Rattle.session_history.specs.Events.{Leads, is_command, IsEventOf}
+use Rattle.config_db.specs.declared.answer.Before.{Before}
+use Rattle.config_db.specs.declared.answer.Before.TheVariants.{Settled, PutOff}
 use Rattle.config_db.specs.View.{DatabaseView, IsSameRun}
 use Rattle.config_db.specs.Numbers.{calls_of}
 use Rattle.config_db.specs.Crash.{BothCalled}
 use Rattle.config_db.specs.Disks.{GoesOn}
 use Rattle.config_db.specs.Faults.{FaultsAreCounted}
+use Rattle.config_db.specs.Shown.{ShowsOn}
 
 -- an event with its outcome is a step of the machine, with that reply
 pub record Turns (s : State) (caller moment : ℕ) (event : Event) (outcome : Outcome) (reply : Reply) (s' : State) : Type 0 where
@@ -44,6 +49,7 @@ pub record Happens (caller moment : ℕ) (event : Event) (outcome : Outcome) (re
   -- nothing is in flight where it was done, and an entry where it was not
   pub done : outcome ≡ Done → v'.state.flight ≡ None
   pub failed : outcome ≡ Fault → IsSome v'.state.flight
+  pub shown : ShowsOn v.shown v'.shown
 
 -- a disk failed before the entry in flight was settled: the journal was called, and all else is as before
 pub record IsUnsettled (v v' : DatabaseView) : Type 0 where
@@ -53,12 +59,26 @@ pub record IsUnsettled (v v' : DatabaseView) : Type 0 where
   pub goes : GoesOn v.journal v'.journal
   pub called : Tell v.journal → BothCalled v.journal v'.journal
   pub rose : FaultOnEither (disks_of v.journal) (disks_of v'.journal)
+  pub shown : v'.shown ≡ v.shown
+
+-- what was in flight was settled in the state, as it was found out
+pub record IsSettledBy (caller moment : ℕ) (is_kept : Bool) (s s' : State) : Type 0 where
+  pub plan : Plan
+  pub prepared : IsPrepared s caller moment (Settle is_kept) plan
+  pub is : s' ≡ applied plan Done s
 
 -- the entry in flight was settled, or it was not
 abbrev pub Settles : ℕ → ℕ → Outcome → DatabaseView → DatabaseView → Type 0
 Settles caller moment Done v v' =
     (is_kept : Bool) × (reply : Reply) × Happens caller moment (Settle is_kept) Done reply v v'
 Settles caller moment Fault v v' = IsUnsettled v v'
+
+-- what came of a settling before a command: it was settled, or a disk failed and the command, which is asked by that event, is put
+-- off
+abbrev pub SettlesBefore : ℕ → ℕ → Event → Before → DatabaseView → DatabaseView → Type 0
+SettlesBefore caller moment event (Settled back) v v' = (back ≡ event) × Settles caller moment Done v v'
+SettlesBefore caller moment event (PutOff reply) v v' =
+    (failed : DatabaseView) × IsUnsettled v failed × Happens caller moment event Fault reply failed v'
 
 -- an event has the outcome of a fault only where a disk's count of faults rose
 abbrev pub HasCause : JournalView → JournalView → Happened → Type 0
@@ -77,3 +97,4 @@ pub record Extends (caller moment : ℕ) (own : List Happened) (v v' : DatabaseV
   pub goes : GoesOn v.journal v'.journal
   -- the disks made the calls that are told, where they tell what they hold
   pub called : Tell v.journal → BothCalled v.journal v'.journal
+  pub shown : ShowsOn v.shown v'.shown

@@ -1,5 +1,5 @@
 -- What readers are shown of a database: the list that is kept, and never the entry in flight. This project's own.
-use Rattle.std.specs.Prelude.{◌≡◌, ◌⊎◌, Bool, true, false, List, ◌∷◌, Option, Some, None}
+use Rattle.std.specs.Prelude.{◌≡◌, ◌≤◌, ◌⊎◌, Bool, true, false, List, ◌∷◌, length, Option, Some, None}
 use Rattle.std.specs.List.{AllByRecursion}
 use Rattle.commit_check.specs.Accepts.{Accepts}
 use Rattle.commit_ledger.specs.declared.entry.Entry.{Entry}
@@ -52,10 +52,11 @@ abbrev pub Proposes : Option Made → WriterState → WriterState → Type 0
 Proposes None w w' = w' ≡ w
 Proposes (Some made) w w' = ProposesNext made.entry w w'
 
--- the view that waits is kept
+-- the view that waits is kept, and all are published, or none more than before
 pub record Keeps (w w' : WriterState) : Type 0 where
   pub list : w'.list ≡ with_proposal w.list w.proposal
   pub proposal : w'.proposal ≡ None
+  pub published : (w'.published ≡ w.published) ⊎ (w'.published ≡ length w'.list)
 
 -- what waits is kept once the entry is written, and waits on where a disk failed
 abbrev pub Publishes : Option Made → Outcome → WriterState → WriterState → Type 0
@@ -74,6 +75,7 @@ abbrev pub ShowsSettled : Bool → WriterState → WriterState → Type 0
 ShowsSettled true w w' = Keeps w w'
 ShowsSettled false w w' = w' ≡ record w { proposal = None }
 
--- a writer that was late published what was kept
-abbrev pub PublishesLate : WriterState → WriterState → Type 0
-PublishesLate w w' = (w' ≡ w) ⊎ ((w.late ≡ true) × Keeps w w')
+-- no view is lost, and none that was published is taken back: as many are published as before, or at least all that were kept then
+pub record ShowsOn (w w' : WriterState) : Type 0 where
+  pub longer : length w.list ≤ length w'.list
+  pub published : (w'.published ≡ w.published) ⊎ (length w.list ≤ w'.published)

@@ -1,4 +1,4 @@
-use config_core::Reply;
+use config_core::{Event, Reply};
 use session_history::History;
 
 /// The answer to a command.
@@ -23,6 +23,15 @@ pub enum Ticked {
     DiskFault,
     /// What was needed is not all done.
     NoMemory,
+}
+
+/// What came of a settling before a command is asked by that event.
+#[derive(Debug, Drop)]
+pub(crate) enum Before {
+    /// Nothing is in flight, and the event is still to come.
+    Settled(Event),
+    /// A disk failed, and the command is put off with that reply.
+    PutOff(Reply),
 }
 
 /// What is left of a database.

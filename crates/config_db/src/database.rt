@@ -6,7 +6,7 @@ ghost use Rattle.session_history.specs.Events.{IsLegal, StaysAccepted};
 ghost use Rattle.active_snapshot.specs.Views.{AreViews};
 ghost use Rattle.config_db.specs.View.{AreParts, opened};
 ghost use Rattle.config_db.specs.Shown.{Shows};
-ghost use Rattle.config_db.specs.Answers.{Answers, MakesWay, moment_at};
+ghost use Rattle.config_db.specs.Answers.{Answers, MakesWay, PublishesFirst, moment_at};
 ghost use Rattle.config_db.specs.Closing.{IsClosed};
 
 use crate::answer::{Answered, ClosedBook, Ticked};
@@ -92,21 +92,17 @@ impl<D: Disk, J: Naming> Database<D, J> {
     ) -> Answered
         requires caller { (0 < caller) × (caller ≤ length self.old.users) }
         requires sound { IsSound command }
-        ensures { Answers caller (moment_at moment self.old) command result self.old self.new }
+        ensures answers { Answers caller (moment_at moment self.old) command result self.old self.new }
+        ensures shown { PublishesFirst (result ≡ Answered.NoMemory) self.old self.new }
     {
         let moment = moment.later(self.core.greatest());
-        match self.make_way(rt, caller, moment) {
-            Ticked::NoMemory => Answered::NoMemory,
-            Ticked::DiskFault => self.put_off(caller, moment, command),
-            Ticked::Nothing | Ticked::Settled | Ticked::Reverted => {
-                self.command(rt, caller, moment, command)
-            }
-        }
+        self.publish_and_answer(rt, caller, moment, command)
     }
 
     /// Looks at the time: settles and reverts where that is needed, as nobody's command.
     pub fn tick<R: Wait>(&mut self, rt: &R, moment: Moment) -> Ticked
-        ensures { MakesWay 0 (moment_at moment self.old) result self.old self.new }
+        ensures way { MakesWay 0 (moment_at moment self.old) result self.old self.new }
+        ensures shown { PublishesFirst (result ≡ Ticked.NoMemory) self.old self.new }
     {
         let moment = moment.later(self.core.greatest());
         self.make_way(rt, 0, moment)

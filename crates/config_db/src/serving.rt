@@ -6,14 +6,14 @@ ghost use Rattle.disk_model.specs.Pair.{FaultOnEither};
 ghost use Rattle.commands.specs.Sound.{IsSound};
 ghost use Rattle.config_core.specs.declared.event.Outcome.TheVariants.{Fault};
 ghost use Rattle.config_core.specs.Machine.{Fits, Missed, waiting_of};
-ghost use Rattle.config_db.specs.Moves.{Happens, Settles};
-ghost use Rattle.config_db.specs.Answers.{CatchesUp, IsClear, MakesWay, Reverts, Takes, reverted_as};
+ghost use Rattle.config_db.specs.Moves.{Happens, Settles, SettlesBefore};
+ghost use Rattle.config_db.specs.Answers.{Answers, CatchesUp, IsClear, MakesWay, PublishesFirst, Reverts, Takes, reverted_as};
 ghost use Rattle.session_history.specs.Events.{is_command};
 
-use crate::answer::{Answered, Ticked};
+use crate::answer::{Answered, Before, Ticked};
 use crate::database::Database;
 use crate::showing::{publish_late, show_settled, write_shown};
-use crate::turning::{let_go, note, prepare, settling, unwritten};
+use crate::turning::{note, note_settling, prepare, unasked, unneeded, unwritten};
 use crate::writing::find_out;
 use active_snapshot::Naming;
 use cfg_base::{Moment, NoMemory};
@@ -87,16 +87,15 @@ impl<D: Disk, J: Naming> Database<D, J> {
             None => Outcome::Fault,
             Some(is_kept) => {
                 show_settled(rt, &mut self.shown, is_kept);
-                let event = Event::Settle(is_kept);
-                let prepared = settling(&self.core, caller, moment, &event);
-                let happened = Happened {
+                let calls = self.journal.calls();
+                note_settling(
+                    &mut self.core,
+                    &mut self.events,
                     caller,
                     moment,
-                    event,
-                    outcome: Outcome::Done,
-                    calls: self.journal.calls(),
-                };
-                let_go(note(&mut self.core, &mut self.events, prepared, happened));
+                    is_kept,
+                    calls,
+                );
                 Outcome::Done
             }
         }
@@ -153,14 +152,17 @@ impl<D: Disk, J: Naming> Database<D, J> {
     /// Does what comes before a command at a moment. What could not be published before is published first.
     pub(crate) fn make_way<R: Wait>(&mut self, rt: &R, caller: u32, moment: Moment) -> Ticked
         requires { self.old.state.greatest ≤ moment }
-        ensures { MakesWay caller moment result self.old self.new }
+        ensures way { MakesWay caller moment result self.old self.new }
+        ensures shown { PublishesFirst (result ≡ Ticked.NoMemory) self.old self.new }
     {
-        publish_late(rt, &mut self.shown);
-        self.clear(rt, caller, moment)
+        match publish_late(rt, &mut self.shown) {
+            Err(NoMemory) => Ticked::NoMemory,
+            Ok(()) => self.clear(rt, caller, moment),
+        }
     }
 
-    /// Does a command that nothing comes before.
-    pub(crate) fn command<R: Wait>(
+    // Does a command that nothing comes before.
+    fn command<R: Wait>(
         &mut self,
         rt: &R,
         caller: u32,
@@ -210,8 +212,8 @@ impl<D: Disk, J: Naming> Database<D, J> {
         }
     }
 
-    /// Answers a command that isn't done because an entry is in flight.
-    pub(crate) fn put_off(&mut self, caller: u32, moment: Moment, command: Command) -> Answered
+    // Answers a command that isn't done because an entry is in flight.
+    fn put_off(&mut self, caller: u32, moment: Moment, command: Command) -> Answered
         requires caller { (0 < caller) × (caller ≤ length self.old.users) }
         requires sound { IsSound command }
         requires flying { IsSome self.old.state.flight }
@@ -222,6 +224,137 @@ impl<D: Disk, J: Naming> Database<D, J> {
         match self.note_put_off(caller, moment, Event::Command(command)) {
             Err(NoMemory) => Answered::NoMemory,
             Ok(reply) => Answered::Kept { place, reply },
+        }
+    }
+
+    // Settles what is in flight before a command. Where a disk fails the command is put off, for which all is made ready before a
+    // disk is called.
+    fn settle_or_put_off<R: Wait>(
+        &mut self,
+        rt: &R,
+        caller: u32,
+        moment: Moment,
+        event: Event,
+    ) -> Result<Before, NoMemory>
+        requires asks { is_command event ≡ true }
+        requires fits { Fits self.old.state caller moment event }
+        requires flying { IsSome self.old.state.flight }
+        ensures ok { IfOk result (λ before. SettlesBefore caller moment event before self.old self.new) }
+        ensures err { OnErr result (self.new ≡ self.old) }
+    {
+        histories_have_one_outcome();
+        // One place more for the settling.
+        self.events.reserve(2)?;
+        match self.core.prepare(caller, moment, &event) {
+            Err(NoMemory) => Err(NoMemory),
+            Ok(prepared) => match find_out(&mut self.journal) {
+                None => {
+                    let happened = Happened {
+                        caller,
+                        moment,
+                        event,
+                        outcome: Outcome::Fault,
+                        calls: self.journal.calls(),
+                    };
+                    let reply = note(&mut self.core, &mut self.events, prepared, happened);
+                    Ok(Before::PutOff(reply))
+                }
+                Some(is_kept) => {
+                    show_settled(rt, &mut self.shown, is_kept);
+                    let calls = self.journal.calls();
+                    note_settling(
+                        &mut self.core,
+                        &mut self.events,
+                        caller,
+                        moment,
+                        is_kept,
+                        calls,
+                    );
+                    unneeded(prepared);
+                    Ok(Before::Settled(event))
+                }
+            },
+        }
+    }
+
+    // Answers a command with nothing in flight.
+    fn answer_at_rest<R: Wait>(
+        &mut self,
+        rt: &R,
+        caller: u32,
+        moment: Moment,
+        command: Command,
+    ) -> Answered
+        requires caller { (0 < caller) × (caller ≤ length self.old.users) }
+        requires sound { IsSound command }
+        requires free { self.old.state.flight ≡ None }
+        requires no_earlier { self.old.state.greatest ≤ moment }
+        ensures { Answers caller moment command result self.old self.new }
+    {
+        match self.catch_up(rt, caller, moment) {
+            Ticked::NoMemory => Answered::NoMemory,
+            Ticked::DiskFault => self.put_off(caller, moment, command),
+            Ticked::Nothing | Ticked::Settled | Ticked::Reverted => {
+                self.command(rt, caller, moment, command)
+            }
+        }
+    }
+
+    // Answers a command while an entry is in flight. Where a disk fails it is put off.
+    fn answer_in_flight<R: Wait>(
+        &mut self,
+        rt: &R,
+        caller: u32,
+        moment: Moment,
+        command: Command,
+    ) -> Answered
+        requires caller { (0 < caller) × (caller ≤ length self.old.users) }
+        requires sound { IsSound command }
+        requires flying { IsSome self.old.state.flight }
+        requires no_earlier { self.old.state.greatest ≤ moment }
+        ensures { Answers caller moment command result self.old self.new }
+    {
+        let place = self.events.len() as u64;
+        match self.settle_or_put_off(rt, caller, moment, Event::Command(command)) {
+            Err(NoMemory) => Answered::NoMemory,
+            Ok(Before::PutOff(reply)) => Answered::Kept { place, reply },
+            Ok(Before::Settled(Event::Command(command))) => {
+                self.answer_at_rest(rt, caller, moment, command)
+            }
+            Ok(Before::Settled(_)) => unreachable!(),
+        }
+    }
+
+    // Answers a command, behind what comes before it.
+    fn answer<R: Wait>(&mut self, rt: &R, caller: u32, moment: Moment, command: Command) -> Answered
+        requires caller { (0 < caller) × (caller ≤ length self.old.users) }
+        requires sound { IsSound command }
+        requires no_earlier { self.old.state.greatest ≤ moment }
+        ensures { Answers caller moment command result self.old self.new }
+    {
+        match self.core.next(moment) {
+            Need::Settle => self.answer_in_flight(rt, caller, moment, command),
+            Need::Revert | Need::Nothing => self.answer_at_rest(rt, caller, moment, command),
+        }
+    }
+
+    /// Publishes what could not be published before, and then answers a command.
+    pub(crate) fn publish_and_answer<R: Wait>(
+        &mut self,
+        rt: &R,
+        caller: u32,
+        moment: Moment,
+        command: Command,
+    ) -> Answered
+        requires caller { (0 < caller) × (caller ≤ length self.old.users) }
+        requires sound { IsSound command }
+        requires no_earlier { self.old.state.greatest ≤ moment }
+        ensures answers { Answers caller moment command result self.old self.new }
+        ensures shown { PublishesFirst (result ≡ Answered.NoMemory) self.old self.new }
+    {
+        match publish_late(rt, &mut self.shown) {
+            Err(NoMemory) => unasked(command),
+            Ok(()) => self.answer(rt, caller, moment, command),
         }
     }
 }

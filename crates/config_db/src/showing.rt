@@ -4,18 +4,19 @@
 //! 2. It is kept once the entry is known to be on the disks, and withdrawn once it is known not to be. While the entry is in flight
 //!    it waits.
 //! 3. What is kept is published. Where memory is wanting for that the writer is late: the entry is answered all the same, and the
-//!    next turn publishes first.
+//!    next turn publishes first, or does nothing.
 
-ghost use Rattle.std.specs.Prelude.{◌≡◌, IfOk, IfSome, OnOk, OnErr, None};
+ghost use Rattle.std.specs.Prelude.{◌≡◌, true, IfOk, IfSome, OnOk, OnErr, None};
 ghost use Rattle.cfg_tree.specs.Full.{IsWithin};
 ghost use Rattle.group_expand.specs.Expansion.{IsExpansion};
 ghost use Rattle.commit_check.specs.Accepts.{Accepts};
 ghost use Rattle.commit_journal.specs.Journal.{IsIdle};
 ghost use Rattle.commit_ledger.specs.Kept.{BringsMap, append_entry};
 ghost use Rattle.active_snapshot.specs.Expanded.{ComesWith};
+ghost use Rattle.active_snapshot.specs.States.{all_published};
 ghost use Rattle.config_core.specs.Plan.{Expands, ExpandsMade, made_in};
 ghost use Rattle.config_db.specs.Writing.{IsWritable, IsWritten};
-ghost use Rattle.config_db.specs.Shown.{CanFollow, CanFollowLast, IsShown, Keeps, Proposes, ProposesNext, Publishes, PublishesLate, ShowsSettled};
+ghost use Rattle.config_db.specs.Shown.{CanFollow, CanFollowLast, IsShown, Keeps, Proposes, ProposesNext, Publishes, ShowsSettled};
 
 use crate::writing::write;
 use active_snapshot::{Naming, Shown, SnapWriter};
@@ -203,10 +204,17 @@ pub(crate) fn show_settled<J: Naming, R: Wait>(rt: &R, shown: &mut SnapWriter<J>
 }
 
 /// Publishes what was kept while memory was wanting.
-pub(crate) fn publish_late<J: Naming, R: Wait>(rt: &R, shown: &mut SnapWriter<J>)
-    ensures { PublishesLate shown.old shown.new }
+pub(crate) fn publish_late<J: Naming, R: Wait>(
+    rt: &R,
+    shown: &mut SnapWriter<J>,
+) -> Result<(), NoMemory>
+    requires { shown.old.late ≡ true → shown.old.proposal ≡ None }
+    ensures ok { OnOk result (shown.new ≡ all_published shown.old) }
+    ensures err { OnErr result (shown.new ≡ shown.old) }
 {
     if shown.is_late() {
-        keep(rt, shown);
+        shown.keep(rt)
+    } else {
+        Ok(())
     }
 }

@@ -1,13 +1,18 @@
 //! Steps of the machine.
 
-ghost use Rattle.std.specs.Prelude.{◌≡◌, ◌<◌, ◌+◌, ◌++◌, ◌∷◌, [], IfOk, IfSome};
+ghost use Rattle.std.specs.Prelude.{◌≡◌, ◌<◌, ◌≤◌, ◌+◌, ◌++◌, ◌∷◌, [], IfOk, IfSome, IsSome};
+ghost use Rattle.config_core.specs.declared.event.Event.TheVariants.{Settle};
+ghost use Rattle.config_core.specs.declared.event.Outcome.TheVariants.{Done};
 ghost use Rattle.config_core.specs.Machine.{Fits};
 ghost use Rattle.config_core.specs.Plan.{ExpandsMade};
 ghost use Rattle.config_core.specs.Prepared.{Follows, IsPrepared, IsSettling, applied, replied};
+ghost use Rattle.config_db.specs.Moves.{IsSettledBy, noted};
 
-use cfg_base::{Moment, NoMemory};
+use crate::answer::Answered;
+use cfg_base::{Calls, Moment, NoMemory};
 use cfg_tree::Full;
-use config_core::{Core, Event, Prepared, Reply};
+use commands::Command;
+use config_core::{Core, Event, Outcome, Prepared, Reply};
 use session_history::Happened;
 use trace_list::Trace;
 
@@ -58,6 +63,43 @@ pub(crate) fn settling(core: &Core, caller: u32, moment: Moment, event: &Event) 
 {
     core.prepare(caller, moment, event).unwrap()
 }
+
+/// Carries the settling of what is in flight out, as it was found out, and notes it. It takes no memory.
+pub(crate) fn note_settling(
+    core: &mut Core,
+    events: &mut Trace<Happened>,
+    caller: u32,
+    moment: Moment,
+    is_kept: bool,
+    calls: Calls,
+)
+    requires flying { IsSome core.old.flight }
+    requires no_earlier { core.old.greatest ≤ moment }
+    requires room { 0 < events.old.spare }
+    ensures state { IsSettledBy caller moment is_kept core.old core.new }
+    ensures events { events.new.items ≡ events.old.items ++ noted caller moment (Settle is_kept) Done calls ∷ [] }
+{
+    let event = Event::Settle(is_kept);
+    let prepared = settling(core, caller, moment, &event);
+    let happened = Happened {
+        caller,
+        moment,
+        event,
+        outcome: Outcome::Done,
+        calls,
+    };
+    let_go(note(core, events, prepared, happened));
+}
+
+/// Lets go of a command for whose answer memory was wanting.
+pub(crate) fn unasked(_command: Command) -> Answered
+    ensures { result ≡ Answered.NoMemory }
+{
+    Answered::NoMemory
+}
+
+/// Lets go of a step that isn't needed.
+pub(crate) fn unneeded(_prepared: Prepared) {}
 
 /// Lets go of a reply that nobody hears.
 pub(crate) fn let_go(_reply: Reply) {}

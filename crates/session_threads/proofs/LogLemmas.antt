@@ -105,7 +105,7 @@ places caller moment command (Kept place reply) own v v' made given =
     ∙ ap (λ p. p ∷ []) at_end)
 places caller moment command NoMemory own v v' made given =
     places_of-append caller v.events own
-    ∙ ap (λ l. places_of caller v.events ++ l) (no_places (length v.events) caller own given)
+    ∙ ap (λ l. places_of caller v.events ++ l) (no_places (length v.events) caller own given.no_command)
 
 -- what a turn's own events are
 turned : (caller moment : ℕ) (command : Command) (answered : Answered) (own : List Happened) (v v' : DatabaseView)
@@ -125,7 +125,7 @@ turned caller moment command (Kept place reply) own v v' grown given = record {
     length-append v.events given.front,
   );
 }
-turned caller moment command NoMemory own v v' grown given = given
+turned caller moment command NoMemory own v v' grown given = given.no_command
 
 -- a copy of what is kept is the last of a list whose last one that is
 pub IsLast-again : {V : Type 0} (value : V → KeptList) (list : List KeptList) (view : Option V) (last kept : KeptList)

@@ -11,4 +11,4 @@ propose-requires-clause-next g c =
 pub returns-clause-ok : goal.returns-clause-ok
 returns-clause-ok g c =
     let last = subst (λ v. IsLast c.args.shown.now.list v) (sym c.deref.ensures) c.view.ensures.last in
-    proposes_next c.propose.result c.args.entry.now c.args.shown.now c.propose.new.self c.deref.result.now c.in_ok-next.next (sym c.is_late.ensures ∙ c.if-is_late.false) last c.in_ok-next.ensures c.propose.ensures.ok
+    proposes_next c.propose.result c.args.entry.now c.args.shown.now c.propose.new.self c.deref.result.now c.in_ok-next.next (sym c.is_late.ensures.late ∙ c.if-is_late.false) last c.in_ok-next.ensures c.propose.ensures.ok

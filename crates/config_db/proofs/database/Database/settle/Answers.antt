@@ -2,6 +2,7 @@ use Rattle.std.proofs.Common.{◌≤◌, refl, is_some, sym, ap, subst}
 use Rattle.std.specs.Prelude.{IsSome}
 use Rattle.config_core.specs.declared.event.Event.TheVariants.{Settle}
 use Rattle.config_core.specs.declared.event.Outcome.TheVariants.{Done}
+use Rattle.config_core.specs.Prepared.{replied}
 use Rattle.config_db.specs.Moves.{Happens, IsUnsettled}
 use Rattle.config_db.proofs.NumberLemmas.{calls_is}
 use Rattle.config_db.proofs.EventLemmas.{next, settled_so, unsettled_book, unsettled_so}
@@ -18,23 +19,21 @@ invariant_of-self g c =
 pub invariant_of-self-in-Some : goal.invariant_of-self-in-Some
 invariant_of-self-in-Some g c =
     let i = c.self.inside in
-    let some = subst (λ v. IsSome v.state.flight) (sym c.self.view_is) c.requires.flying in
-    let comes = settled_so (record { journal = i.journal; opening = i.opening; users = i.users; events = i.events.items; state = i.core; shown = i.shown; readers = i.readers }) c.self.invariant.0 (λ events s t. c.histories_have_one_outcome.ensures.state i.opening i.users events s t) some c.find_out.new.journal c.note.new.events.items c.note.new.core c.show_settled.new.shown c.args.caller c.args.moment c.in-Some.is_kept c.note.result
-    c.calls.result c.settling-prepared.result (subst (λ v. v.state.greatest ≤ c.args.moment) (sym c.self.view_is) c.requires.no_earlier) c.settling-prepared.ensures c.in-Some.ensures c.show_settled.ensures
-    (calls_is c.find_out.new.journal c.calls.result c.calls.ensures.a c.calls.ensures.b) c.note.ensures.state c.note.ensures.reply c.note.ensures.events in
+    let comes = settled_so (record { journal = i.journal; opening = i.opening; users = i.users; events = i.events.items; state = i.core; shown = i.shown; readers = i.readers }) c.self.invariant.0 (λ events s t. c.histories_have_one_outcome.ensures.state i.opening i.users events s t) (subst (λ v. IsSome v.state.flight) (sym c.self.view_is) c.requires.flying) c.find_out.new.journal c.note_settling.new.events.items c.note_settling.new.core c.show_settled.new.shown c.args.caller c.args.moment c.in-Some.is_kept
+    c.calls-calls.result (subst (λ v. v.state.greatest ≤ c.args.moment) (sym c.self.view_is) c.requires.no_earlier) c.in-Some.ensures c.show_settled.ensures
+    (calls_is c.find_out.new.journal c.calls-calls.result c.calls-calls.ensures.a c.calls-calls.ensures.b) c.note_settling.ensures.state c.note_settling.ensures.events in
     (comes.book, λ flying. absurd (let none = ap is_some (comes.happens.done refl) in cc))
 
 pub returns-in-Some : goal.returns-in-Some
 returns-in-Some g c =
     let i = c.self.inside in
-    let some = subst (λ v. IsSome v.state.flight) (sym c.self.view_is) c.requires.flying in
-    let comes = settled_so (record { journal = i.journal; opening = i.opening; users = i.users; events = i.events.items; state = i.core; shown = i.shown; readers = i.readers }) c.self.invariant.0 (λ events s t. c.histories_have_one_outcome.ensures.state i.opening i.users events s t) some c.find_out.new.journal c.note.new.events.items c.note.new.core c.show_settled.new.shown c.args.caller c.args.moment c.in-Some.is_kept c.note.result
-    c.calls.result c.settling-prepared.result (subst (λ v. v.state.greatest ≤ c.args.moment) (sym c.self.view_is) c.requires.no_earlier) c.settling-prepared.ensures c.in-Some.ensures c.show_settled.ensures
-    (calls_is c.find_out.new.journal c.calls.result c.calls.ensures.a c.calls.ensures.b) c.note.ensures.state c.note.ensures.reply c.note.ensures.events in (
+    let comes = settled_so (record { journal = i.journal; opening = i.opening; users = i.users; events = i.events.items; state = i.core; shown = i.shown; readers = i.readers }) c.self.invariant.0 (λ events s t. c.histories_have_one_outcome.ensures.state i.opening i.users events s t) (subst (λ v. IsSome v.state.flight) (sym c.self.view_is) c.requires.flying) c.find_out.new.journal c.note_settling.new.events.items c.note_settling.new.core c.show_settled.new.shown c.args.caller c.args.moment c.in-Some.is_kept
+    c.calls-calls.result (subst (λ v. v.state.greatest ≤ c.args.moment) (sym c.self.view_is) c.requires.no_earlier) c.in-Some.ensures c.show_settled.ensures
+    (calls_is c.find_out.new.journal c.calls-calls.result c.calls-calls.ensures.a c.calls-calls.ensures.b) c.note_settling.ensures.state c.note_settling.ensures.events in (
       c.in-Some.is_kept,
-      c.note.result,
-      subst (λ v. Happens c.args.caller c.args.moment (Settle c.in-Some.is_kept) Done c.note.result v
-          (next (record { journal = i.journal; opening = i.opening; users = i.users; events = i.events.items; state = i.core; shown = i.shown; readers = i.readers }) c.find_out.new.journal c.note.new.events.items c.note.new.core c.show_settled.new.shown)) c.self.view_is comes.happens,
+      replied c.note_settling.ensures.state.plan.effect c.note_settling.ensures.state.plan.reply Done,
+      subst (λ v. Happens c.args.caller c.args.moment (Settle c.in-Some.is_kept) Done (replied c.note_settling.ensures.state.plan.effect c.note_settling.ensures.state.plan.reply Done) v
+          (next (record { journal = i.journal; opening = i.opening; users = i.users; events = i.events.items; state = i.core; shown = i.shown; readers = i.readers }) c.find_out.new.journal c.note_settling.new.events.items c.note_settling.new.core c.show_settled.new.shown)) c.self.view_is comes.happens,
     )
 
 pub returns-in-None : goal.returns-in-None

@@ -11,8 +11,8 @@ use Rattle.session_threads.proofs.deeds.AskDeedServed.act.Goals as goal
 
 pub invariant_of-served : goal.invariant_of-served
 invariant_of-served g c =
-    IsUnderway-then _ _ c.step-answered.ensures.own c.served.inside.first c.served.inside.database
-    c.step-answered.new.self c.step-answered.ensures.extends (record {
+    IsUnderway-then _ _ c.step-answered.ensures.answers.own c.served.inside.first c.served.inside.database
+    c.step-answered.new.self c.step-answered.ensures.answers.extends (record {
       fresh = c.served.invariant.fresh;
       leads = c.served.invariant.leads;
       adds = c.served.invariant.adds;
@@ -22,8 +22,8 @@ pub returns-clause-adds : goal.returns-clause-adds
 returns-clause-adds g c =
     subst (λ (s : ServedView). AddsOwn caller_in c.args.caller s.database.events c.step-answered.new.self.events)
     c.served.view_is
-    (AddsOwn-of c.args.caller _ c.step-answered.ensures.own c.served.inside.first c.served.inside.database
-    c.step-answered.new.self c.step-answered.ensures.extends)
+    (AddsOwn-of c.args.caller _ c.step-answered.ensures.answers.own c.served.inside.first c.served.inside.database
+    c.step-answered.new.self c.step-answered.ensures.answers.extends)
 
 pub returns-clause-says : goal.returns-clause-says
 returns-clause-says g c =
@@ -32,7 +32,7 @@ returns-clause-says g c =
     × (TellsKept (opened s.first) c.step-answered.new.self.events c.note-note.result.list
     × IfSome c.again-view.result (λ view. IsLast c.note-note.result.list (arc_value view)))) c.served.view_is (
       FollowsAlone-of c.served.inside.first c.served.inside.database c.step-answered.new.self
-          c.args.caller c.args.self.moment c.args.self.command c.step-answered.result c.served.invariant.leads c.step-answered.ensures,
+          c.args.caller c.args.self.moment c.args.self.command c.step-answered.result c.served.invariant.leads c.step-answered.ensures.answers,
       (
         subst (λ l. TellsKept (opened c.served.inside.first) c.step-answered.new.self.events l) (sym c.note-note.ensures.list)
             (TellsKept-of c.served.inside.first c.step-answered.new.self (invariant_of-served g c)
