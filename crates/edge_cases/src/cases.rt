@@ -4,7 +4,7 @@ use crate::files::{ALICE, make_files, put_byte, remove_files, say_kept, say_leng
 use crate::runs::{Standard, say_failing, say_run};
 use disk_model::{Disk, FileDisk};
 use io_edge::{Sink, Source, StdSink, StdSource};
-use std::fs::File;
+use std::fs::{File, OpenOptions};
 use std::os::fd::AsRawFd;
 use std::rt::{Clock, Files};
 use std::sync::Wait;
@@ -51,6 +51,32 @@ where
     say_text(rt, "edge/bob.out")?;
     say_run(rt, "check edge", standard)?;
     say_run(rt, "serve edge", standard)
+}
+
+/// A second service over a journal that is served: it is refused, and opens no file of its sessions; a check isn't. Once the
+/// first one has ended, it is served.
+fn say_in_use<R>(rt: &R, standard: Standard) -> io::Result<()>
+where
+    R: Threads
+        + Wait
+        + Sync
+        + Send
+        + Clock
+        + Files<File = File>
+        + Print
+        + AllocGlobal
+        + Clone
+        + Drop,
+{
+    let other = OpenOptions::new().read(true).open(rt, "edge/journal.a")?;
+    other.try_lock()?;
+    say_run(rt, "serve edge dave:edge/dave", standard)?;
+    let opened = fs::exists(rt, "edge/dave.out")?;
+    println!(rt; "edge/dave.out was made: {opened}")?;
+    say_run(rt, "check edge", standard)?;
+    drop(other);
+    say_run(rt, "serve edge dave:edge/dave", standard)?;
+    say_text(rt, "edge/dave.out")
 }
 
 /// A commit the last of whose syncs fails, and all syncs behind it: its entry stays in flight, and stands in the file.
@@ -188,6 +214,7 @@ where
     make_files(rt)?;
     say_made(rt, standard)?;
     say_sessions(rt, standard)?;
+    say_in_use(rt, standard)?;
     say_fault(rt, standard)?;
     say_failing_sessions(rt, standard)?;
     say_refused(rt, standard)?;

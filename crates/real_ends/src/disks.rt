@@ -1,5 +1,6 @@
 //! The disks of a list of commits: two files of a folder, or none.
 
+use crate::claim::{Claim, claim_file};
 use cfg_base::{NoMemory, Word};
 use disk_model::{FileDisk, MemDisk};
 use std::alloc::Global;
@@ -22,6 +23,15 @@ fn paths_in(alloc: Global, folder: &Word) -> Result<(String, String), NoMemory> 
     let a = path_in(alloc, folder, "/journal.a")?;
     let b = path_in(alloc, folder, "/journal.b")?;
     Ok((a, b))
+}
+
+/// Claims the journal of a folder for this service.
+pub fn claim_journal<R: Files<File = File> + AllocGlobal>(
+    rt: &R,
+    folder: &Word,
+) -> Result<Claim, NoMemory> {
+    let (a, _) = paths_in(rt.alloc(), folder)?;
+    Ok(claim_file(rt, a.as_str()))
 }
 
 /// Makes the entries of new files last, where the system lets a folder be synced.

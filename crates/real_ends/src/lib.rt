@@ -7,6 +7,7 @@
 //! program (`confd`). That terminals, files and clocks behave as their adapters say is trusted.
 #![tactic(auto)]
 
+mod claim;
 mod disks;
 mod edges;
 mod pace;

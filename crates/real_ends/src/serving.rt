@@ -5,7 +5,8 @@ ghost use Rattle.command_line.specs.Asked.{Asks};
 ghost use Rattle.command_line.specs.declared.asked.Asked.{Asked};
 ghost use Rattle.service.specs.Run.{AreEnds, IsAsking};
 
-use crate::disks::{make_disks, no_disks, open_disks};
+use crate::claim::Claim;
+use crate::disks::{claim_journal, make_disks, no_disks, open_disks};
 use crate::edges::{StdEnd, ends_of};
 use crate::pace::Pace;
 use crate::telling::Came;
@@ -53,6 +54,7 @@ where
     Ok(Came {
         status: closed.status,
         why: closed.why,
+        in_use: false,
     })
 }
 
@@ -78,7 +80,56 @@ where
     }
 }
 
-/// Does what the words ask, and tells what came of it. A session that is over no file is over this input and output.
+/// A run that was not begun, since another service has the journal.
+fn in_use() -> Came
+    ensures { result.status ≡ 4 }
+{
+    Came {
+        status: 4,
+        why: StartWhy0::None,
+        in_use: true,
+    }
+}
+
+/// What a mode claims before anything is opened: to serve is to write, and nobody else may.
+fn claim_for<R: Files<File = File> + AllocGlobal>(
+    rt: &R,
+    asked: &Asked,
+) -> Result<Claim, NoMemory> {
+    match asked.mode {
+        RunMode::Serve => claim_journal(rt, &asked.place),
+        RunMode::Init | RunMode::Check | RunMode::Gen => Ok(Claim::Unlocked),
+    }
+}
+
+/// Does what is asked, where no other service has the journal. The claim stands until the run has ended.
+fn serve_claimed<R, I, O>(
+    rt: &R,
+    words: &Words,
+    asked: &Asked,
+    input: I,
+    output: O,
+) -> Result<Came, NoMemory>
+where
+    R: Threads + Wait + Sync + Send + Clock + Files<File = File> + AllocGlobal + Clone + Drop,
+    I: Read + Drop + Send,
+    O: Write + Drop + Send,
+    requires asks { Asks words.now asked.now }
+    ensures usage { IfOk result (λ came. (came.status ≡ 1) ↔ ((came.status ≢ 9) × (IsAsking words.now → ⊥))) }
+{
+    match claim_for(rt, asked)? {
+        Claim::Taken => Ok(in_use()),
+        Claim::Held(file) => {
+            let came = run_asked(rt, words, asked, ends_of(rt, asked, input, output)?);
+            drop(file);
+            came
+        }
+        Claim::Unlocked => run_asked(rt, words, asked, ends_of(rt, asked, input, output)?),
+    }
+}
+
+/// Does what the words ask, and tells what came of it. A session that is over no file is over this input and output. Where
+/// another service has the journal that is to be served, nothing is begun: no file of a session is opened.
 pub fn serve<R, I, O>(rt: &R, words: &Words, input: I, output: O) -> Result<Came, NoMemory>
 where
     R: Threads + Wait + Sync + Send + Clock + Files<File = File> + AllocGlobal + Clone + Drop,
@@ -89,7 +140,7 @@ where
 {
     words_ask_one_thing();
     match read_words(rt.alloc(), words) {
-        Ok(asked) => run_asked(rt, words, &asked, ends_of(rt, &asked, input, output)?),
+        Ok(asked) => serve_claimed(rt, words, &asked, input, output),
         Err(Usage::Refused) => Ok(not_run(1)),
         Err(Usage::NoMemory) => Ok(not_run(9)),
     }
@@ -102,5 +153,6 @@ pub fn not_run(status: u8) -> Came
     Came {
         status,
         why: StartWhy0::None,
+        in_use: false,
     }
 }

@@ -4,11 +4,13 @@ use service::StartWhy0;
 use std::alloc::{AllocError, Global};
 use stored_ledger::StartWhy;
 
-/// What came of a run: its status, and why its start was refused, if it was.
+/// What came of a run: its status, why its start was refused, if it was, and whether another service had the journal, so that
+/// nothing was begun.
 #[derive(Clone, Copy)]
 pub struct Came {
     pub status: u8,
     pub why: StartWhy0,
+    pub in_use: bool,
 }
 
 fn push_digest(text: &mut String, digest: &[u8; 32]) -> Result<(), AllocError> {
@@ -59,6 +61,9 @@ fn status_text(status: u8) -> Option<&'static str> {
 
 /// The line that says why a run did not go as it was asked, if there is one.
 pub fn line_of(alloc: Global, came: &Came) -> Result<Option<String>, AllocError> {
+    if came.in_use {
+        return Ok(Some("confd: journal in use".to_string(alloc)?));
+    }
     match &came.why {
         StartWhy0::Why(why) => Ok(Some(why_text(alloc, why)?)),
         StartWhy0::None => match status_text(came.status) {

@@ -70,6 +70,46 @@ fn front_of(alloc: Global, disk: &MemDisk, length: u64) -> Result<Vec<u8>, Fault
     }
 }
 
+/// How a copy of a disk differs from the disk.
+#[derive(Clone, Copy)]
+pub(crate) enum Hurt {
+    /// It has that many of the first bytes.
+    Cut(u64),
+    /// The byte at a place is this one.
+    Byte(u64, u8),
+    /// The byte at a place is one more; after 255 comes 0.
+    More(u64),
+}
+
+/// A copy of bytes, with another one at a place.
+fn with_byte(alloc: Global, bytes: &[u8], place: u64, byte: u8) -> Result<Vec<u8>, Fault> {
+    let mut copy = Vec::from_slice(alloc, bytes)?;
+    match copy.get_mut(place as usize) {
+        Some(there) => {
+            *there = byte;
+            Ok(copy)
+        }
+        None => Err(Fault::Script("a place that the disk has")),
+    }
+}
+
+/// A copy of bytes, with one more at a place.
+fn with_more(alloc: Global, bytes: &[u8], place: u64) -> Result<Vec<u8>, Fault> {
+    match bytes.get(place as usize) {
+        Some(byte) => with_byte(alloc, bytes, place, byte.wrapping_add(1)),
+        None => Err(Fault::Script("a place that the disk has")),
+    }
+}
+
+/// What a hurt copy of a disk holds.
+fn hurt_bytes(alloc: Global, disk: &MemDisk, hurt: Hurt) -> Result<Vec<u8>, Fault> {
+    match hurt {
+        Hurt::Cut(length) => front_of(alloc, disk, length),
+        Hurt::Byte(place, byte) => with_byte(alloc, disk.contents(), place, byte),
+        Hurt::More(place) => with_more(alloc, disk.contents(), place),
+    }
+}
+
 impl StagedDisk {
     fn new(alloc: Global, room: u64) -> Result<StagedDisk, NoMemory> {
         Ok(StagedDisk {
@@ -85,6 +125,26 @@ impl StagedDisk {
         let failing_reads = mem::replace(&mut self.failing_reads, Vec::new(alloc));
         self.disk = MemDisk::new(alloc, room, CALLS, failing, failing_reads)?;
         Ok(())
+    }
+
+    /// A disk of the room of another one, which holds these bytes, stands here.
+    fn hold(&mut self, alloc: Global, other: &MemDisk, bytes: &[u8]) -> Result<(), Fault> {
+        self.make(alloc, other.room())?;
+        match (self.disk.write_at(0, bytes), self.disk.sync()) {
+            (DiskDone::Done, DiskDone::Done) => Ok(()),
+            _ => Err(Fault::Script("a disk that can be copied")),
+        }
+    }
+
+    /// A copy of another one stands here.
+    fn copy_of(&mut self, alloc: Global, other: &MemDisk) -> Result<(), Fault> {
+        self.hold(alloc, other, other.contents())
+    }
+
+    /// A hurt copy of another one stands here.
+    fn hurt_copy_of(&mut self, alloc: Global, other: &MemDisk, hurt: Hurt) -> Result<(), Fault> {
+        let bytes = hurt_bytes(alloc, other, hurt)?;
+        self.hold(alloc, other, &bytes)
     }
 
     /// disk-fails a|b nothing|effect CALL ..
@@ -193,6 +253,36 @@ impl Disks {
     pub(crate) fn put(&mut self, a: MemDisk, b: MemDisk) {
         self.a.disk = a;
         self.b.disk = b;
+    }
+
+    /// Copies of two disks stand here, of which that one is hurt.
+    fn hurt_copies_of(
+        &mut self,
+        alloc: Global,
+        other: &Disks,
+        which: &[u8],
+        hurt: Hurt,
+    ) -> Result<(), Fault> {
+        match which {
+            b"a" => {
+                self.a.hurt_copy_of(alloc, &other.a.disk, hurt)?;
+                self.b.copy_of(alloc, &other.b.disk)
+            }
+            b"b" => {
+                self.a.copy_of(alloc, &other.a.disk)?;
+                self.b.hurt_copy_of(alloc, &other.b.disk, hurt)
+            }
+            _ => Err(Fault::Script("disk a or b")),
+        }
+    }
+
+    /// Copies of the two, of which that one is hurt.
+    pub(crate) fn hurt(&self, alloc: Global, which: &[u8], hurt: Hurt) -> Result<Disks, Fault> {
+        let mut copies = Disks::new(alloc, 0)?;
+        match copies.hurt_copies_of(alloc, self, which, hurt) {
+            Ok(()) => Ok(copies),
+            Err(fault) => Err(fault),
+        }
     }
 
     /// disks ROOM, or disks ROOM ROOM

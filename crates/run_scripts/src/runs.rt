@@ -4,14 +4,15 @@ ghost use Rattle.std.specs.Prelude.{◌≡◌, IfOk};
 ghost use Rattle.session_threads.specs.Results.{users_of_ends};
 ghost use Rattle.service.specs.Run.{AreEnds};
 
-use crate::disks::Disks;
+use crate::disks::{Disks, Hurt};
 use crate::histories::say_happened;
 use cfg_base::{NoMemory, UserName, Words};
 use command_line::{Usage, read_words, words_ask_one_thing};
 use disk_model::MemDisk;
 use io_edge::{ListBeat, ListClock, ListSource, VecSink};
 use script_lines::{
-    Fault, Part, Stage, Text, args_of, say, say_bytes, say_counted, say_text, words_of,
+    Fault, Part, Stage, Text, args_of, first_and_rest, number, say, say_bytes, say_counted,
+    say_text, words_of,
 };
 use service::{Closed, StartWhy0, Ticker, run_keeping};
 use session_shell::End;
@@ -143,32 +144,39 @@ pub(crate) fn say_session(out: &mut Text, count: usize, place: usize) {
     }
 }
 
-/// Why the start was refused, if it was.
-fn say_why(out: &mut Text, why: &StartWhy0) {
-    let StartWhy0::Why(why) = why else {
-        return;
-    };
+/// Why a start was refused.
+fn say_cause(out: &mut Text, why: &StartWhy) {
     match why {
         StartWhy::Exists => say(out, "why exists"),
         StartWhy::NotAJournal => say(out, "why not a journal"),
-        StartWhy::Damaged {
-            offset,
-            kept,
-            computed,
-        } => {
-            say_counted(out, "why damaged at", *offset);
-            say_bytes(out, "kept", kept);
-            say_bytes(out, "computed", computed);
-        }
+        StartWhy::Damaged { offset, .. } => say_counted(out, "why damaged at", *offset),
         StartWhy::BadRecord { offset } => say_counted(out, "why bad record at", *offset),
         StartWhy::DiskFault => say(out, "why disk fault"),
         StartWhy::NoMemory => say(out, "why no memory"),
     }
 }
 
-fn say_output(out: &mut Text, ran: &Ran) {
+/// The digests of a damaged record.
+fn say_digests(out: &mut Text, why: &StartWhy) {
+    if let StartWhy::Damaged { kept, computed, .. } = why {
+        say_bytes(out, "kept", kept);
+        say_bytes(out, "computed", computed);
+    }
+}
+
+/// The status, and why the start was refused, if it was.
+fn say_status(out: &mut Text, ran: &Ran, digests: bool) {
     say_counted(out, "status", u64::from(ran.status));
-    say_why(out, &ran.why);
+    if let StartWhy0::Why(why) = &ran.why {
+        say_cause(out, why);
+        if digests {
+            say_digests(out, why);
+        }
+    }
+}
+
+/// What was written.
+fn say_written(out: &mut Text, ran: &Ran) {
     for (place, end) in ran.ends.iter().enumerate() {
         say_session(out, ran.ends.len(), place);
         say_text(out, end.sink.contents());
@@ -208,11 +216,65 @@ pub(crate) fn ask_run<R: Threads + Wait + Sync>(
     out: &mut Text,
 ) -> Result<(), Fault> {
     let ran = ran(rt, alloc, stage.take(alloc), disks, text)?;
-    say_output(out, &ran);
+    say_status(out, &ran, true);
+    say_written(out, &ran);
     if whole {
         say_happened(out, &ran.turns, &ran.history);
     }
     let Closed { disk_a, disk_b, .. } = ran;
     disks.put(disk_a, disk_b);
     Ok(())
+}
+
+/// How a copy is hurt, and the words behind that.
+fn hurt_of<'a>(name: &str, text: &'a str) -> Result<(Hurt, &'a str), Fault> {
+    let (place, rest) = first_and_rest(text);
+    let place = number(place.as_bytes())?;
+    match name {
+        "run_cut" => Ok((Hurt::Cut(place), rest)),
+        "run_more" => Ok((Hurt::More(place), rest)),
+        _ => {
+            let (byte, rest) = first_and_rest(rest);
+            match u8::try_from(number(byte.as_bytes())?) {
+                Ok(byte) => Ok((Hurt::Byte(place, byte), rest)),
+                Err(_) => Err(Fault::Script("a byte from 0 to 255")),
+            }
+        }
+    }
+}
+
+/// A run over copies of the disks: the status, the cause, and what was written.
+fn say_copies<R: Threads + Wait + Sync>(
+    rt: &R,
+    alloc: Global,
+    stage: &mut Stage,
+    copies: &mut Disks,
+    text: &str,
+    out: &mut Text,
+) -> Result<(), Fault> {
+    let ran = ran(rt, alloc, stage.take(alloc), copies, text)?;
+    say_status(out, &ran, false);
+    say_written(out, &ran);
+    let Closed { disk_a, disk_b, .. } = ran;
+    copies.put(disk_a, disk_b);
+    Ok(())
+}
+
+/// run_cut a|b LENGTH WORDS.., run_byte a|b PLACE BYTE WORDS.. or run_more a|b PLACE WORDS..: a run over copies of the disks, of
+/// which that one is hurt. The disks stay as they are.
+pub(crate) fn ask_hurt<R: Threads + Wait + Sync>(
+    rt: &R,
+    alloc: Global,
+    stage: &mut Stage,
+    disks: &Disks,
+    name: &str,
+    text: &str,
+    out: &mut Text,
+) -> Result<(), Fault> {
+    let (which, text) = first_and_rest(text);
+    let (hurt, text) = hurt_of(name, text)?;
+    match disks.hurt(alloc, which.as_bytes(), hurt) {
+        Ok(mut copies) => say_copies(rt, alloc, stage, &mut copies, text, out),
+        Err(fault) => Err(fault),
+    }
 }

@@ -4,7 +4,7 @@ use crate::command_calls::ask_words;
 use crate::disks::Disks;
 use crate::input_calls;
 use crate::line_calls::{ask_line, ask_plain, copy_set};
-use crate::runs::{ask_run, make_fresh};
+use crate::runs::{ask_hurt, ask_run, make_fresh};
 use crate::steps::{Machine, ask_step};
 use script_lines::{
     Answers, AnswersAll, Arg, Asked, Fault, KeptText, Stage, Text, args_of, first_and_rest,
@@ -89,6 +89,9 @@ impl Answers for Script {
                 rest,
                 out,
             ),
+            "run_cut" | "run_byte" | "run_more" => {
+                ask_hurt(rt, alloc, &mut self.stage, &self.disks, name, rest, out)
+            }
             "fresh" => make_fresh(rt, alloc, &mut self.disks),
             _ => self.answer_words(name, &args_of(alloc, rest)?, out),
         }
