@@ -4,7 +4,7 @@
  *
  * PROGRAM serves one session over FOLDER, a folder with a journal. It is given the lines of the file SETUP, the last of which is a
  * commit, and then COUNT times LINE, with the number of the turn for its %d, and `commit`. Each turn is timed from its first byte
- * to the end of `commit complete`. Behind each commit stands its floor: two pairs of pwrite and fdatasync on a file of the same
+ * to the end of `commit complete`. After each commit stands its floor: two pairs of pwrite and fdatasync on a file of the same
  * folder, the first of as many bytes as journal.a grew by, the second of one byte inside the file.
  *
  * It prints, in microseconds: the median of the commits, that of the floors, their ratio, and the medians of the first and of the

@@ -16,7 +16,7 @@ init() {
     "$program" init "$folder/journal" > /dev/null
 }
 
-# commits of a line behind a setup, and how they compare
+# commits of a line after a setup, and how they compare
 time_commits() {
     local name=$1 setup=$2 count=$3 line=$4
     init

@@ -1,7 +1,7 @@
 #!/usr/bin/env bash
 # Turns a second that 1, 4 and 64 sessions make at once, side by side: shows of the candidate, and private commits over 64 interfaces.
 # Turns are taken one at a time, so several sessions make no more of them than one does: the ratios tell what waiting for one another
-# costs, by the clock and in the processor's time. Behind them stands when the first session had ended, of the time that the last one
+# costs, by the clock and in the processor's time. After them stands when the first session had ended, of the time that the last one
 # took: no session that waits is left behind. Then the commits once more beside as many busy processes as there are processors, and by
 # one session beside 63 that are idle, since a run has at most 64.
 set -eu

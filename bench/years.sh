@@ -1,6 +1,6 @@
 #!/usr/bin/env bash
-# The memory of a service that runs for long: behind the first 10,000 lines of a session and behind 1,000,000, of which every fourth
-# commits; then behind the first 10 loads of a text of 400 KB and behind 1,000; then behind the first 1,000 and behind 100,000 times that
+# The memory of a service that runs for long: after the first 10,000 lines of a session and after 1,000,000, of which every fourth
+# commits; then after the first 10 loads of a text of 400 KB and after 1,000; then after the first 1,000 and after 100,000 times that
 # the session enters configuration mode and leaves it. It fails where one of the three grew by more than 2 MiB.
 set -eu
 . "$(dirname "$0")/router.sh"
@@ -45,7 +45,7 @@ resident() {
     awk '/^VmRSS/ { print $2 }' "/proc/$service/status"
 }
 
-# what the memory is behind few and behind many of NAME, the answers of the text TELLS before them counted
+# what the memory is after few and after many of NAME, the answers of the text TELLS before them counted
 compare_memory() {
     local name=$1 few=$2 many=$3 tells=$4 begun=$5 first last
     shift 5
@@ -55,7 +55,7 @@ compare_memory() {
     "$@" many >&3
     await $((begun + many)) "$tells"
     last=$(resident)
-    printf '%s: %d KiB behind %d, %d KiB behind %d\n' "$name" "$first" "$few" "$last" "$many"
+    printf '%s: %d KiB after %d, %d KiB after %d\n' "$name" "$first" "$few" "$last" "$many"
     [ $((last - first)) -le "$most" ] || { echo "the memory grew by $((last - first)) KiB" >&2; exit 1; }
 }
 

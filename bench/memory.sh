@@ -1,0 +1,105 @@
+#!/usr/bin/env bash
+# Refuses one allocation of the built program at a time: of two private sessions that commit side by side, of 83 commits, and of an
+# inherited show under a wildcard group. After each refusal the status must be 0 or 9, each line answered as it is with ample memory or by
+# `error: out of memory`, and the list that of the commits that were answered, which a next run finds and goes on from. It prints how many
+# allocations were refused. STEP tries each STEPth one alone.
+# Builds nothing but bench/refuse.c: the program is the one that ./demo leaves.
+# usage: memory.sh [STEP]
+set -eu
+cd "$(dirname "$0")/.."
+program=$PWD/crates/confd/out/confd
+[ -x "$program" ] || { echo "there is no program at $program: ./demo builds it" >&2; exit 1; }
+folder=$(mktemp -d -p /dev/shm 2> /dev/null || mktemp -d)
+trap 'rm -rf "$folder"' EXIT
+gcc -O2 -Wall -shared -fPIC -o "$folder/refuse.so" bench/refuse.c
+python3 - "$program" "$folder" "${1:-1}" << 'END'
+import os, shutil, subprocess, sys
+
+program, folder, step = sys.argv[1], sys.argv[2], int(sys.argv[3])
+mark = folder + "/refused"
+
+def run(*words, refuse=None):
+    env = dict(os.environ)
+    if refuse is not None:
+        env |= {"LD_PRELOAD": folder + "/refuse.so", "REFUSE": str(refuse), "REFUSED": mark}
+    it = subprocess.run([program, *words], stdin=subprocess.DEVNULL, capture_output=True, env=env)
+    return it.returncode, it.stdout.decode(), it.stderr.decode()
+
+def must(holds, what):
+    if not holds:
+        print("FAILED:", what)
+        sys.exit(1)
+
+def entries(place, what):
+    status, told, why = run("check", place)
+    must(status == 0, f"{what}: check: {status} {why}")
+    return int(told.split()[1])
+
+fresh = folder + "/fresh"
+os.mkdir(fresh)
+must(run("init", fresh)[0] == 0, "init")
+
+OUT = "error: out of memory"
+
+def served(inputs, refuse):
+    """A run of these sessions over a new list: its status, and what each session wrote."""
+    place = folder + "/journal"
+    shutil.rmtree(place, ignore_errors=True)
+    shutil.copytree(fresh, place)
+    words = []
+    for name, lines in inputs.items():
+        path = f"{folder}/{name}"
+        with open(path, "w") as it:
+            it.write("\n".join(lines) + "\n")
+        if os.path.exists(path + ".out"):
+            os.remove(path + ".out")
+        words.append(f"{name}:{path}")
+    status, told, why = run("serve", place, *words, refuse=refuse)
+    outs = {}
+    for name in inputs:
+        path = f"{folder}/{name}.out"
+        outs[name] = open(path).read().split("\n")[:-1] if os.path.exists(path) else []
+    return place, status, outs, why
+
+def each(title, inputs):
+    place, status, wanted, why = served(inputs, None)
+    must(status == 0, f"{title}: {status} {why}")
+    refused = kept = 0
+    number = 1
+    while True:
+        if os.path.exists(mark):
+            os.remove(mark)
+        place, status, outs, why = served(inputs, number)
+        if not os.path.exists(mark):
+            break
+        what = f"{title}, allocation {number}"
+        must(status in (0, 9), f"{what}: status {status} {why}")
+        answered = 0
+        for name, lines in outs.items():
+            answered += lines.count("commit complete")
+            seen = set(wanted[name]) | {OUT}
+            # a change that found no memory may leave the next ones without what they stand on
+            strange = [it for it in lines if it not in seen and not it.startswith("error: ")]
+            must(not strange, f"{what}: {name} was told {strange}")
+            if status == 0 and not any(it.startswith("error: ") for it in lines):
+                must(lines == wanted[name], f"{what}: {name} was told {lines}")
+        must(entries(place, what) == 1 + answered, f"{what}: {answered} commits answered, {entries(place, what)} entries")
+        refused += 1
+        kept += any(OUT in lines for lines in outs.values())
+        with open(f"{folder}/next", "w") as it:
+            it.write("configure\ncommit\n")
+        status, told, why = run("serve", place, f"next:{folder}/next")
+        must(status == 0 and entries(place, what) == 2 + answered, f"{what}: the next run: {status} {why}")
+        number += step
+    print(f"{title}: some {number} allocations, {refused} of them refused one at a time; {kept} times a line was answered so")
+
+each("two private sessions", {
+    "al": ["configure private", "set system host-name a", "commit"],
+    "bo": ["configure private", "set interfaces ge-0/0/0 description d", "commit"],
+})
+each("an inherited show", {"al": [
+    "configure", "set groups J interfaces <ge-*> mtu 9000", "set apply-groups J", "set interfaces ge-0/0/0 description a",
+    "set interfaces xe-0/0/0 description b", "show interfaces | display inheritance", "commit", "exit",
+    "show configuration interfaces | display inheritance"]})
+each("83 commits", {"al": ["configure", "set system host-name r1"] + ["commit"] * 83})
+END
