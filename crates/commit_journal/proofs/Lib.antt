@@ -10,5 +10,5 @@ mod FileLemmas
 mod StepLemmas
 mod OpenLemmas
 mod RotateLemmas
-mod TurnLemmas
+pub mod TurnLemmas
 mod JournalLemmas

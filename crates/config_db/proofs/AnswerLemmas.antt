@@ -14,7 +14,7 @@ use Rattle.commit_ledger.specs.Kept.{is_revert_due}
 use Rattle.config_core.specs.Prepared.{IsSettling}
 use Rattle.config_core.specs.State.{State, Made}
 use Rattle.session_history.specs.declared.history.Happened.{Happened}
-use Rattle.session_history.specs.Events.{NoCommand}
+use Rattle.session_history.specs.Events.{Leads, NoCommand}
 use Rattle.session_history.proofs.EventLemmas.{Leads-append}
 use Rattle.config_db.specs.declared.answer.Answered.{Answered}
 use Rattle.config_db.specs.declared.answer.Answered.TheVariants.{Kept, NoMemory}
@@ -26,7 +26,7 @@ use Rattle.config_db.specs.Numbers.{calls_of}
 use Rattle.config_db.specs.Disks.{GoesOn}
 use Rattle.config_db.specs.Crash.{last_calls}
 use Rattle.config_db.specs.Moves.{Extends, Happens, IsUnsettled, Settles, noted}
-use Rattle.config_db.specs.Answers.{Answers, CatchesUp, Clears, ClearsBehind, IsAnswer, IsTaken, MakesWay, NoneCalledBehind, Reverts, Takes, reverted_as}
+use Rattle.config_db.specs.Answers.{Answers, CatchesUp, Clears, ClearsBehind, EndsReverted, IsAnswer, IsTaken, MakesWay, NoneCalledBehind, Reverts, Takes, reverted_as}
 use Rattle.config_db.proofs.DiskLemmas.{rose_first, rose_last}
 use Rattle.config_db.proofs.FaultLemmas.{counted_command}
 use Rattle.config_db.proofs.MachineLemmas.{after_failed, after_revert, flying, settling_moves}
@@ -75,7 +75,18 @@ module _ (caller moment : ℕ) where
         extends = extends_one caller moment v w Revert Done reply happens (λ is. absurd (cc));
         no_command = (refl, tt);
         clears = (
-          record { front = []; last = noted caller moment Revert Done (calls_of w.journal); is_own = refl; reverts = refl; done = refl },
+          record {
+            front = [];
+            last = noted caller moment Revert Done (calls_of w.journal);
+            is_own = refl;
+            reverts = refl;
+            done = refl;
+            before = v.state;
+            leads = refl;
+            turned = happens.turns.turned;
+            steps = happens.turns.steps;
+            trims = happens.trims refl;
+          },
           ap (λ s. waiting_of s moment) happens.turns.state ∙ after.0,
         );
         quiet = quiet_one v w (noted caller moment Revert Done (calls_of w.journal)) refl;
@@ -119,10 +130,25 @@ module _ (caller moment : ℕ) where
   pub way_wanting : (v : DatabaseView) → v.state.greatest ≤ moment → MakesWay caller moment TickedNoMemory v v
   way_wanting v no_earlier = record { own = []; extends = extends_none caller moment v; no_command = tt; clears = quiet_none v; since = omega arith; no_later = no_earlier }
 
+  -- of another database in the same state
+  reverted_from : (u v w : DatabaseView) (own : List Happened) → u.state ≡ v.state → EndsReverted own u w → EndsReverted own v w
+  reverted_from u v w own same ends = record {
+    front = ends.front;
+    last = ends.last;
+    is_own = ends.is_own;
+    reverts = ends.reverts;
+    done = ends.done;
+    before = ends.before;
+    leads = subst (λ s. Leads s ends.front ends.before) same ends.leads;
+    turned = ends.turned;
+    steps = ends.steps;
+    trims = ends.trims;
+  }
+
   clears_published : (ticked : Ticked) (own : List Happened) (v w : DatabaseView) → Clears moment ticked own (published v) w → Clears moment ticked own v w
   clears_published Nothing own v w clears = clears
   clears_published Settled own v w clears = clears
-  clears_published Reverted own v w clears = clears
+  clears_published Reverted own v w clears = (reverted_from (published v) v w own refl clears.0, clears.1)
   clears_published DiskFault own v w clears = clears
   clears_published TickedNoMemory own v w clears = clears
 
@@ -165,13 +191,27 @@ module _ (caller moment : ℕ) where
 
   -- what is behind a settling, as told of both
   behind : (ticked : Ticked) (u v w : DatabaseView) (e : Happened) (own : List Happened) → IsSettling e.event → e.outcome ≡ Done → e.calls ≡ calls_of v.journal → GoesOn u.journal v.journal
-      → GoesOn v.journal w.journal → NoneCalledBehind own v.journal w.journal → ClearsBehind moment ticked own v w → Clears moment ticked (e ∷ own) u w
-  behind Nothing u v w e own settles done told on more quiet clears = absurd clears
-  behind Settled u v w e own settles done told on more quiet clears = (record { one = e; is_own = ap (λ l. e ∷ l) clears.0; settles = settles; done = done }, clears.1)
-  behind Reverted u v w e own settles done told on more quiet clears =
-      (record { front = e ∷ clears.0.front; last = clears.0.last; is_own = ap (λ l. e ∷ l) clears.0.is_own; reverts = clears.0.reverts; done = clears.0.done }, clears.1)
-  behind DiskFault u v w e own settles done told on more quiet clears = (clears.0, rose_last u.journal v.journal w.journal on more clears.1)
-  behind TickedNoMemory u v w e own settles done told on more quiet clears = quiet_more u v w e own told quiet
+      → GoesOn v.journal w.journal → Leads u.state (e ∷ []) v.state → NoneCalledBehind own v.journal w.journal → ClearsBehind moment ticked own v w → Clears moment ticked (e ∷ own) u w
+  behind Nothing u v w e own settles done told on more lead quiet clears = absurd clears
+  behind Settled u v w e own settles done told on more lead quiet clears = (record { one = e; is_own = ap (λ l. e ∷ l) clears.0; settles = settles; done = done }, clears.1)
+  behind Reverted u v w e own settles done told on more lead quiet clears =
+      let ends = clears.0 in (
+        record {
+          front = e ∷ ends.front;
+          last = ends.last;
+          is_own = ap (λ l. e ∷ l) ends.is_own;
+          reverts = ends.reverts;
+          done = ends.done;
+          before = ends.before;
+          leads = Leads-append u.state (e ∷ []) ends.front v.state ends.before lead ends.leads;
+          turned = ends.turned;
+          steps = ends.steps;
+          trims = ends.trims;
+        },
+        clears.1,
+      )
+  behind DiskFault u v w e own settles done told on more lead quiet clears = (clears.0, rose_last u.journal v.journal w.journal on more clears.1)
+  behind TickedNoMemory u v w e own settles done told on more lead quiet clears = quiet_more u v w e own told quiet
 
   -- a settling, and what is needed behind it
   pub way_settled : (ticked : Ticked) (u v w : DatabaseView) → u.state.greatest ≤ moment → IsSome u.state.flight → Settles caller moment Done u v → CatchesUp caller moment ticked v w
@@ -185,7 +225,7 @@ module _ (caller moment : ℕ) where
         own = e ∷ up.own;
         extends = extends_more caller moment u v w (e ∷ []) up.own first up.extends;
         no_command = (refl, up.no_command);
-        clears = behind ticked u v w e up.own tt refl refl happens.goes up.extends.goes up.quiet up.clears;
+        clears = behind ticked u v w e up.own tt refl refl happens.goes up.extends.goes first.leads up.quiet up.clears;
         since = omega (arith, now, no_earlier, up.since);
         no_later = up.no_later;
       }
@@ -220,6 +260,7 @@ module _ (caller moment : ℕ) where
           steps = taken.happens.turns.steps;
           replied = taken.happens.turns.replied;
           calls = refl;
+          trims = taken.happens.trims;
         };
       }
 
@@ -273,6 +314,7 @@ module _ (caller moment : ℕ) where
       steps = given.steps;
       replied = given.replied;
       calls = given.calls;
+      trims = given.trims;
     }
     behind_settling NoMemory own given = record { no_command = (refl, given.no_command); quiet = quiet_more u v w settling own refl given.quiet }
 
@@ -305,6 +347,7 @@ module _ (caller moment : ℕ) where
     steps = given.steps;
     replied = given.replied;
     calls = given.calls;
+    trims = given.trims;
   }
   answer_published command NoMemory own v w given = record { no_command = given.no_command; quiet = given.quiet }
 

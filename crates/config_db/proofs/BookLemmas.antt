@@ -3,20 +3,14 @@ use Rattle.std.proofs.Common.{◌≡◌, ℕ, Bool, true, false, List, [], ◌�
 use Rattle.std.specs.Prelude.{IfSome, IsSome}
 use Rattle.std.proofs.lemmas.List.{length-map}
 use Rattle.cfg_base.specs.declared.calls.Calls.{Calls}
-use Rattle.disk_model.specs.Disk.{History, IsImage, state_of}
+use Rattle.disk_model.specs.Disk.{IsImage, state_of}
 use Rattle.record_code.specs.Record.{Record}
-use Rattle.commit_check.specs.Accepts.{Accepts}
 use Rattle.commit_ledger.specs.Kept.{Kept}
 use Rattle.commit_ledger.specs.Payload.{entry_record}
-use Rattle.commit_ledger.specs.Reading.{ReadsAs}
-use Rattle.commit_ledger.specs.Rules.{IsEntry, Follows as EntryFollows}
-use Rattle.commit_ledger.proofs.ReadingLemmas.{appended_is_read}
+use Rattle.commit_ledger.specs.Rules.{Follows as EntryFollows}
 use Rattle.commit_journal.specs.Journal.{JournalView, Tell, a_of, b_of}
-use Rattle.commit_journal.proofs.PairLemmas.{rests_only}
-use Rattle.commit_journal.proofs.SettleLemmas.{waits_either}
 use Rattle.config_core.specs.declared.event.Event.{Event}
 use Rattle.config_core.specs.declared.event.Outcome.{Outcome}
-use Rattle.config_core.specs.declared.event.Outcome.TheVariants.{Done, Fault}
 use Rattle.config_core.specs.declared.reply.Reply.{Reply}
 use Rattle.config_core.specs.Soundness.{IsSoundKept, IsSoundMade, IsSoundState}
 use Rattle.config_core.specs.State.{State, Made, opening_of}
@@ -24,20 +18,22 @@ use Rattle.config_core.proofs.SoundLemmas.{steps_keep}
 use Rattle.session_history.specs.declared.history.Happened.{Happened}
 use Rattle.session_history.specs.Events.{Leads}
 use Rattle.session_history.proofs.EventLemmas.{Leads-append}
-use Rattle.stored_ledger.specs.Stored.{Spell}
+use Rattle.stored_ledger.specs.Stored.{IsNext, SpellsWith}
 use Rattle.active_snapshot.specs.States.{ReaderState, WriterState, first_written}
 use Rattle.config_db.specs.View.{DatabaseView, IsSameRun, opened}
 use Rattle.config_db.specs.Numbers.{AreAtMost, AreRising, calls_of, none_called}
-use Rattle.config_db.specs.Writing.{IsFoundOut, IsWritten, entry_in, flight_after, kept_after, record_in}
+use Rattle.config_db.specs.Writing.{IsFoundOut, entry_in}
 use Rattle.config_db.specs.Crash.{AreSpansSafe, InSpan, IsSafeWhile, Spelt, last_calls}
-use Rattle.config_db.specs.Disks.{Holds}
+use Rattle.config_db.specs.Disks.{Holds, HoldsImage}
+use Rattle.config_db.specs.Standing.{AreOf, Stands}
 use Rattle.config_db.specs.Shown.{Shows}
-use Rattle.config_db.specs.Book.{IsBook, IsOpening, Stands}
+use Rattle.config_db.specs.Book.{IsBook, IsOpening}
 use Rattle.config_db.specs.Moves.{Turns, noted}
 use Rattle.config_db.proofs.NumberLemmas.{at_most_same, rising_more, rising_push}
 use Rattle.config_db.proofs.MachineLemmas.{Leaves, kept_settled, made_follows}
 use Rattle.config_db.proofs.ShownLemmas.{shows_begin}
 use Rattle.config_db.proofs.SpanLemmas.{span_now}
+use Rattle.config_db.proofs.StandingLemmas.{are_next, are_of, stands_spelled}
 use Rattle.config_db.proofs.CrashLemmas.{last_push}
 
 -- a step leads on from the state before it
@@ -47,60 +43,54 @@ turn_leads s s' caller moment event outcome reply calls turns = (turns.fits, tur
 pub same_opened : (v v' : DatabaseView) → IsSameRun v v' → opened v' ≡ opened v
 same_opened v v' same = ap (λ k. opening_of k v'.users) same.opening ∙ ap (opening_of v.opening) same.users
 
--- behind the writing of what an event makes
-pub stands_written : (j j' : JournalView) (kept : Kept) (made : Option Made) (outcome : Outcome) → Stands j kept None → IsWritten made outcome j j'
-    → IfSome made (λ m. EntryFollows kept m.entry) → Stands j' (kept_after kept made outcome) (flight_after made outcome)
-stands_written j j' kept None outcome stands written follows =
-    record { records = stands.records; reads = stands.reads; holds = written.holds stands.records stands.holds; entry = tt }
-stands_written j j' kept (Some m) Done stands written follows = record {
-  records = stands.records ++ entry_record m.entry ∷ [];
-  reads = appended_is_read Accepts stands.records kept m.entry stands.reads written.entry follows;
-  holds = written.holds stands.records stands.holds;
-  entry = tt;
-}
-stands_written j j' kept (Some m) Fault stands written follows =
-    record { records = stands.records; reads = stands.reads; holds = written.holds stands.records stands.holds; entry = written.entry }
+-- behind a settling of a record that was in flight, or of an image
+found_record : (j j' : JournalView) (kept : Kept) (m : Made) (is_kept : Bool) (rs : List Record) → AreOf kept rs → IsNext kept m.entry → Holds j rs (Some (entry_record m.entry))
+    → IsFoundOut (Some is_kept) j j' → Stands j' (kept_settled kept m is_kept) None
+found_record j j' kept m true rs are next held found =
+    record { records = rs ++ entry_record m.entry ∷ []; are = are_next kept rs are m.entry next; holds = found.holds rs (entry_record m.entry) held; entry = tt }
+found_record j j' kept m false rs are next held found = record { records = rs; are = are; holds = found.holds rs (entry_record m.entry) held; entry = tt }
 
--- behind a settling
-pub stands_found : (j j' : JournalView) (kept : Kept) (m : Made) (is_kept : Bool) → Stands j kept (Some m) → IsFoundOut (Some is_kept) j j'
+found_image : (j j' : JournalView) (kept : Kept) (m : Made) (is_kept : Bool) (rs image : List Record) → AreOf kept rs → AreOf kept image → HoldsImage j rs image
+    → IsFoundOut (Some is_kept) j j' → Stands j' (kept_settled kept m is_kept) None
+found_image j j' kept m true rs image are anew held found = absurd (found.image rs image held)
+found_image j j' kept m false rs image are anew held found =
+    ⊎_elim (λ old. record { records = rs; are = are; holds = old; entry = tt }) (λ new. record { records = image; are = anew; holds = new; entry = tt }) (found.image rs image held)
+
+pub stands_found : (j j' : JournalView) (kept : Kept) (m : Made) (is_kept : Bool) → Stands j kept (Some m.entry) → IsFoundOut (Some is_kept) j j'
     → EntryFollows kept m.entry → Stands j' (kept_settled kept m is_kept) None
-stands_found j j' kept m true stands found follows = record {
-  records = stands.records ++ entry_record m.entry ∷ [];
-  reads = appended_is_read Accepts stands.records kept m.entry stands.reads stands.entry follows;
-  holds = found.holds stands.records (entry_record m.entry) stands.holds;
-  entry = tt;
-}
-stands_found j j' kept m false stands found follows =
-    record { records = stands.records; reads = stands.reads; holds = found.holds stands.records (entry_record m.entry) stands.holds; entry = tt }
+stands_found j j' kept m is_kept stands found follows =
+    ⊎_elim (λ held. found_record j j' kept m is_kept stands.records stands.are (stands.entry, follows) held found)
+    (λ image. found_image j j' kept m is_kept stands.records image.0 stands.are image.1 image.2 found) stands.holds
 
 -- and behind one that failed
-pub stands_unfound : (j j' : JournalView) (kept : Kept) (m : Made) → Stands j kept (Some m) → IsFoundOut None j j' → Stands j' kept (Some m)
-stands_unfound j j' kept m stands found =
-    record { records = stands.records; reads = stands.reads; holds = found.holds stands.records (entry_record m.entry) stands.holds; entry = stands.entry }
+pub stands_unfound : (j j' : JournalView) (kept : Kept) (m : Made) → Stands j kept (Some m.entry) → IsFoundOut None j j' → Stands j' kept (Some m.entry)
+stands_unfound j j' kept m stands found = record {
+  records = stands.records;
+  are = stands.are;
+  holds = ⊎_elim (λ held. inl (found.holds stands.records (entry_record m.entry) held)) (λ image. inr (image.0, image.1, found.image stands.records image.0 image.2)) stands.holds;
+  entry = stands.entry;
+}
 
--- what a journal holds is what its disks spell
-pub spells_of : (j : JournalView) (rs : List Record) (flight : Option Made) → Tell j → Holds j rs (record_in flight) → Spell (a_of j) (b_of j) rs (entry_in flight)
-spells_of j rs None t held = rests_only j.b_counts j.counting.history j.other.history j.gate rs (held.1 t).rests
-spells_of j rs (Some m) t held = λ c d in_a in_b. waits_either j.b_counts j.counting.history j.other.history rs (entry_record m.entry) j.gate (held.1 t).waits c d (in_a, in_b)
+-- what is in flight may come next
+pub flight_follows : (kept : Kept) (moment : ℕ) (flight : Option Made) → IfSome flight (IsSoundMade kept moment) → IfSome (entry_in flight) (EntryFollows kept)
+flight_follows kept moment None sound = tt
+flight_follows kept moment (Some m) sound = made_follows kept moment (Some m) sound
 
-spelt_in : (s : State) (flight : Option Made) (a b : History) (rs : List Record) → s.flight ≡ flight → IfSome flight (IsSoundMade s.kept s.greatest) → IfSome flight (λ m. IsEntry Accepts m.entry) → ReadsAs Accepts rs s.kept
-    → Spell a b rs (entry_in flight) → (c d : List ℕ) → IsImage (state_of a) c → IsImage (state_of b) d → Spelt s None c d
-spelt_in s None a b rs is sound entry reads spell c d in_a in_b = inl (rs, spell c d in_a in_b, reads)
-spelt_in s (Some m) a b rs is sound entry reads spell c d in_a in_b =
-    ⊎_elim (λ old. inl (rs, old, reads))
-    (λ new. inr (m, inl is, (rs ++ entry_record m.entry ∷ [], new, appended_is_read Accepts rs s.kept m.entry reads entry (made_follows s.kept s.greatest (Some m) sound)))) (spell c d in_a in_b)
+spelt_in : (s : State) (flight : Option Made) → s.flight ≡ flight → (c d : List ℕ) → SpellsWith c d s.kept (entry_in flight) → Spelt s None c d
+spelt_in s None is c d spells = inl spells
+spelt_in s (Some m) is c d spells = ⊎_elim (λ old. inl old) (λ new. inr (m, inl is, new)) spells
 
 -- what a crash may leave now
-pub spelt_now : (j : JournalView) (s : State) → IsSoundState s → Stands j s.kept s.flight → Tell j
+pub spelt_now : (j : JournalView) (s : State) → IsSoundState s → Stands j s.kept (entry_in s.flight) → Tell j
     → (c d : List ℕ) → IsImage (state_of (a_of j)) c → IsImage (state_of (b_of j)) d → Spelt s None c d
-spelt_now j s sound stands t =
-    spelt_in s s.flight (a_of j) (b_of j) stands.records refl sound.flight stands.entry stands.reads (spells_of j stands.records s.flight t stands.holds)
+spelt_now j s sound stands t c d in_a in_b =
+    spelt_in s s.flight refl c d (stands_spelled j s.kept (entry_in s.flight) stands (flight_follows s.kept s.greatest s.flight sound.flight) t c d in_a in_b)
 
 -- one event more
 pub book_after : (v v' : DatabaseView) (caller moment : ℕ) (event : Event) (outcome : Outcome) (reply : Reply) (kept : Kept) (flight : Option Made)
     → IsBook v → Turns v.state caller moment event outcome reply v'.state → Leaves v.state v'.state kept flight
     → v'.events ≡ v.events ++ noted caller moment event outcome (calls_of v'.journal) ∷ [] → IsSameRun v v' → AreAtMost (calls_of v.journal) (calls_of v'.journal)
-    → Stands v'.journal kept flight
+    → Stands v'.journal kept (entry_in flight)
     → (Leads (opened v) (v.events ++ noted caller moment event outcome (calls_of v'.journal) ∷ []) v'.state
     → ((c d : List ℕ) → Tell v'.journal → IsImage (state_of (a_of v'.journal)) c → IsImage (state_of (b_of v'.journal)) d → Spelt v'.state None c d)
     → Tell v'.journal → IsSafeWhile (opened v) (v.events ++ noted caller moment event outcome (calls_of v'.journal) ∷ []) (calls_of v'.journal) (a_of v'.journal) (b_of v'.journal))
@@ -131,12 +121,12 @@ book_after v v' caller moment event outcome reply kept flight book turns leaves 
     sound : IsSoundState v'.state
     sound = subst IsSoundState (sym turns.state) (steps_keep v.state caller moment event outcome turns.turned book.sound turns.fits turns.steps).0
 
-    stands' : Stands v'.journal v'.state.kept v'.state.flight
-    stands' = subst (λ k. Stands v'.journal k v'.state.flight) (sym leaves.kept_is)
-        (subst (λ f. Stands v'.journal kept f) (sym leaves.flight_is) stands)
+    stands' : Stands v'.journal v'.state.kept (entry_in v'.state.flight)
+    stands' = subst (λ k. Stands v'.journal k (entry_in v'.state.flight)) (sym leaves.kept_is)
+        (subst (λ f. Stands v'.journal kept (entry_in f)) (sym leaves.flight_is) stands)
 
 -- calls that found nothing out
-pub book_unsettled : (v : DatabaseView) (j' : JournalView) → IsBook v → IsSome v.state.flight → AreAtMost (calls_of v.journal) (calls_of j') → Stands j' v.state.kept v.state.flight
+pub book_unsettled : (v : DatabaseView) (j' : JournalView) → IsBook v → IsSome v.state.flight → AreAtMost (calls_of v.journal) (calls_of j') → Stands j' v.state.kept (entry_in v.state.flight)
     → (Tell j' → IsSafeWhile (opened v) v.events (calls_of j') (a_of j') (b_of j'))
     → IsBook (record { journal = j'; opening = v.opening; users = v.users; events = v.events; state = v.state; shown = v.shown; readers = v.readers })
 book_unsettled v j' book some later stands safe = record {
@@ -189,7 +179,7 @@ book_begins j opening users state events w rs begins start none shown =
     begins_sound = record { kept = begins.sound; no_later = omega arith; flight = tt }
 
     stands : Stands j opening None
-    stands = record { records = begins.records; reads = begins.reads; holds = begins.holds; entry = tt }
+    stands = record { records = begins.records; are = are_of opening begins.records begins.reads; holds = begins.holds; entry = tt }
 
     zero_a : (calls_of j).a ≡ 0
     zero_a = ap (λ (m : Calls). m.a) begins.calls

@@ -1,11 +1,10 @@
 -- Calls that the disks of a journal made, and the numbers that are told of them.
-use Rattle.std.proofs.Common.{◌≡◌, ◌≤◌, ◌+◌, ℕ, Bool, true, false, List, [], ◌++◌, length, refl, sym, ap, subst, ◌∙◌, append_assoc, arith, length-append}
+use Rattle.std.proofs.Common.{◌≡◌, ◌+◌, ℕ, Bool, true, false, List, [], ◌++◌, length, refl, sym, ap, subst, ◌∙◌, append_assoc, arith, length-append}
 use Rattle.std.proofs.lemmas.List.{append-nil}
-use Rattle.disk_model.specs.Disk.{Call, DiskView, DiskGoesOn, History}
+use Rattle.disk_model.specs.Disk.{Call, DiskView, History}
 use Rattle.commit_journal.specs.Journal.{JournalView, LeavesBoth, Tell, a_of, b_of, calls_a, calls_b, disk_a, disk_b}
 use Rattle.commit_journal.specs.Pair.{first_of, second_of}
-use Rattle.config_db.specs.Crash.{BothCalled, CallsOn, CountsAgree, CountsOn, IsReckoned}
-use Rattle.config_db.proofs.DiskLemmas.{tell_each}
+use Rattle.config_db.specs.Crash.{BothCalled, CallsOn, CountsAgree, CountsOn}
 
 -- the history of the disk of A, and that of B
 pub history_first : (b : Bool) (x y : DiskView) → (first_of b x y).history ≡ first_of b x.history y.history
@@ -52,12 +51,11 @@ called_then i j k first next = record {
 -- calls that left images behind, where their numbers agree
 pub called_left : (i j : JournalView) (P : List ℕ → List ℕ → Type 0) → Tell i → CountsOn i j → LeavesBoth i j P → BothCalled i j
 called_left i j P tell counts left =
-    let each = tell_each i tell in
     record {
       a = subst (λ h. CallsOn h (disk_a j).history (calls_a i) (calls_a j)) (sym (history_first i.b_counts i.counting i.other))
           (subst (λ h. CallsOn (a_of i) h (calls_a i) (calls_a j)) (sym (history_first j.b_counts j.counting j.other))
-          (told_on (a_of i) (a_of j) (calls_a i) (calls_a j) left.a_calls left.a_first left.a_made (counts.told_a each.0)));
+          (told_on (a_of i) (a_of j) (calls_a i) (calls_a j) left.a_calls left.a_first left.a_made (counts.told_a tell)));
       b = subst (λ h. CallsOn h (disk_b j).history (calls_b i) (calls_b j)) (sym (history_second i.b_counts i.counting i.other))
           (subst (λ h. CallsOn (b_of i) h (calls_b i) (calls_b j)) (sym (history_second j.b_counts j.counting j.other))
-          (told_on (b_of i) (b_of j) (calls_b i) (calls_b j) left.b_calls left.b_first left.b_made (counts.told_b each.1)));
+          (told_on (b_of i) (b_of j) (calls_b i) (calls_b j) left.b_calls left.b_first left.b_made (counts.told_b tell)));
     }

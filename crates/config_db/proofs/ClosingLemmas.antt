@@ -1,35 +1,31 @@
 -- A database that ends, put together.
-use Rattle.std.proofs.Common.{◌≡◌, inl, inr, ℕ, Bool, true, false, IsTrue, List, [], ◌∷◌, refl, sym, ap, subst, ◌∙◌, Option, None, Some, is_some, arith}
+use Rattle.std.proofs.Common.{◌≡◌, inl, inr, ℕ, true, false, IsTrue, List, [], ◌∷◌, refl, sym, ap, subst, ◌∙◌, None, Some, is_some, arith}
 use Rattle.disk_model.specs.Pair.{BothTell, DiskPair}
-use Rattle.std.specs.Prelude.{IfSome, IsSome}
-use Rattle.disk_model.specs.Disk.{History as DiskHistory}
-use Rattle.record_code.specs.Record.{Record}
+use Rattle.std.specs.Prelude.{IsSome}
+use Rattle.disk_model.specs.Disk.{IsImage, state_of}
 use Rattle.commit_journal.specs.Journal.{JournalView, a_of, disk_a, disk_b, calls_a, calls_b, disks_of}
-use Rattle.commit_journal.specs.Pair.{first_of, second_of}
-use Rattle.commit_check.specs.Accepts.{Accepts}
 use Rattle.commit_ledger.specs.Kept.{Kept}
-use Rattle.commit_ledger.specs.Rules.{IsEntry}
 use Rattle.config_core.specs.declared.event.Event.TheVariants.{Settle}
 use Rattle.config_core.specs.declared.event.Outcome.TheVariants.{Done}
-use Rattle.config_core.specs.Soundness.{IsSoundKept, IsSoundMade, IsSoundState}
-use Rattle.config_core.specs.State.{Made, State, opening_of}
+use Rattle.config_core.specs.Soundness.{IsSoundKept, IsSoundState}
+use Rattle.config_core.specs.State.{State, opening_of}
 use Rattle.session_history.specs.declared.history.Happened.{Happened}
 use Rattle.session_history.specs.declared.history.History.{History}
 use Rattle.session_history.specs.Events.{IsLegal, Leads, StaysAccepted}
-use Rattle.stored_ledger.specs.Stored.{HoldsKept, IsNext, Spell}
+use Rattle.stored_ledger.specs.Stored.{HoldsKept}
 use Rattle.config_db.specs.View.{DatabaseView, opened}
 use Rattle.config_db.specs.Numbers.{calls_of}
-use Rattle.config_db.specs.Disks.{Holds}
-use Rattle.config_db.specs.Writing.{entry_in, record_in}
-use Rattle.config_db.specs.Book.{IsBook, Stands}
+use Rattle.config_db.specs.Writing.{entry_in}
+use Rattle.config_db.specs.Standing.{Stands}
+use Rattle.config_db.specs.Book.{IsBook}
 use Rattle.config_db.specs.Moves.{IsUnsettled, Settles, noted}
 use Rattle.config_db.specs.Closing.{IsHandedBack, SettlesLast}
 use Rattle.config_db.specs.Crash.{IsCrashSafe}
 use Rattle.config_db.proofs.NumberLemmas.{calls_is}
 use Rattle.config_db.proofs.CalledLemmas.{history_first, history_second}
 use Rattle.config_db.proofs.DiskLemmas.{tell_ab}
-use Rattle.config_db.proofs.BookLemmas.{spells_of}
-use Rattle.config_db.proofs.MachineLemmas.{made_follows}
+use Rattle.config_db.proofs.BookLemmas.{flight_follows}
+use Rattle.config_db.proofs.StandingLemmas.{may_come, stands_spelled}
 use Rattle.config_db.proofs.MoveLemmas.{extends_none, extends_one, extends_unsettled}
 
 -- the active configuration is accepted from the opening on, where it stays so along legal histories
@@ -65,25 +61,16 @@ last_unsettled v w some un = record {
   cause = λ is. (refl, un.rose);
 }
 
-disks_spell : (j : JournalView) (rs : List Record) (flight : Option Made) → IsTrue (disk_a j).tells → IsTrue (disk_b j).tells → Holds j rs (record_in flight)
-    → Spell (disk_a j).history (disk_b j).history rs (entry_in flight)
-disks_spell j rs flight a b held =
-    subst (λ h. Spell h (disk_b j).history rs (entry_in flight)) (sym (history_first j.b_counts j.counting j.other))
-    (subst (λ h. Spell (first_of j.b_counts j.counting.history j.other.history) h rs (entry_in flight)) (sym (history_second j.b_counts j.counting j.other)) (spells_of j rs flight (tell_ab j a b) held))
-
--- the entry in flight may be the next of the list
-may_follow : (kept : Kept) (moment : ℕ) (flight : Option Made) → IfSome flight (IsSoundMade kept moment) → IfSome flight (λ made. IsEntry Accepts made.entry) → IfSome (entry_in flight) (IsNext kept)
-may_follow kept moment None sound entry = tt
-may_follow kept moment (Some made) sound entry = (entry, made_follows kept moment (Some made) sound)
-
-is_held : (j : JournalView) (s : State) → IsSoundState s → Stands j s.kept s.flight → IsTrue (disk_a j).tells → IsTrue (disk_b j).tells
+is_held : (j : JournalView) (s : State) → IsSoundState s → Stands j s.kept (entry_in s.flight) → IsTrue (disk_a j).tells → IsTrue (disk_b j).tells
     → HoldsKept (disk_a j).history (disk_b j).history s.kept (entry_in s.flight)
-is_held j s sound stands a b = record {
-  records = stands.records;
-  reads = stands.reads;
-  spell = disks_spell j stands.records s.flight a b stands.holds;
-  next = may_follow s.kept s.greatest s.flight sound.flight stands.entry;
-}
+is_held j s sound stands a b =
+    let follows = flight_follows s.kept s.greatest s.flight sound.flight in
+    record {
+      each = λ c d in_a in_b. stands_spelled j s.kept (entry_in s.flight) stands follows (tell_ab j a b) c d
+          (subst (λ h. IsImage (state_of h) c) (history_first j.b_counts j.counting j.other) in_a)
+          (subst (λ h. IsImage (state_of h) d) (history_second j.b_counts j.counting j.other) in_b);
+      next = may_come s.kept (entry_in s.flight) stands.entry follows;
+    }
 
 -- what is handed back of a book
 pub handed_back : (v : DatabaseView) (happened : History) (disks : DiskPair)

@@ -3,7 +3,7 @@ use Rattle.std.proofs.Common.{◌≡◌, ◌≤◌, inl, inr, ⊎_elim, ℕ, Boo
 use Rattle.disk_model.specs.Pair.{FaultOnEither}
 use Rattle.std.proofs.lemmas.Bool.{cases_lt}
 use Rattle.cfg_base.specs.Counts.{Rose}
-use Rattle.disk_model.specs.Disk.{DiskView, History}
+use Rattle.disk_model.specs.Disk.{DiskView}
 use Rattle.commit_journal.specs.Journal.{JournalView, Tell, PairCause, disk_a, disk_b, disks_of}
 use Rattle.commit_journal.specs.Pair.{first_of, second_of}
 use Rattle.commit_journal.specs.Steps.{Counts, Stays}

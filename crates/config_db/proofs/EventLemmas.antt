@@ -1,17 +1,12 @@
 -- One event of the database, put together: it stays a book, and the event is what is told.
-use Rattle.std.proofs.Common.{◌≡◌, ◌≤◌, ℕ, Bool, true, List, [], ◌∷◌, ◌++◌, refl, sym, ap, subst, ◌∙◌, inl, inr, Option, None, Some, is_some}
+use Rattle.std.proofs.Common.{◌≡◌, ◌≤◌, ℕ, Bool, true, List, [], ◌∷◌, ◌++◌, refl, sym, ap, subst, ◌∙◌, inl, inr, ⊎_elim, Option, None, Some, is_some}
 use Rattle.std.specs.Prelude.{IfSome, IsSome}
 use Rattle.cfg_base.specs.declared.calls.Calls.{Calls}
-use Rattle.disk_model.specs.Disk.{History, IsImage, state_of}
-use Rattle.record_code.specs.Record.{Record}
-use Rattle.commit_check.specs.Accepts.{Accepts}
-use Rattle.commit_ledger.specs.Payload.{entry_record}
-use Rattle.commit_ledger.specs.Reading.{ReadsAs}
-use Rattle.commit_ledger.specs.Rules.{IsEntry, Follows as EntryFollows}
-use Rattle.commit_ledger.proofs.ReadingLemmas.{appended_is_read}
-use Rattle.commit_ledger.specs.Kept.{Kept, append_entry}
+use Rattle.disk_model.specs.Disk.{IsImage, state_of}
+use Rattle.commit_ledger.specs.Kept.{Kept}
 use Rattle.commit_journal.specs.Journal.{JournalView, LeavesBoth, Tell, a_of, b_of}
-use Rattle.commit_journal.specs.Pair.{SpellsEither, WasLeft}
+use Rattle.commit_journal.specs.Pair.{WasLeft}
+use Rattle.stored_ledger.specs.Stored.{SpellsWith}
 use Rattle.config_core.specs.declared.event.Event.{Event}
 use Rattle.config_core.specs.declared.event.Event.TheVariants.{Settle}
 use Rattle.config_core.specs.declared.event.Outcome.{Outcome}
@@ -30,17 +25,20 @@ use Rattle.config_db.specs.View.{DatabaseView, IsSameRun, opened}
 use Rattle.config_db.specs.Numbers.{AreAtMost, calls_of, none_called}
 use Rattle.config_db.specs.Crash.{BothCalled, CountsOn, IsSafeWhile, Spelt}
 use Rattle.config_db.specs.Disks.{GoesOn}
-use Rattle.config_db.specs.Writing.{IsFoundOut, IsWritten, flight_after, kept_after, records_after}
+use Rattle.config_db.specs.Standing.{Stands}
+use Rattle.config_db.specs.Writing.{IsFoundOut, KeepsLimit, entry_in, flight_after, kept_after}
 use Rattle.config_db.specs.Shown.{IsShown, Shows, ShowsOn, ShowsSettled}
-use Rattle.config_db.specs.Book.{IsBook, Stands}
+use Rattle.config_db.specs.Book.{IsBook}
 use Rattle.config_db.specs.Moves.{Happens, IsSettledBy, IsUnsettled, Turns, noted}
+use Rattle.config_db.proofs.AnewLemmas.{agrees_a, agrees_b}
 use Rattle.config_db.proofs.CalledLemmas.{called_left, called_none}
-use Rattle.config_db.proofs.DiskLemmas.{goes_nowhere, tell_each, tell_since}
+use Rattle.config_db.proofs.DiskLemmas.{goes_nowhere, tell_since}
 use Rattle.config_db.proofs.NumberLemmas.{rising_more}
 use Rattle.config_db.proofs.SafeLemmas.{appends_safe, noted_safe, settles_safe}
-use Rattle.config_db.proofs.MachineLemmas.{Leaves, flying, free_steps, free_turns, kept_settled, made_follows, made_is_sound, plan_leaves, put_off_leaves, put_off_turns, settling_fits, settling_leaves, settling_turns}
+use Rattle.config_db.proofs.MachineLemmas.{Leaves, flying, free_steps, kept_settled, made_follows, plan_leaves, put_off_leaves, put_off_turns, settling_fits, settling_leaves, settling_makes_none, settling_turns}
 use Rattle.config_db.proofs.ShownLemmas.{settled_on, shows_on, shows_settled, shows_written, still_shown, written_on}
-use Rattle.config_db.proofs.BookLemmas.{book_after, book_unsettled, stands_found, stands_unfound, stands_written}
+use Rattle.config_db.proofs.BookLemmas.{book_after, book_unsettled, stands_found, stands_unfound}
+use Rattle.config_db.proofs.WritingLemmas.{Wrote}
 
 -- the database behind an event
 abbrev pub next : DatabaseView → JournalView → List Happened → State → WriterState → DatabaseView
@@ -82,8 +80,7 @@ module _ (v : DatabaseView) (book : IsBook v)
       → Tell j' → IsSafeWhile (opened v) v.events (calls_of j') (a_of j') (b_of j')
   settles j' goes counts left t' =
       let t = tell_since v.journal j' goes t' in
-      let each = tell_each v.journal t in
-      settles_safe (opened v) one_state v.events (calls_of v.journal) (calls_of j') (a_of v.journal) (b_of v.journal) (a_of j') (b_of j') (counts.told_a each.0) (counts.told_b each.1)
+      settles_safe (opened v) one_state v.events (calls_of v.journal) (calls_of j') (a_of v.journal) (b_of v.journal) (a_of j') (b_of j') (counts.told_a t) (counts.told_b t)
       book.rising (book.safe t) (left t)
 
   -- an event behind calls that only settled, or behind none
@@ -93,22 +90,20 @@ module _ (v : DatabaseView) (book : IsBook v)
       noted_safe (opened v) one_state v.events (calls_of j') (a_of j') (b_of j') (rising_more none_called v.events (calls_of v.journal) (calls_of j') later book.rising) (so_far t few_a few_b)
       v.state s' e told book.leads leads (λ c d in_a in_b. now c d t in_a in_b)
 
-  -- the list from before an append, with the entry that the event makes or without
-  either_spelt : (kept : Kept) (e : Happened) (turned : Turned) (made : Option Made) (rs : List Record) (c d : List ℕ) → kept ≡ v.state.kept → turned.made ≡ made → Steps v.state e.caller e.moment e.event e.outcome turned
-      → ReadsAs Accepts rs kept → IfSome made (λ m. IsEntry Accepts m.entry) → IfSome made (λ m. EntryFollows kept m.entry) → SpellsEither rs (records_after rs made Done) c d → Spelt v.state (Some e) c d
-  either_spelt kept e turned None rs c d is makes steps reads entry follows (inl old) = inl (rs, old, subst (ReadsAs Accepts rs) is reads)
-  either_spelt kept e turned None rs c d is makes steps reads entry follows (inr old) = inl (rs, old, subst (ReadsAs Accepts rs) is reads)
-  either_spelt kept e turned (Some m) rs c d is makes steps reads entry follows (inl old) = inl (rs, old, subst (ReadsAs Accepts rs) is reads)
-  either_spelt kept e turned (Some m) rs c d is makes steps reads entry follows (inr new) =
-      inr (m, inr (turned, steps, makes), (rs ++ entry_record m.entry ∷ [], new, subst (λ k. ReadsAs Accepts (rs ++ entry_record m.entry ∷ []) (append_entry k m.entry)) is (appended_is_read Accepts rs kept m.entry reads entry follows)))
+  -- what is kept, with the entry that the event makes or without
+  either_spelt : (e : Happened) (turned : Turned) (made : Option Made) (c d : List ℕ) → turned.made ≡ made → Steps v.state e.caller e.moment e.event e.outcome turned
+      → SpellsWith c d v.state.kept (entry_in made) → Spelt v.state (Some e) c d
+  either_spelt e turned None c d makes steps spells = inl spells
+  either_spelt e turned (Some m) c d makes steps spells = ⊎_elim (λ old. inl old) (λ new. inr (m, inr (turned, steps, makes), new)) spells
 
   -- from what the machine and the journal did
   comes : (j' : JournalView) (events' : List Happened) (s' : State) (w' : WriterState) (caller moment : ℕ) (event : Event) (outcome : Outcome) (reply : Reply) (calls : Calls) (kept : Kept) (flight : Option Made)
-      → calls ≡ calls_of j' → events' ≡ v.events ++ noted caller moment event outcome calls ∷ [] → Turns v.state caller moment event outcome reply s' → Leaves v.state s' kept flight
-      → Stands j' kept flight → GoesOn v.journal j' → (Tell v.journal → BothCalled v.journal j') → (outcome ≡ Done → flight ≡ None) → (outcome ≡ Fault → IsSome flight)
+      → calls ≡ calls_of j' → events' ≡ v.events ++ noted caller moment event outcome calls ∷ [] → (turns : Turns v.state caller moment event outcome reply s') → Leaves v.state s' kept flight
+      → Stands j' kept (entry_in flight) → GoesOn v.journal j' → (Tell v.journal → BothCalled v.journal j') → (outcome ≡ Done → flight ≡ None) → (outcome ≡ Fault → IsSome flight)
       → Safe j' (noted caller moment event outcome (calls_of j')) s' → ShowsThen j' (noted caller moment event outcome (calls_of j')) s' w' → ShowsOn v.shown w'
+      → (outcome ≡ Done → IfSome turns.turned.made (λ m. KeepsLimit v.state.kept m.entry j'))
       → Comes caller moment event outcome reply v (next v j' events' s' w')
-  comes j' events' s' w' caller moment event outcome reply calls kept flight told grown turns leaves stands goes called done failed safe shows on =
+  comes j' events' s' w' caller moment event outcome reply calls kept flight told grown turns leaves stands goes called done failed safe shows on trims =
       let grown' : events' ≡ v.events ++ noted caller moment event outcome (calls_of j') ∷ [] = grown ∙ ap (λ c. v.events ++ noted caller moment event outcome c ∷ []) told in
       let same : IsSameRun v (next v j' events' s' w') = record { opening = refl; users = refl } in
       record {
@@ -122,41 +117,37 @@ module _ (v : DatabaseView) (book : IsBook v)
           done = λ is. leaves.flight_is ∙ done is;
           failed = λ is. ap is_some leaves.flight_is ∙ failed is;
           shown = on;
+          trims = trims;
         };
       }
+
+  -- nothing is in flight
+  pub at_rest : v.state.flight ≡ None → Stands v.journal v.state.kept None
+  at_rest free = subst (λ f. Stands v.journal v.state.kept (entry_in f)) free book.stands
 
   -- an event with nothing in flight
   pub carried : (j' : JournalView) (events' : List Happened) (s' : State) (w' : WriterState) (caller moment : ℕ) (event : Event) (outcome : Outcome) (reply : Reply) (calls : Calls) (plan : Plan)
       → v.state.flight ≡ None → Fits v.state caller moment event → IsPrepared v.state caller moment event plan
-      → IsWritten (made_in plan.effect) outcome v.journal j' → IsShown (made_in plan.effect) outcome v.shown w' → calls ≡ calls_of j' → s' ≡ applied plan outcome v.state → reply ≡ replied plan.effect plan.reply outcome
+      → Wrote v.state.kept (made_in plan.effect) outcome v.journal j' → IsShown (made_in plan.effect) outcome v.shown w' → calls ≡ calls_of j' → s' ≡ applied plan outcome v.state → reply ≡ replied plan.effect plan.reply outcome
       → events' ≡ v.events ++ noted caller moment event outcome calls ∷ [] → Comes caller moment event outcome reply v (next v j' events' s' w')
   carried j' events' s' w' caller moment event outcome reply calls plan free fits prepared written shown told is replies grown =
-      let turned = free_turns v.state caller moment event plan outcome free fits prepared written.calm in
       comes j' events' s' w' caller moment event outcome reply calls (kept_after v.state.kept (made_in plan.effect) outcome) (flight_after (made_in plan.effect) outcome) told grown
-      (subst (λ t. Turns v.state caller moment event outcome reply t) (sym is) (subst (λ r. Turns v.state caller moment event outcome r (applied plan outcome v.state)) (sym replies) turned))
-      leaves
-      (stands_written v.journal j' v.state.kept (made_in plan.effect) outcome before written follows)
-      written.goes (λ t. called_left v.journal j' (SpellsEither before.records (records_after before.records (made_in plan.effect) Done)) t written.counts (written.crash before.records before.holds t)) (none_done (made_in plan.effect) outcome) (some_failed (made_in plan.effect) outcome written.calm) safe
+      (record { fits = fits; turned = ended plan outcome v.state; steps = free_steps v.state caller moment event plan outcome free fits prepared written.calm; state = is; replied = replies })
+      leaves written.stands
+      written.goes written.called (none_done (made_in plan.effect) outcome) (some_failed (made_in plan.effect) outcome written.calm) safe
       (λ leads. shows_written (opened v) v.events v.state v.shown book.shows (noted caller moment event outcome (calls_of j') ∷ []) s' leads (made_in plan.effect) outcome w' free shown leaves.kept_is leaves.flight_is)
-      (written_on (made_in plan.effect) outcome v.shown w' shown)
+      (written_on (made_in plan.effect) outcome v.shown w' shown) written.trims
     where
       leaves : Leaves v.state s' (kept_after v.state.kept (made_in plan.effect) outcome) (flight_after (made_in plan.effect) outcome)
       leaves = subst (λ t. Leaves v.state t (kept_after v.state.kept (made_in plan.effect) outcome) (flight_after (made_in plan.effect) outcome)) (sym is) (plan_leaves plan outcome v.state free written.calm)
 
-      before : Stands v.journal v.state.kept None
-      before = subst (λ f. Stands v.journal v.state.kept f) free book.stands
-
-      follows : IfSome (made_in plan.effect) (λ m. EntryFollows v.state.kept m.entry)
-      follows = made_follows v.state.kept moment (made_in plan.effect) (made_is_sound v.state caller moment event plan book.sound free fits prepared)
-
       safe : Safe j' (noted caller moment event outcome (calls_of j')) s'
       safe leads now t' =
           let t = tell_since v.journal j' written.goes t' in
-          let each = tell_each v.journal t in
-          appends_safe (opened v) one_state v.events (calls_of v.journal) (calls_of j') (a_of v.journal) (b_of v.journal) (a_of j') (b_of j') (written.counts.told_a each.0) (written.counts.told_b each.1)
-          book.rising (book.safe t) v.state s' (noted caller moment event outcome (calls_of j')) (SpellsEither before.records (records_after before.records (made_in plan.effect) Done)) refl book.leads leads (book.at_rest free)
-          (written.crash before.records before.holds t)
-          (λ c d. either_spelt v.state.kept (noted caller moment event outcome (calls_of j')) (ended plan outcome v.state) (made_in plan.effect) before.records c d refl refl (free_steps v.state caller moment event plan outcome free fits prepared written.calm) before.reads written.entry follows)
+          appends_safe (opened v) one_state v.events (calls_of v.journal) (calls_of j') (a_of v.journal) (b_of v.journal) (a_of j') (b_of j') (agrees_a v.journal j' (written.called t)) (agrees_b v.journal j' (written.called t))
+          book.rising (book.safe t) v.state s' (noted caller moment event outcome (calls_of j')) (λ c d. SpellsWith c d v.state.kept (entry_in (made_in plan.effect))) refl book.leads leads (book.at_rest free)
+          (written.crash t)
+          (λ c d. either_spelt (noted caller moment event outcome (calls_of j')) (ended plan outcome v.state) (made_in plan.effect) c d refl (free_steps v.state caller moment event plan outcome free fits prepared written.calm))
           (λ c d in_a in_b. now c d t' in_a in_b)
 
   module _ (some : IsSome v.state.flight) where
@@ -167,8 +158,8 @@ module _ (v : DatabaseView) (book : IsBook v)
     unfolding made
     is_made = (flying v.state.flight some).1
 
-    here : Stands v.journal v.state.kept (Some made)
-    here = subst (λ f. Stands v.journal v.state.kept f) is_made book.stands
+    here : Stands v.journal v.state.kept (Some made.entry)
+    here = subst (λ f. Stands v.journal v.state.kept (entry_in f)) is_made book.stands
 
     made_sound : IsSoundMade v.state.kept v.state.greatest made
     made_sound = subst (λ f. IfSome f (IsSoundMade v.state.kept v.state.greatest)) is_made book.sound.flight
@@ -183,19 +174,20 @@ module _ (v : DatabaseView) (book : IsBook v)
         let leaves : Leaves v.state s' (kept_settled v.state.kept made is_kept) None =
         subst (λ t. Leaves v.state t (kept_settled v.state.kept made is_kept) None) (sym (by.is ∙ turned.state)) (settling_leaves v.state caller moment is_kept turned.turned made is_made turned.steps) in
         comes j' events' s' w' caller moment (Settle is_kept) Done (replied by.plan.effect by.plan.reply Done) calls (kept_settled v.state.kept made is_kept) None told grown
-        (subst (λ t. Turns v.state caller moment (Settle is_kept) Done (replied by.plan.effect by.plan.reply Done) t) (sym by.is) turned)
+        (record { fits = turned.fits; turned = turned.turned; steps = turned.steps; state = by.is ∙ turned.state; replied = turned.replied })
         leaves
         (stands_found v.journal j' v.state.kept made is_kept here found (made_follows v.state.kept v.state.greatest (Some made) made_sound))
         found.goes (λ t. called_left v.journal j' (WasLeft (a_of v.journal) (b_of v.journal)) t found.counts (found.crash t)) (λ done. refl) (λ failed. absurd (cc))
         (notes j' (noted caller moment (Settle is_kept) Done (calls_of j')) s' found.goes.calls refl (settles j' found.goes found.counts found.crash))
         (λ leads. shows_settled (opened v) v.events v.state v.shown book.shows (noted caller moment (Settle is_kept) Done (calls_of j') ∷ []) s' leads made is_kept w' is_made shown leaves.kept_is leaves.flight_is)
         (settled_on is_kept v.shown w' shown)
+        (λ done. subst (λ m. IfSome m (λ m. KeepsLimit v.state.kept m.entry j')) (sym (settling_makes_none v.state caller moment is_kept turned.turned made is_made turned.steps)) tt)
 
     -- a settling that failed
     pub unsettled_book : (j' : JournalView) → IsFoundOut None v.journal j' → IsBook (next v j' v.events v.state v.shown)
     unsettled_book j' found =
         book_unsettled v j' book some found.goes.calls
-        (subst (λ f. Stands j' v.state.kept f) (sym is_made) (stands_unfound v.journal j' v.state.kept made here found))
+        (subst (λ f. Stands j' v.state.kept (entry_in f)) (sym is_made) (stands_unfound v.journal j' v.state.kept made here found))
         (settles j' found.goes found.counts found.crash)
 
     pub unsettled_so : (j' : JournalView) → IsFoundOut None v.journal j' → IsUnsettled v (next v j' v.events v.state v.shown)
@@ -211,9 +203,9 @@ module _ (v : DatabaseView) (book : IsBook v)
         let leaves : Leaves v.state s' v.state.kept v.state.flight =
         subst (λ t. Leaves v.state t v.state.kept v.state.flight) (sym (is ∙ turned.state)) (put_off_leaves v.state caller moment event turned.turned made asks is_made turned.steps) in
         comes v.journal events' s' v.shown caller moment event Fault reply calls v.state.kept v.state.flight told grown
-        (subst (λ t. Turns v.state caller moment event Fault reply t) (sym is) (subst (λ r. Turns v.state caller moment event Fault r (applied plan Fault v.state)) (sym replies) turned))
+        (record { fits = turned.fits; turned = turned.turned; steps = turned.steps; state = is ∙ turned.state; replied = replies ∙ turned.replied })
         leaves
         book.stands (goes_nowhere v.journal) (λ t. called_none v.journal) (λ done. absurd (cc)) (λ failed. some)
         (notes v.journal (noted caller moment event Fault (calls_of v.journal)) s' (goes_nowhere v.journal).calls refl book.safe)
         (λ leads. shows_on (opened v) v.events v.state v.shown book.shows (noted caller moment event Fault (calls_of v.journal) ∷ []) s' leaves.kept_is leaves.flight_is)
-        (still_shown v.shown v.shown refl refl)
+        (still_shown v.shown v.shown refl refl) (λ done. absurd (cc))

@@ -4,6 +4,8 @@ mod SpanLemmas
 mod CrashLemmas
 mod SafeLemmas
 pub mod DiskLemmas
+mod StandingLemmas
+mod AnewLemmas
 mod WritingLemmas
 mod MachineLemmas
 mod ShownLemmas

@@ -174,6 +174,13 @@ settling_moves s caller moment is_kept turned made is steps =
     let answer : turned ≡ answered (settled (later s moment) made is_kept) SaysDone = subst (λ w. StepsFrom w (later s moment) caller (Settle is_kept) Done turned) (waits s moment made is) steps in
     ap (λ t. t.state.greatest) answer ∙ settled_at (later s moment) made is_kept
 
+-- and it makes no entry
+pub settling_makes_none : (s : State) (caller moment : ℕ) (is_kept : Bool) (turned : Turned) (made : Made) → s.flight ≡ Some made → Steps s caller moment (Settle is_kept) Done turned
+    → turned.made ≡ None
+settling_makes_none s caller moment is_kept turned made is steps =
+    let answer : turned ≡ answered (settled (later s moment) made is_kept) SaysDone = subst (λ w. StepsFrom w (later s moment) caller (Settle is_kept) Done turned) (waits s moment made is) steps in
+    ap (λ t. t.made) answer
+
 -- a command while an entry is in flight
 pub put_off_turns : (s : State) (caller moment : ℕ) (event : Event) (plan : Plan) (made : Made) → is_command event ≡ true → s.flight ≡ Some made → Fits s caller moment event
     → IsPrepared s caller moment event plan → Turns s caller moment event Fault (replied plan.effect plan.reply Fault) (applied plan Fault s)

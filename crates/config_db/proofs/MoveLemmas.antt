@@ -1,5 +1,5 @@
 -- Events of one caller at one moment, one behind another.
-use Rattle.std.proofs.Common.{◌≡◌, ℕ, Bool, List, [], ◌∷◌, ◌++◌, refl, sym, ap, ◌∙◌, append_assoc, arith}
+use Rattle.std.proofs.Common.{◌≡◌, ℕ, List, [], ◌∷◌, ◌++◌, refl, sym, ap, ◌∙◌, append_assoc, arith}
 use Rattle.session_history.specs.Events.{IsEventOf}
 use Rattle.commit_journal.specs.Journal.{disks_of}
 use Rattle.disk_model.specs.Pair.{FaultOnEither}

@@ -1,5 +1,5 @@
 -- The crash theorem over the journal's calls: calls that settle, an append with its event, and an event without a call.
-use Rattle.std.proofs.Common.{◌≡◌, ◌≤◌, inl, inr, ⊎_elim, ℕ, ◌+◌, Bool, List, [], ◌∷◌, ◌++◌, length, Some, None, refl, sym, ◌∙◌, ap, subst, arith, length-append}
+use Rattle.std.proofs.Common.{◌≡◌, ◌≤◌, inl, inr, ⊎_elim, ℕ, ◌+◌, List, [], ◌∷◌, ◌++◌, length, Some, None, refl, sym, ◌∙◌, ap, subst, arith, length-append}
 use Rattle.std.proofs.lemmas.List.{append-nil}
 use Rattle.cfg_base.specs.declared.calls.Calls.{Calls}
 use Rattle.disk_model.specs.Disk.{Call, History, DiskState, state_of, contents_of, IsImage, Since, Leaves}
@@ -12,6 +12,7 @@ use Rattle.session_history.specs.declared.history.Happened.{Happened}
 use Rattle.session_history.specs.Events.{Leads}
 use Rattle.config_db.specs.Numbers.{AreRising, none_called}
 use Rattle.config_db.specs.Crash.{CountsOn, InSpan, IsReckoned, IsSafeNow, IsSafeWhile, Spelt, CountsAgree, last_calls}
+use Rattle.config_db.proofs.DiskLemmas.{tell_each}
 use Rattle.config_db.proofs.SpanLemmas.{Grows, first_moment, grown_length, last_moment, span_now, span_split}
 use Rattle.config_db.proofs.CrashLemmas.{event_is_safe, settling_is_safe}
 
@@ -19,10 +20,7 @@ pub told_counts : (h h' : History) (m m' : ℕ) → CountsCalls h h' m m' → Co
 told_counts h h' m m' is few within longer = omega (arith, is few, few, within, longer)
 
 pub counts_on : (j j' : JournalView) → Counts j j' → CountsOn j j'
-counts_on j j' counts = record { told_a = λ t. told_counts (a_of j) (a_of j') (calls_a j) (calls_a j') (counts.goes_a t); told_b = λ t. told_counts (b_of j) (b_of j') (calls_b j) (calls_b j') (counts.goes_b t) }
-
-pub counts_none : (j : JournalView) → CountsOn j j
-counts_none j = record { told_a = λ t few within longer. omega arith; told_b = λ t few within longer. omega arith }
+counts_on j j' counts = record { told_a = λ t. told_counts (a_of j) (a_of j') (calls_a j) (calls_a j') (counts.goes_a (tell_each j t).0); told_b = λ t. told_counts (b_of j) (b_of j') (calls_b j) (calls_b j') (counts.goes_b (tell_each j t).1) }
 
 grows_told : (h h' : History) (m m' : ℕ) (more : List Call) → h'.first ≡ h.first → h'.calls ≡ h.calls ++ more → CountsAgree h h' m m' → IsReckoned h' → m ≤ length h.calls → Grows h h' m m' more
 grows_told h h' m m' more first calls told few within =

@@ -1,5 +1,5 @@
 -- What comes before a command, and what is answered.
-use Rattle.std.specs.Prelude.{◌≡◌, ◌≤◌, ◌⊎◌, ℕ, Bool, List, [], ◌∷◌, ◌++◌, length, max, IsSome}
+use Rattle.std.specs.Prelude.{◌≡◌, ◌≤◌, ◌⊎◌, ℕ, List, [], ◌∷◌, ◌++◌, length, max, IfSome, IsSome}
 use Rattle.commit_journal.specs.Journal.{JournalView, disks_of}
 use Rattle.disk_model.specs.Pair.{FaultOnEither}
 use Rattle.commands.specs.declared.command.Command.{Command}
@@ -20,19 +20,25 @@ use Rattle.config_db.specs.declared.answer.Ticked.TheVariants.{Nothing, Settled,
 use Rattle.config_db.specs.View.{DatabaseView}
 use Rattle.config_db.specs.Numbers.{calls_of}
 use Rattle.config_db.specs.Crash.{last_calls}
+use Rattle.config_db.specs.Writing.{KeepsLimit}
 use Rattle.config_db.specs.Moves.{Extends, Happens}
 
 -- nothing comes before a command at that moment
 abbrev pub IsClear : ℕ → DatabaseView → Type 0
 IsClear moment v = waiting_of v.state moment ≡ Free
 
--- the last of the events reverts a missed deadline
-pub record EndsReverted (own : List Happened) : Type 0 where
+-- the last of the events reverts a missed deadline; its entry leaves the file within its limit, where a checkpoint and the entry fit in it
+pub record EndsReverted (own : List Happened) (v v' : DatabaseView) : Type 0 where
   pub front : List Happened
   pub last : Happened
   pub is_own : own ≡ front ++ last ∷ []
   pub reverts : last.event ≡ Revert
   pub done : last.outcome ≡ Done
+  pub before : State
+  pub leads : Leads v.state front before
+  pub turned : Turned
+  pub steps : Steps before last.caller last.moment Revert Done turned
+  pub trims : IfSome turned.made (λ made. KeepsLimit before.kept made.entry v'.journal)
 
 -- one event, which settles what was in flight
 pub record IsOneSettling (own : List Happened) : Type 0 where
@@ -54,7 +60,7 @@ PublishesFirst wanting v v' = (length v.shown.list ≤ v'.shown.published) ⊎ (
 abbrev pub Clears : ℕ → Ticked → List Happened → DatabaseView → DatabaseView → Type 0
 Clears moment Nothing own v v' = (own ≡ []) × IsClear moment v'
 Clears moment Settled own v v' = IsOneSettling own × IsClear moment v'
-Clears moment Reverted own v v' = EndsReverted own × IsClear moment v'
+Clears moment Reverted own v v' = EndsReverted own v v' × IsClear moment v'
 Clears moment DiskFault own v v' = IsSome v'.state.flight × FaultOnEither (disks_of v.journal) (disks_of v'.journal)
 Clears moment TickedNoMemory own v v' = NoneCalledBehind own v.journal v'.journal
 
@@ -98,7 +104,7 @@ Takes caller moment command NoMemory why v v' = v' ≡ v
 abbrev pub ClearsBehind : ℕ → Ticked → List Happened → DatabaseView → DatabaseView → Type 0
 ClearsBehind moment Nothing own v v' = ⊥
 ClearsBehind moment Settled own v v' = (own ≡ []) × IsClear moment v'
-ClearsBehind moment Reverted own v v' = EndsReverted own × IsClear moment v'
+ClearsBehind moment Reverted own v v' = EndsReverted own v v' × IsClear moment v'
 ClearsBehind moment DiskFault own v v' = IsSome v'.state.flight × FaultOnEither (disks_of v.journal) (disks_of v'.journal)
 ClearsBehind moment TickedNoMemory own v v' = Unit {0}
 
@@ -134,6 +140,8 @@ pub record IsAnswered (caller moment : ℕ) (command : Command) (place : ℕ) (r
   pub replied : reply ≡ turned.reply
   -- it has the numbers of calls that the journal tells
   pub calls : last.calls ≡ calls_of v'.journal
+  -- where it made an entry, and that is done, the file keeps to its limit, if a checkpoint and the entry fit in it
+  pub trims : last.outcome ≡ Done → IfSome turned.made (λ made. KeepsLimit before.kept made.entry v'.journal)
 
 -- a command for which memory was wanting is no event, and no disk was called since the last event of the call: what came of a
 -- disk's call is told by an event

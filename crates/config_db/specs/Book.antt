@@ -1,28 +1,19 @@
 -- What is always true of a database: its events lead to its state, and its journal holds what the state keeps.
-use Rattle.std.specs.Prelude.{◌≡◌, Bool, List, length, Option, None, IfSome}
-use Rattle.disk_model.specs.Disk.{History}
+use Rattle.std.specs.Prelude.{◌≡◌, List, length, None}
 use Rattle.record_code.specs.Record.{Record}
 use Rattle.commit_check.specs.Accepts.{Accepts}
 use Rattle.commit_ledger.specs.Kept.{Kept}
 use Rattle.commit_ledger.specs.Reading.{ReadsAs}
-use Rattle.commit_ledger.specs.Rules.{IsEntry}
 use Rattle.commit_journal.specs.Journal.{JournalView, Tell, a_of, b_of}
 use Rattle.config_core.specs.Soundness.{IsSoundKept, IsSoundState}
-use Rattle.config_core.specs.State.{Made}
 use Rattle.session_history.specs.Events.{Leads}
 use Rattle.config_db.specs.View.{DatabaseView, opened}
 use Rattle.config_db.specs.Numbers.{AreRising, calls_of, none_called}
 use Rattle.config_db.specs.Crash.{IsSafeWhile, last_calls}
 use Rattle.config_db.specs.Disks.{Holds}
-use Rattle.config_db.specs.Writing.{record_in}
+use Rattle.config_db.specs.Standing.{Stands}
+use Rattle.config_db.specs.Writing.{entry_in}
 use Rattle.config_db.specs.Shown.{Shows}
-
--- the journal holds records that are read as what is kept, and the entry in flight is its record in flight
-pub record Stands (j : JournalView) (kept : Kept) (flight : Option Made) : Type 0 where
-  pub records : List Record
-  pub reads : ReadsAs Accepts records kept
-  pub holds : Holds j records (record_in flight)
-  pub entry : IfSome flight (λ made. IsEntry Accepts made.entry)
 
 pub record IsBook (v : DatabaseView) : Type 0 where
   -- it began over a list whose maps are accepted
@@ -38,7 +29,7 @@ pub record IsBook (v : DatabaseView) : Type 0 where
   pub sound : IsSoundState v.state
   -- there is a caller for each user
   pub callers : length v.state.callers ≡ length v.users
-  pub stands : Stands v.journal v.state.kept v.state.flight
+  pub stands : Stands v.journal v.state.kept (entry_in v.state.flight)
   -- readers are shown what is kept, and the view after the entry in flight waits
   pub shows : Shows (opened v) v.events v.state v.shown
 

@@ -1,5 +1,5 @@
 -- How a database ends, and what is handed back.
-use Rattle.std.specs.Prelude.{◌≡◌, ◌⊎◌, ℕ, Bool, true, List, [], Some, is_some}
+use Rattle.std.specs.Prelude.{◌≡◌, ◌⊎◌, Bool, true, List, [], Some, is_some}
 use Rattle.disk_model.specs.Pair.{BothTell, DiskPair, FaultOnEither}
 use Rattle.commit_journal.specs.Journal.{disks_of}
 use Rattle.session_history.specs.declared.history.Happened.{Happened}

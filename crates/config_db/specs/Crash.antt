@@ -1,16 +1,16 @@
 -- What a crash at any moment of a run may leave on the two disks. This project's own.
-use Rattle.std.specs.Prelude.{◌≡◌, ◌<◌, ◌≤◌, ◌-◌, ◌+◌, ◌^◌, ◌⊎◌, ℕ, Bool, IsTrue, List, [], ◌∷◌, ◌++◌, length, Option, Some, None}
+use Rattle.std.specs.Prelude.{◌≡◌, ◌<◌, ◌≤◌, ◌-◌, ◌+◌, ◌^◌, ◌⊎◌, ℕ, List, [], ◌∷◌, ◌++◌, length, Option, Some, None}
 use Rattle.cfg_base.specs.declared.calls.Calls.{Calls}
 use Rattle.disk_model.specs.Disk.{Call, DiskGoesOn, History, LeftBetween}
 use Rattle.disk_model.specs.Pair.{DiskPair}
-use Rattle.commit_ledger.specs.Kept.{Kept, append_entry}
-use Rattle.commit_journal.specs.Journal.{JournalView, a_of, b_of, calls_a, calls_b, disk_a, disk_b}
+use Rattle.commit_ledger.specs.Kept.{append_entry}
+use Rattle.commit_journal.specs.Journal.{JournalView, Tell, a_of, b_of, calls_a, calls_b, disk_a, disk_b}
 use Rattle.config_core.specs.Machine.{Steps}
 use Rattle.config_core.specs.Serving.{Turned}
 use Rattle.config_core.specs.State.{State, Made}
 use Rattle.session_history.specs.declared.history.Happened.{Happened}
 use Rattle.session_history.specs.Events.{Leads}
-use Rattle.stored_ledger.specs.Stored.{SpellsKept}
+use Rattle.stored_ledger.specs.Stored.{SpellsAgreeing, SpellsKept}
 use Rattle.config_db.specs.Numbers.{AreRising, none_called}
 
 -- a disk's own count of calls isn't at its end
@@ -46,10 +46,11 @@ NextMakes s None made = ⊥
 NextMakes s (Some event) made =
     (turned : Turned) × Steps s event.caller event.moment event.event event.outcome turned × (turned.made ≡ Some made)
 
--- two files spell what is kept in a state, or that with the entry in flight or the one that the next event makes
+-- two files spell what is kept in a state, or a list that agrees with it, or that with the entry in flight or the one that the next
+-- event makes
 abbrev pub Spelt : State → Option Happened → List ℕ → List ℕ → Type 0
 Spelt s next a b =
-    SpellsKept a b s.kept
+    SpellsAgreeing a b s.kept
     ⊎ ((made : Made) × ((s.flight ≡ Some made) ⊎ NextMakes s next made) × SpellsKept a b (append_entry s.kept made.entry))
 
 -- between any two events, before the first and after the last: each pair of images of that span, one of each disk, of whatever
@@ -81,10 +82,10 @@ IsSafeWhile first events made a b = IsReckoned a → IsReckoned b → IsSafeNow 
 abbrev pub CountsAgree : History → History → ℕ → ℕ → Type 0
 CountsAgree h h' m m' = IsReckoned h' → m ≤ length h.calls → length h.calls ≤ length h'.calls → m' ≡ m + (length h'.calls - length h.calls)
 
--- the numbers that a journal tells went on so
+-- the numbers that a journal tells went on so, where its disks tell what they hold
 pub record CountsOn (j j' : JournalView) : Type 0 where
-  pub told_a : IsTrue (disk_a j).tells → CountsAgree (a_of j) (a_of j') (calls_a j) (calls_a j')
-  pub told_b : IsTrue (disk_b j).tells → CountsAgree (b_of j) (b_of j') (calls_b j) (calls_b j')
+  pub told_a : Tell j → CountsAgree (a_of j) (a_of j') (calls_a j) (calls_a j')
+  pub told_b : Tell j → CountsAgree (b_of j) (b_of j') (calls_b j) (calls_b j')
 
 -- a disk made more calls, and the number that is told of them went on with them
 abbrev pub CallsOn : History → History → ℕ → ℕ → Type 0

@@ -1,6 +1,7 @@
 pub mod View
 pub mod Numbers
 pub mod Disks
+pub mod Standing
 pub mod Crash
 pub mod Writing
 pub mod Shown

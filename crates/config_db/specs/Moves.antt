@@ -1,5 +1,5 @@
 -- How a database goes on by one event, and by several of one caller at one moment.
-use Rattle.std.specs.Prelude.{◌≡◌, ℕ, Bool, false, List, [], ◌∷◌, ◌++◌, None, IsSome}
+use Rattle.std.specs.Prelude.{◌≡◌, ℕ, Bool, List, [], ◌∷◌, ◌++◌, None, IfSome, IsSome}
 use Rattle.disk_model.specs.Pair.{FaultOnEither}
 use Rattle.std.specs.List.{AllByRecursion}
 use Rattle.cfg_base.specs.declared.calls.Calls.{Calls}
@@ -15,7 +15,7 @@ use Rattle.config_core.specs.Prepared.{IsPrepared, applied}
 use Rattle.config_core.specs.Serving.{Turned}
 use Rattle.config_core.specs.State.{State}
 use Rattle.session_history.specs.declared.history.Happened.{Happened}
-use Rattle.session_history.specs.Events.{Leads, is_command, IsEventOf}
+use Rattle.session_history.specs.Events.{Leads, IsEventOf}
 use Rattle.config_db.specs.declared.answer.Before.{Before}
 use Rattle.config_db.specs.declared.answer.Before.TheVariants.{Settled, PutOff}
 use Rattle.config_db.specs.View.{DatabaseView, IsSameRun}
@@ -24,6 +24,7 @@ use Rattle.config_db.specs.Crash.{BothCalled}
 use Rattle.config_db.specs.Disks.{GoesOn}
 use Rattle.config_db.specs.Faults.{FaultsAreCounted}
 use Rattle.config_db.specs.Shown.{ShowsOn}
+use Rattle.config_db.specs.Writing.{KeepsLimit}
 
 -- an event with its outcome is a step of the machine, with that reply
 pub record Turns (s : State) (caller moment : ℕ) (event : Event) (outcome : Outcome) (reply : Reply) (s' : State) : Type 0 where
@@ -50,6 +51,8 @@ pub record Happens (caller moment : ℕ) (event : Event) (outcome : Outcome) (re
   pub done : outcome ≡ Done → v'.state.flight ≡ None
   pub failed : outcome ≡ Fault → IsSome v'.state.flight
   pub shown : ShowsOn v.shown v'.shown
+  -- an entry that was written leaves the file within its limit, where a checkpoint and the entry fit in it
+  pub trims : outcome ≡ Done → IfSome turns.turned.made (λ made. KeepsLimit v.state.kept made.entry v'.journal)
 
 -- a disk failed before the entry in flight was settled: the journal was called, and all else is as before
 pub record IsUnsettled (v v' : DatabaseView) : Type 0 where

@@ -1,5 +1,5 @@
 -- How a database begins on two disks.
-use Rattle.std.specs.Prelude.{◌≡◌, ℕ, Bool, List, [], length, max, replicate}
+use Rattle.std.specs.Prelude.{◌≡◌, ℕ, List, [], length, max, replicate}
 use Rattle.disk_model.specs.Pair.{DiskPair}
 use Rattle.commit_journal.specs.Opening.{IsOpened}
 use Rattle.config_core.specs.State.{opening_of}

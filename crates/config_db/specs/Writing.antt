@@ -1,23 +1,25 @@
 -- How the entry that an event makes is written, and how what is in flight is found out.
-use Rattle.std.specs.Prelude.{◌≡◌, ◌≤◌, ℕ, Bool, true, false, List, [], ◌∷◌, ◌++◌, Option, None, Some, IfSome}
+use Rattle.std.specs.Prelude.{◌≡◌, ◌≤◌, ◌+◌, ◌⊎◌, Bool, true, false, List, [], ◌∷◌, ◌++◌, length, Option, None, Some}
 use Rattle.disk_model.specs.Pair.{FaultOnEither}
 use Rattle.cfg_lex.specs.Printed.{IsPrintable}
-use Rattle.disk_model.specs.Disk.{History}
-use Rattle.record_code.specs.Record.{Record}
+use Rattle.record_code.specs.Reading.{first_gate}
+use Rattle.record_code.specs.Record.{Record, bodies, body}
 use Rattle.commit_check.specs.Accepts.{Accepts}
 use Rattle.commit_ledger.specs.declared.entry.Entry.{Entry}
 use Rattle.commit_ledger.specs.declared.entry.Entry.TheVariants.{Commit as CommitOf, Confirm as ConfirmOf}
 use Rattle.commit_ledger.specs.declared.entry.Commit.{Commit}
+use Rattle.commit_ledger.specs.Checkpoint.{checkpoint}
 use Rattle.commit_ledger.specs.Kept.{Kept, append_entry}
 use Rattle.commit_ledger.specs.Payload.{entry_record}
-use Rattle.commit_ledger.specs.Rules.{IsEntry}
 use Rattle.commit_journal.specs.Journal.{JournalView, LeavesBoth, Tell, a_of, b_of, disks_of}
 use Rattle.commit_journal.specs.Pair.{SpellsEither, WasLeft}
 use Rattle.config_core.specs.declared.event.Outcome.{Outcome}
 use Rattle.config_core.specs.declared.event.Outcome.TheVariants.{Done, Fault}
 use Rattle.config_core.specs.State.{Made}
-use Rattle.config_db.specs.Crash.{CountsOn}
-use Rattle.config_db.specs.Disks.{GoesOn, Holds}
+use Rattle.stored_ledger.specs.Stored.{SpellsWith}
+use Rattle.config_db.specs.Crash.{BothCalled, CountsOn}
+use Rattle.config_db.specs.Disks.{GoesOn, Holds, HoldsImage}
+use Rattle.config_db.specs.Standing.{Stands}
 
 -- a commit that may be written: by what its types don't keep
 pub record IsWritableCommit (commit : Commit) : Type 0 where
@@ -30,17 +32,19 @@ abbrev pub IsWritable : Entry → Type 0
 IsWritable (CommitOf commit) = IsWritableCommit commit
 IsWritable (ConfirmOf confirm) = 1 ≤ confirm.number
 
--- the records behind an event that makes this entry or none, by its outcome
-abbrev pub records_after : List Record → Option Made → Outcome → List Record
-records_after rs None outcome = rs
-records_after rs (Some made) Done = rs ++ entry_record made.entry ∷ []
-records_after rs (Some made) Fault = rs
+-- what is kept behind the writing of an entry, and what is in flight
+abbrev pub kept_written : Kept → Entry → Outcome → Kept
+kept_written kept entry Done = append_entry kept entry
+kept_written kept entry Fault = kept
 
--- and what is kept then
+abbrev pub entry_left : Entry → Outcome → Option Entry
+entry_left entry Done = None
+entry_left entry Fault = Some entry
+
+-- what is kept behind an event that makes this entry or none, by its outcome
 abbrev pub kept_after : Kept → Option Made → Outcome → Kept
 kept_after kept None outcome = kept
-kept_after kept (Some made) Done = append_entry kept made.entry
-kept_after kept (Some made) Fault = kept
+kept_after kept (Some made) outcome = kept_written kept made.entry outcome
 
 -- and what is in flight
 abbrev pub flight_after : Option Made → Outcome → Option Made
@@ -52,11 +56,6 @@ flight_after (Some made) Fault = Some made
 abbrev pub entry_in : Option Made → Option Entry
 entry_in None = None
 entry_in (Some made) = Some made.entry
-
--- an entry in flight as its record
-abbrev pub record_in : Option Made → Option Record
-record_in None = None
-record_in (Some made) = Some (entry_record made.entry)
 
 -- the records behind an append, and the record in flight, by its outcome
 abbrev pub records_written : List Record → Record → Outcome → List Record
@@ -78,20 +77,34 @@ pub record IsAppend (body : List Record) (outcome : Outcome)
   -- a crash at any moment of the call leaves the records from before it, with this one or without
   pub crash : (rs : List Record) (r : Record) → body ≡ r ∷ [] → Holds j rs None → Tell j
       → LeavesBoth j j' (SpellsEither rs (rs ++ r ∷ []))
+  -- the same file counts, behind the record where that is done, and the other one isn't called
+  pub choice : j'.b_counts ≡ j.b_counts
+  pub other_is : j'.other ≡ j.other
+  pub limit_is : j'.limit ≡ j.limit
+  pub gate_is : outcome ≡ Done → j'.gate ≡ j.gate + length (bodies body)
 
--- the entry that an event makes, if it makes one, was written, with this outcome
-pub record IsWritten (made : Option Made) (outcome : Outcome)
-    (j j' : JournalView) : Type 0 where
-  -- what makes no entry is done
-  pub calm : made ≡ None → outcome ≡ Done
-  pub entry : IfSome made (λ m. IsEntry Accepts m.entry)
-  pub holds : (rs : List Record) → Holds j rs None
-      → Holds j' (records_after rs made outcome) (record_in (flight_after made outcome))
+-- the used part of the file keeps to the limit, wherever a checkpoint of what was kept and the record of the entry fit in it together
+abbrev pub KeepsLimit : Kept → Entry → JournalView → Type 0
+KeepsLimit kept entry j =
+    first_gate + 1 + length (bodies (checkpoint kept)) + length (body 0 (entry_record entry)) ≤ j.limit → j.gate + 1 ≤ j.limit
+
+-- an entry was written behind what is kept, with this outcome
+pub record IsEntryWritten (kept : Kept) (entry : Entry) (outcome : Outcome) (j j' : JournalView) : Type 0 where
+  pub stands : Stands j' (kept_written kept entry outcome) (entry_left entry outcome)
   pub goes : GoesOn j j'
   pub cause : outcome ≡ Fault → FaultOnEither (disks_of j) (disks_of j')
-  pub counts : CountsOn j j'
-  pub crash : (rs : List Record) → Holds j rs None → Tell j
-      → LeavesBoth j j' (SpellsEither rs (records_after rs made Done))
+  -- the disks made the calls that are told
+  pub called : Tell j → BothCalled j j'
+  -- a crash at any moment of the call leaves what was kept, or that with the entry
+  pub crash : Tell j → LeavesBoth j j' (λ c d. SpellsWith c d kept (Some entry))
+  pub trims : outcome ≡ Done → KeepsLimit kept entry j'
+  -- where the file has room for the record, the other file isn't called
+  pub stays : j.gate + 1 + length (body 0 (entry_record entry)) ≤ j.limit → (j'.b_counts ≡ j.b_counts) × (j'.other ≡ j.other)
+
+-- the entry that an event makes was written, with this outcome; an event that makes none is done, and nothing is written
+abbrev pub IsWritten : Kept → Option Made → Outcome → JournalView → JournalView → Type 0
+IsWritten kept None outcome j j' = (outcome ≡ Done) × (j' ≡ j)
+IsWritten kept (Some made) outcome j j' = IsEntryWritten kept made.entry outcome j j'
 
 -- the records behind a settling, by its answer: whether the one in flight is kept, or a fault
 abbrev pub records_found : List Record → Record → Option Bool → List Record
@@ -103,11 +116,18 @@ abbrev pub flight_found : Record → Option Bool → Option Record
 flight_found r None = Some r
 flight_found r (Some is_kept) = None
 
--- it was found out whether the record in flight is kept, or a disk failed and it is in flight still
+-- the records behind the settling of an image, behind which nothing is kept
+abbrev pub IsImageFound : Option Bool → List Record → List Record → JournalView → Type 0
+IsImageFound None rs image j' = HoldsImage j' rs image
+IsImageFound (Some true) rs image j' = ⊥
+IsImageFound (Some false) rs image j' = Holds j' rs None ⊎ Holds j' image None
+
+-- it was found out whether what is in flight is kept, or a disk failed and it is in flight still
 pub record IsFoundOut (answer : Option Bool) (j j' : JournalView)
     : Type 0 where
   pub holds : (rs : List Record) (r : Record) → Holds j rs (Some r)
       → Holds j' (records_found rs r answer) (flight_found r answer)
+  pub image : (rs image : List Record) → HoldsImage j rs image → IsImageFound answer rs image j'
   pub goes : GoesOn j j'
   pub cause : answer ≡ None → FaultOnEither (disks_of j) (disks_of j')
   pub counts : CountsOn j j'

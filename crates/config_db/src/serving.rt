@@ -56,6 +56,7 @@ impl<D: Disk, J: Naming> Database<D, J> {
                 rt,
                 self.alloc,
                 &mut self.journal,
+                self.core.ledger(),
                 &mut self.shown,
                 &prepared,
                 full,

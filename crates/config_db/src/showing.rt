@@ -10,11 +10,12 @@ ghost use Rattle.std.specs.Prelude.{◌≡◌, true, IfOk, IfSome, OnOk, OnErr, 
 ghost use Rattle.cfg_tree.specs.Full.{IsWithin};
 ghost use Rattle.group_expand.specs.Expansion.{IsExpansion};
 ghost use Rattle.commit_check.specs.Accepts.{Accepts};
-ghost use Rattle.commit_journal.specs.Journal.{IsIdle};
 ghost use Rattle.commit_ledger.specs.Kept.{BringsMap, append_entry};
+ghost use Rattle.commit_ledger.specs.Rules.{Follows};
 ghost use Rattle.active_snapshot.specs.Expanded.{ComesWith};
 ghost use Rattle.active_snapshot.specs.States.{all_published};
 ghost use Rattle.config_core.specs.Plan.{Expands, ExpandsMade, made_in};
+ghost use Rattle.config_db.specs.Standing.{Stands};
 ghost use Rattle.config_db.specs.Writing.{IsWritable, IsWritten};
 ghost use Rattle.config_db.specs.Shown.{CanFollow, CanFollowLast, IsShown, Keeps, Proposes, ProposesNext, Publishes, ShowsSettled};
 
@@ -162,17 +163,19 @@ pub(crate) fn write_shown<D: Disk, J: Naming, R: Wait>(
     rt: &R,
     alloc: Global,
     journal: &mut Journal<D>,
+    ledger: &Ledger,
     shown: &mut SnapWriter<J>,
     prepared: &Prepared,
     given: Option<Full>,
 ) -> Result<Outcome, NoMemory>
     requires given { IfSome given (ExpandsMade prepared.now.effect) }
-    requires idle { IsIdle journal.old }
+    requires stands { Stands journal.old ledger.now None }
     requires writable { IfSome (made_in prepared.now.effect) (λ made. IsWritable made.entry) }
+    requires next { IfSome (made_in prepared.now.effect) (λ made. Follows ledger.now made.entry) }
     requires follows { IfSome (made_in prepared.now.effect) (λ made. CanFollowLast shown.old.list made.entry) }
     requires nothing_waits { shown.old.proposal ≡ None }
     ensures written { IfOk result (λ outcome.
-        IsWritten (made_in prepared.now.effect) outcome journal.old journal.new) }
+        IsWritten ledger.now (made_in prepared.now.effect) outcome journal.old journal.new) }
     ensures shown { IfOk result (λ outcome. IsShown (made_in prepared.now.effect) outcome shown.old shown.new) }
     ensures err { OnErr result (journal.new ≡ journal.old) }
     ensures withdrawn { OnErr result (shown.new ≡ shown.old) }
@@ -180,7 +183,7 @@ pub(crate) fn write_shown<D: Disk, J: Naming, R: Wait>(
     let Ok(()) = propose_entry(alloc, shown, prepared, given) else {
         return Err(NoMemory);
     };
-    match write(alloc, journal, prepared) {
+    match write(alloc, journal, ledger, prepared) {
         Err(NoMemory) => {
             shown.withdraw();
             Err(NoMemory)

@@ -1,17 +1,19 @@
 //! How an entry is written to the journal, and how it is found out whether one in flight is kept.
 
-ghost use Rattle.std.specs.Prelude.{◌≡◌, ◌<◌, ◌≤◌, ◌^◌, ◌∷◌, [], length, IfOk, IfSome, OnErr};
+ghost use Rattle.std.specs.Prelude.{◌≡◌, ◌<◌, ◌≤◌, ◌^◌, ◌∷◌, [], length, IfOk, IfSome, None, OnErr};
 ghost use Rattle.commit_check.specs.Accepts.{Accepts};
 ghost use Rattle.commit_journal.specs.Journal.{IsIdle, IsInFlight};
 ghost use Rattle.commit_ledger.specs.Payload.{entry_record};
-ghost use Rattle.commit_ledger.specs.Rules.{IsCommit, IsConfirm, IsEntry};
+ghost use Rattle.commit_ledger.specs.Rules.{Follows, IsCommit, IsConfirm, IsEntry};
 ghost use Rattle.config_core.specs.Plan.{made_in};
-ghost use Rattle.config_db.specs.Writing.{IsAppend, IsFoundOut, IsWritable, IsWritableCommit, IsWritten};
+ghost use Rattle.stored_ledger.specs.Stored.{IsNext};
+ghost use Rattle.config_db.specs.Standing.{Stands};
+ghost use Rattle.config_db.specs.Writing.{IsAppend, IsEntryWritten, IsFoundOut, IsWritable, IsWritableCommit, IsWritten};
 
 use cfg_base::NoMemory;
 use commit_check::accepted_configurations_fit;
 use commit_journal::{Journal, Settled};
-use commit_ledger::{Commit, Confirm, Entry, payload_of};
+use commit_ledger::{Commit, Confirm, Entry, Ledger, payload_of};
 use config_core::{Outcome, Prepared};
 use disk_model::Disk;
 use record_code::{Encoded, encode};
@@ -78,28 +80,56 @@ fn append<D: Disk>(journal: &mut Journal<D>, body: &Encoded) -> Outcome
     }
 }
 
+/// Writes the record of an entry that may come next. Where the file would pass its limit with it, what is kept is written anew to the
+/// other file first. All memory is taken before a disk is called. A fault leaves the record in flight, or that image.
+fn write_record<D: Disk>(
+    alloc: Global,
+    journal: &mut Journal<D>,
+    ledger: &Ledger,
+    entry: &Entry,
+    body: &Encoded,
+) -> Result<Outcome, NoMemory>
+    requires stands { Stands journal.old ledger.now None }
+    requires next { IsNext ledger.now entry.now }
+    requires body { body.now ≡ entry_record entry.now ∷ [] }
+    ensures ok { IfOk result (λ outcome. IsEntryWritten ledger.now entry.now outcome journal.old journal.new) }
+    ensures err { OnErr result (journal.new ≡ journal.old) }
+{
+    if journal.needs_rotation(body.as_bytes().len() as u64) {
+        let image = ledger.keep_image(alloc)?;
+        match journal.rotate(&image) {
+            Ok(()) => Ok(append(journal, body)),
+            Err(_) => Ok(Outcome::Fault),
+        }
+    } else {
+        Ok(append(journal, body))
+    }
+}
+
 /// Writes the entry that a step makes, if it makes one.
 pub(crate) fn write<D: Disk>(
     alloc: Global,
     journal: &mut Journal<D>,
+    ledger: &Ledger,
     prepared: &Prepared,
 ) -> Result<Outcome, NoMemory>
-    requires idle { IsIdle journal.old }
+    requires stands { Stands journal.old ledger.now None }
     requires writable { IfSome (made_in prepared.now.effect) (λ made. IsWritable made.entry) }
+    requires follows { IfSome (made_in prepared.now.effect) (λ made. Follows ledger.now made.entry) }
     ensures ok { IfOk result (λ outcome.
-        IsWritten (made_in prepared.now.effect) outcome journal.old journal.new) }
+        IsWritten ledger.now (made_in prepared.now.effect) outcome journal.old journal.new) }
     ensures err { OnErr result (journal.new ≡ journal.old) }
 {
     match prepared.entry() {
         None => Ok(Outcome::Done),
         Some(entry) => match body_of(alloc, entry) {
             Err(NoMemory) => Err(NoMemory),
-            Ok(body) => Ok(append(journal, &body)),
+            Ok(body) => write_record(alloc, journal, ledger, entry, &body),
         },
     }
 }
 
-/// Whether the record in flight is kept; none where a disk failed.
+/// Whether what is in flight is kept; none where a disk failed.
 pub(crate) fn find_out<D: Disk>(journal: &mut Journal<D>) -> Option<bool>
     requires { IsInFlight journal.old.flight }
     ensures { IsFoundOut result journal.old journal.new }

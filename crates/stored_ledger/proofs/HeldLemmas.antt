@@ -1,29 +1,39 @@
 -- What disks hold is what they spell, and of one pair of disks one thing is found.
-use Rattle.std.proofs.Common.{◌≡◌, ◌⊎◌, ℕ, List, [], ◌∷◌, ◌++◌, None, Some, inl, inr, refl, ⊎_elim}
-use Rattle.disk_model.specs.Disk.{History, IsImage, contents_of, state_of}
+use Rattle.std.proofs.Common.{◌≡◌, ◌⊎◌, ℕ, List, Option, None, Some, inl, inr, refl, subst, ⊎_elim}
+use Rattle.disk_model.specs.Disk.{History, contents_of, state_of}
+use Rattle.disk_model.proofs.Images.{contents_image, synced_within}
 use Rattle.disk_model.specs.Pair.{BothTell, DiskPair}
-use Rattle.commit_check.specs.Accepts.{Accepts}
 use Rattle.commit_ledger.specs.declared.entry.Entry.{Entry}
+use Rattle.commit_ledger.specs.Checkpoint.{Agrees}
 use Rattle.commit_ledger.specs.Kept.{Kept, append_entry}
-use Rattle.commit_ledger.specs.Payload.{entry_record}
-use Rattle.commit_ledger.proofs.ReadingLemmas.{appended_is_read}
 use Rattle.commit_journal.specs.declared.why.CreateWhy.{CreateWhy}
 use Rattle.commit_journal.specs.declared.why.CreateWhy.TheVariants.{Exists as IsThereAlready, DiskFault as MakingFault, NoMemory as MakingNoMemory}
 use Rattle.stored_ledger.specs.declared.why.StartWhy.{StartWhy}
 use Rattle.stored_ledger.specs.declared.why.StartWhy.TheVariants.{Exists}
 use Rattle.stored_ledger.specs.Starting.{IsByBytes, IsFound, IsMade, IsNotFound, IsNotMade, why_of_making}
-use Rattle.stored_ledger.specs.Stored.{HoldsKept, OnlyKept, SpellsKept}
+use Rattle.stored_ledger.specs.Stored.{HoldsKept, SpellsAgreeing, SpellsKept, SpellsWith}
 use Rattle.stored_ledger.proofs.CauseLemmas.{one_list, spelled, one_cause}
 
-pub held_at_rest : (a b : History) (kept : Kept) → HoldsKept a b kept None → OnlyKept a b kept
-held_at_rest a b kept held c d in_a in_b = (held.records, held.spell c d in_a in_b, held.reads)
+-- what a start reads is one of the images
+held_now : (a b : History) (kept : Kept) (flight : Option Entry) → HoldsKept a b kept flight → SpellsWith (contents_of a) (contents_of b) kept flight
+held_now a b kept flight held =
+    held.each (contents_of a) (contents_of b) (contents_image (state_of a) (synced_within a)) (contents_image (state_of b) (synced_within b))
 
-pub held_in_flight : (a b : History) (kept : Kept) (entry : Entry) (c d : List ℕ) → HoldsKept a b kept (Some entry) → IsImage (state_of a) c → IsImage (state_of b) d
-    → SpellsKept c d kept ⊎ SpellsKept c d (append_entry kept entry)
-held_in_flight a b kept entry c d held in_a in_b =
-    ⊎_elim (λ old. inl (held.records, old, held.reads))
-    (λ new. inr (held.records ++ entry_record entry ∷ [], new, appended_is_read Accepts held.records kept entry held.reads held.next.0 held.next.1))
-    (held.spell c d in_a in_b)
+agreeing_is : (a b : List ℕ) (kept one : Kept) → SpellsKept a b one → SpellsAgreeing a b kept → Agrees one kept
+agreeing_is a b kept one spells agreeing = subst (λ k. Agrees k kept) (one_list a b agreeing.one one agreeing.spells spells) agreeing.agrees
+
+pub found_at_rest : (before after : DiskPair) (kept one : Kept) → BothTell before → HoldsKept before.a.history before.b.history kept None → IsFound before after one
+    → Agrees one kept
+found_at_rest before after kept one tell held found =
+    agreeing_is (contents_of before.a.history) (contents_of before.b.history) kept one (found.spelled tell) (held_now before.a.history before.b.history kept None held)
+
+pub found_in_flight : (before after : DiskPair) (kept one : Kept) (entry : Entry) → BothTell before → HoldsKept before.a.history before.b.history kept (Some entry)
+    → IsFound before after one → Agrees one kept ⊎ (one ≡ append_entry kept entry)
+found_in_flight before after kept one entry tell held found =
+    let a = contents_of before.a.history in
+    let b = contents_of before.b.history in
+    ⊎_elim (λ old. inl (agreeing_is a b kept one (found.spelled tell) old))
+    (λ new. inr (one_list a b one (append_entry kept entry) (found.spelled tell) new)) (held_now before.a.history before.b.history kept (Some entry) held)
 
 pub one_found : (before after after2 : DiskPair) (one two : Kept) → BothTell before → IsFound before after one → IsFound before after2 two → one ≡ two
 one_found before after after2 one two tell first second =

@@ -1,14 +1,15 @@
 -- Two disks that hold a list of commits, as the records of a journal. This project's own.
-use Rattle.std.specs.Prelude.{◌≤◌, IfSome, IsSome, ℕ, List, [], ◌∷◌, ◌++◌, Option, None, Some}
+use Rattle.std.specs.Prelude.{◌≤◌, ◌⊎◌, IfSome, IsSome, ℕ, List, [], ◌∷◌, Option, None, Some}
 use Rattle.disk_model.specs.Disk.{History, IsImage, state_of}
 use Rattle.record_code.specs.Record.{Record}
-use Rattle.commit_journal.specs.Pair.{Only, PairSpells, SpellsEither}
+use Rattle.commit_journal.specs.Pair.{PairSpells}
 use Rattle.commit_journal.specs.Journal.{JournalView, Has, IsIdle, Tell}
 use Rattle.commit_check.specs.Accepts.{Accepts}
 use Rattle.commit_ledger.specs.declared.entry.Entry.{Entry}
 use Rattle.commit_ledger.specs.declared.entry.Entry.TheVariants.{Commit as CommitOf}
 use Rattle.commit_ledger.specs.declared.limit.TheConstants.{MAX_ENTRIES}
-use Rattle.commit_ledger.specs.Kept.{Kept, KeepsMaps, factory_commit}
+use Rattle.commit_ledger.specs.Checkpoint.{Agrees}
+use Rattle.commit_ledger.specs.Kept.{Kept, KeepsMaps, append_entry, factory_commit}
 use Rattle.commit_ledger.specs.Payload.{entry_record}
 use Rattle.commit_ledger.specs.Reading.{ReadsAs}
 use Rattle.commit_ledger.specs.Rules.{Follows, IsEntry}
@@ -25,22 +26,25 @@ SpellsKept a b kept = (rs : List Record) × PairSpells a b rs × ReadsAs Accepts
 abbrev pub OnlyKept : History → History → Kept → Type 0
 OnlyKept a b kept = (c d : List ℕ) → IsImage (state_of a) c → IsImage (state_of b) d → SpellsKept c d kept
 
--- each pair of images of two disks spells these records; or, with an entry in flight, these or these and that entry's
-abbrev pub Spell : History → History → List Record → Option Entry → Type 0
-Spell a b rs None = Only a b rs
-Spell a b rs (Some entry) =
-    (c d : List ℕ) → IsImage (state_of a) c → IsImage (state_of b) d → SpellsEither rs (rs ++ entry_record entry ∷ []) c d
+-- two files spell a list that agrees with this one: a list that was written anew has the moment of its last commit
+pub record SpellsAgreeing (a b : List ℕ) (kept : Kept) : Type 0 where
+  pub one : Kept
+  pub spells : SpellsKept a b one
+  pub agrees : Agrees one kept
+
+-- or, with an entry in flight, the list with it
+abbrev pub SpellsWith : List ℕ → List ℕ → Kept → Option Entry → Type 0
+SpellsWith a b kept None = SpellsAgreeing a b kept
+SpellsWith a b kept (Some entry) = SpellsAgreeing a b kept ⊎ SpellsKept a b (append_entry kept entry)
 
 -- an entry is one that may be the next of a list
 abbrev pub IsNext : Kept → Entry → Type 0
 IsNext kept entry = IsEntry Accepts entry × Follows kept entry
 
--- two disks hold a list of commits, as records that are read as it. Of an entry in flight, which may be its next one, it isn't
--- known whether they hold it
+-- two disks hold a list of commits: each pair of images at this moment spells it. Of an entry in flight, which may be its next one, it
+-- isn't known whether they hold it
 pub record HoldsKept (a b : History) (kept : Kept) (flight : Option Entry) : Type 0 where
-  pub records : List Record
-  pub reads : ReadsAs Accepts records kept
-  pub spell : Spell a b records flight
+  pub each : (c d : List ℕ) → IsImage (state_of a) c → IsImage (state_of b) d → SpellsWith c d kept flight
   pub next : IfSome flight (IsNext kept)
 
 -- a journal in which nothing is in flight, and the list of commits that its records are read as

@@ -1,14 +1,14 @@
 //! What holds of every start.
 
 ghost use Rattle.std.specs.Prelude.{◌≡◌, ◌⊎◌, List, ℕ, Option, None, Some};
-ghost use Rattle.disk_model.specs.Disk.{History, IsImage, state_of};
 ghost use Rattle.disk_model.specs.Pair.{BothTell, DiskPair};
 ghost use Rattle.stored_ledger.specs.declared.why.StartWhy.{StartWhy};
 ghost use Rattle.stored_ledger.specs.declared.why.StartWhy.TheVariants.{Exists};
 ghost use Rattle.commit_ledger.specs.declared.entry.Entry.{Entry};
+ghost use Rattle.commit_ledger.specs.Checkpoint.{Agrees};
 ghost use Rattle.commit_ledger.specs.Kept.{Kept, append_entry};
 ghost use Rattle.stored_ledger.specs.Starting.{Explains, IsByBytes, IsFound, IsMade, IsNotFound, IsNotMade};
-ghost use Rattle.stored_ledger.specs.Stored.{HoldsKept, OnlyKept, SpellsKept};
+ghost use Rattle.stored_ledger.specs.Stored.{HoldsKept, SpellsKept};
 
 /// Two files spell one list at most. Those that spell one have no cause to be refused, and none have two.
 pub fn starts_have_one_cause()
@@ -32,10 +32,12 @@ pub fn disks_have_one_start()
         → IsNotMade before Exists after2 → ⊥ }
 {}
 
-/// Each pair of images of disks that hold a list spells it; with an entry in flight, it or the list with that entry.
-pub fn what_is_held_is_spelled()
-    ensures at_rest { (a b : History) (kept : Kept) → HoldsKept a b kept None → OnlyKept a b kept }
-    ensures in_flight { (a b : History) (kept : Kept) (entry : Entry) (c d : List ℕ) → HoldsKept a b kept (Some entry)
-        → IsImage (state_of a) c → IsImage (state_of b) d
-        → SpellsKept c d kept ⊎ SpellsKept c d (append_entry kept entry) }
+/// What disks hold is what the next start finds: the list, or one that agrees with it; with an entry in flight, it or the list with that
+/// entry.
+pub fn what_is_held_is_found()
+    ensures at_rest { (before after : DiskPair) (kept one : Kept) → BothTell before
+        → HoldsKept before.a.history before.b.history kept None → IsFound before after one → Agrees one kept }
+    ensures in_flight { (before after : DiskPair) (kept one : Kept) (entry : Entry) → BothTell before
+        → HoldsKept before.a.history before.b.history kept (Some entry) → IsFound before after one
+        → Agrees one kept ⊎ (one ≡ append_entry kept entry) }
 {}

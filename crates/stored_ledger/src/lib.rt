@@ -12,6 +12,6 @@ mod opening;
 mod stored;
 mod why;
 
-pub use laws::{disks_have_one_start, starts_have_one_cause, what_is_held_is_spelled};
+pub use laws::{disks_have_one_start, starts_have_one_cause, what_is_held_is_found};
 pub use stored::Stored;
 pub use why::{StartFault, StartWhy};

@@ -1,4 +1,4 @@
-use Rattle.std.proofs.Common.{◌≡◌, true, false, sym, ◌∙◌}
+use Rattle.std.proofs.Common.{sym, ◌∙◌}
 use Rattle.config_db.proofs.ShownLemmas.{late_published, late_still, published_all}
 use Rattle.config_db.proofs.showing.publish_late.Goals as goal
 

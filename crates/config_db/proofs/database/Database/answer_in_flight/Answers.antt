@@ -1,4 +1,4 @@
-use Rattle.std.proofs.Common.{◌≡◌, length, rules, ap, subst, sym, ◌∙◌}
+use Rattle.std.proofs.Common.{◌≡◌, length, rules, subst, sym, ◌∙◌}
 use Rattle.config_core.specs.declared.event.Event.TheVariants.{Command as CommandOf}
 use Rattle.config_db.specs.declared.answer.Answered.TheVariants.{NoMemory}
 use Rattle.config_db.specs.Answers.{Answers}
