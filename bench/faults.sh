@@ -1,7 +1,7 @@
 #!/usr/bin/env bash
 # What the program does where the system fails: a file system that fills up, a folder that may not be written, files of another owner,
-# an output that nobody reads, a second service over one folder, and an address space of 20, 40 and 80 MB. For each it prints what came;
-# it fails where a status isn't the stated one, or where `check` doesn't find each commit that was answered.
+# an output that nobody reads, a second service over one folder, and an address space of 20, 40 and 80 MB in which memory runs out. For each
+# it prints what came; it fails where a status or an answer isn't a stated one, or where `check` doesn't find each commit that was answered.
 # Builds nothing: the program is the one that ./demo leaves. As root it mounts a file system of 256 KB in memory, and runs as nobody;
 # else it leaves these cases out, and says so.
 set -eu
@@ -18,7 +18,7 @@ if [ "$(id -u)" = 0 ] && mount -t tmpfs -o size=256k tmpfs "$folder/small" 2> /d
     is_root=yes
 fi
 python3 - "$folder/confd" "$folder" "$is_root" << 'END'
-import os, resource, subprocess, sys, time
+import os, re, resource, subprocess, sys, time
 
 program, folder, is_root = sys.argv[1], sys.argv[2], sys.argv[3] == "yes"
 
@@ -116,25 +116,49 @@ must(first.wait() == 0, "the first service")
 must(run("serve", place, lines=commits(1))[0] == 0 and entries(place) == 3, "a service after the first one")
 print("a second service: status 4, confd: journal in use; after the first one ended it is served")
 
-# 5. little memory: sessions that load and commit more and more, until memory is wanting
-def text(count):
-    lines = ["configure", "load override terminal", "interfaces {"]
-    lines += [f'    ge-0/0/{n} {{ description "port {n}"; unit 0 {{ family inet {{ address 10.{n // 256}.{n % 256}.1/24; }} }} }}' for n in range(count)]
-    return ("\n".join(lines + ["}", "\x04", "commit"]) + "\n").encode()
+# 5. little memory: sessions that load and commit more and more, and then one that commits wholly different configurations, of which
+# the last 50 are kept, until memory is wanting
+def load(count, slot):
+    lines = ["load override terminal", "interfaces {"]
+    lines += [f'    ge-{slot}/0/{n} {{ description "port {n}"; unit 0 {{ family inet {{ address 10.{n // 256}.{n % 256}.1/24; }} }} }}' for n in range(count)]
+    return lines + ["}", "\x04", "commit"]
+
+def text(count, slots):
+    lines = ["configure"]
+    for slot in range(slots):
+        lines += load(count, slot)
+    return ("\n".join(lines) + "\n").encode()
+
+OUT = "error: out of memory"
+STATED = {"Entering configuration mode", "load complete", "commit complete", OUT}
+
+def little(place, megabytes, count, slots):
+    """Such a session in an address space of so many megabytes: how many commits it was answered, and whether memory was wanting."""
+    limit = megabytes * 1000 * 1000
+    def limited():
+        resource.setrlimit(resource.RLIMIT_AS, (limit, limit))
+    what = f"{megabytes} MB, {slots} times {count} interfaces"
+    before = entries(place)
+    status, told, why = run("serve", place, lines=text(count, slots), preexec_fn=limited)
+    # the loader may find no room either: then nothing was begun
+    must(status in (0, 9, 127), f"{what}: status {status} {why}")
+    # without `configure` the lines after it are none of operational mode
+    strange = [it for it in told.splitlines() if it not in STATED and not (OUT in told and re.fullmatch(r"error: syntax error at byte \d+", it))]
+    must(not strange, f"{what}: was told {strange[:3]}")
+    answered = told.count("commit complete\n")
+    must(entries(place) == before + answered, f"{what}: {answered} commits answered, {entries(place) - before} entries")
+    return answered, status != 0 or OUT in told
 
 for megabytes in (20, 40, 80):
     place = make(f"memory{megabytes}")
-    limit = megabytes * 1000 * 1000
-    seen = {}
+    seen = []
     for count in (1, 10, 100, 1000, 3000):
-        def limited():
-            resource.setrlimit(resource.RLIMIT_AS, (limit, limit))
-        before = entries(place)
-        status, told, why = run("serve", place, lines=text(count), preexec_fn=limited)
-        # a thread or the loader may find no room either: then nothing was begun
-        must(status in (0, 9, 127), f"{megabytes} MB, {count} interfaces: status {status} {why}")
-        answered = told.count("commit complete\n")
-        must(entries(place) == before + answered, f"{megabytes} MB, {count} interfaces: {answered} answered")
-        seen[count] = "committed" if answered else "out of memory" if "out of memory" in told + why else f"status {status}"
-    print(f"{megabytes} MB: " + ", ".join(f"{count} interfaces {what}" for count, what in seen.items()))
+        answered, wanted = little(place, megabytes, count, 1)
+        seen.append(f"{count} interfaces {'committed' if answered else 'out of memory' if wanted else 'not committed'}")
+    answered, wanted = little(place, megabytes, 2000, 50)
+    must(wanted, f"{megabytes} MB: memory was never wanting")
+    # with ample memory the list is found, and goes on
+    before = entries(place)
+    must(run("serve", place, lines=commits(1))[0] == 0 and entries(place) == before + 1, f"{megabytes} MB: the next run")
+    print(f"{megabytes} MB: " + ", ".join(seen) + f"; of 50 commits of 2000 other interfaces each {answered} answered, then out of memory")
 END

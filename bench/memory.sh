@@ -1,8 +1,8 @@
 #!/usr/bin/env bash
 # Refuses one allocation of the built program at a time: of two private sessions that commit side by side, of 83 commits, and of an
-# inherited show under a wildcard group. After each refusal the status must be 0 or 9, each line answered as it is with ample memory or by
-# `error: out of memory`, and the list that of the commits that were answered, which a next run finds and goes on from. It prints how many
-# allocations were refused. STEP tries each STEPth one alone.
+# inherited show under a wildcard group. After each refusal the status must be 0 or 9, each line answered as it is with ample memory, by
+# `error: out of memory`, or by an error that follows from a line that was answered so, and the list must be that of the commits that were
+# answered, which a next run finds and goes on from. It prints how many allocations were refused. STEP tries each STEPth one alone.
 # Builds nothing but bench/refuse.c: the program is the one that ./demo leaves.
 # usage: memory.sh [STEP]
 set -eu
@@ -13,7 +13,7 @@ folder=$(mktemp -d -p /dev/shm 2> /dev/null || mktemp -d)
 trap 'rm -rf "$folder"' EXIT
 gcc -O2 -Wall -shared -fPIC -o "$folder/refuse.so" bench/refuse.c
 python3 - "$program" "$folder" "${1:-1}" << 'END'
-import os, shutil, subprocess, sys
+import os, re, shutil, subprocess, sys
 
 program, folder, step = sys.argv[1], sys.argv[2], int(sys.argv[3])
 mark = folder + "/refused"
@@ -40,6 +40,10 @@ os.mkdir(fresh)
 must(run("init", fresh)[0] == 0, "init")
 
 OUT = "error: out of memory"
+
+# what a line may be answered where an earlier one wasn't done: without `configure` it is none of operational mode, without its group
+# `apply-groups` breaks the first rule, and without `exit` a show of what is active is read in configuration mode
+FOLLOWS = re.compile(r"error: (syntax error at byte \d+|check C1 failed: apply-groups|unknown statement: configuration)")
 
 def served(inputs, refuse):
     """A run of these sessions over a new list: its status, and what each session wrote."""
@@ -78,8 +82,7 @@ def each(title, inputs):
         for name, lines in outs.items():
             answered += lines.count("commit complete")
             seen = set(wanted[name]) | {OUT}
-            # a change that found no memory may leave the next ones without what they stand on
-            strange = [it for it in lines if it not in seen and not it.startswith("error: ")]
+            strange = [it for it in lines if it not in seen and not (OUT in lines and FOLLOWS.fullmatch(it))]
             must(not strange, f"{what}: {name} was told {strange}")
             if status == 0 and not any(it.startswith("error: ") for it in lines):
                 must(lines == wanted[name], f"{what}: {name} was told {lines}")
