@@ -1,6 +1,6 @@
 /* Times commits that are kept on the disk, beside what they must cost on this file system.
  *
- * commits PROGRAM FOLDER SETUP COUNT LINE
+ * commits PROGRAM FOLDER SETUP COUNT LINE [LIMIT]
  *
  * PROGRAM serves one session over FOLDER, a folder with a journal. It is given the lines of the file SETUP, the last of which is a
  * commit, and then COUNT times LINE, with the number of the turn for its %d, and `commit`. Each turn is timed from its first byte
@@ -9,6 +9,9 @@
  *
  * It prints, in microseconds: the median of the commits, that of the floors, their ratio, and the medians of the first and of the
  * last tenth of the commits with their ratio.
+ *
+ * With LIMIT the files of the journal rotate at that many bytes. Then no floor is timed, and it prints the mean of the commits, the
+ * longest of them, and how many rotations there were.
  */
 #define _GNU_SOURCE
 #include <fcntl.h>
@@ -34,7 +37,7 @@ static double now(void) {
     return t.tv_sec * 1e6 + t.tv_nsec / 1e3;
 }
 
-static void start(const char *program, const char *folder) {
+static void start(const char *program, const char *folder, const char *limit) {
     int in[2], out[2];
     if (pipe(in) || pipe(out)) fail("no pipe");
     pid_t child = fork();
@@ -44,7 +47,7 @@ static void start(const char *program, const char *folder) {
         dup2(out[1], 1);
         close(in[1]);
         close(out[0]);
-        execl(program, program, "--input", "4294967295", "--journal-limit", "4294967295", "serve", folder, (char *)0);
+        execl(program, program, "--input", "4294967295", "--journal-limit", limit, "serve", folder, (char *)0);
         _exit(127);
     }
     close(in[0]);
@@ -88,6 +91,23 @@ static off_t size_of(const char *folder) {
     return s.st_size;
 }
 
+/* The greater generation of the two files. */
+static unsigned long long generation(const char *folder) {
+    unsigned long long greater = 0;
+    for (char name = 'a'; name <= 'b'; name++) {
+        char path[4096];
+        unsigned char head[17];
+        snprintf(path, sizeof path, "%s/journal.%c", folder, name);
+        FILE *file = fopen(path, "r");
+        if (!file || fread(head, 1, sizeof head, file) != sizeof head) fail("there is no journal");
+        fclose(file);
+        unsigned long long number = 0;
+        for (int at = 8; at < 16; at++) number = number << 8 | head[at];
+        if (number > greater) greater = number;
+    }
+    return greater;
+}
+
 static int compare(const void *a, const void *b) {
     double x = *(const double *)a, y = *(const double *)b;
     return x < y ? -1 : x > y;
@@ -103,12 +123,12 @@ static double median(const double *times, int count) {
 }
 
 int main(int argc, char **argv) {
-    if (argc != 6) fail("commits PROGRAM FOLDER SETUP COUNT LINE");
+    if (argc != 6 && argc != 7) fail("commits PROGRAM FOLDER SETUP COUNT LINE [LIMIT]");
     const char *folder = argv[2];
     int count = atoi(argv[4]), tenth = count / 10 ? count / 10 : 1;
     double *commits = malloc(sizeof *commits * count), *floors = malloc(sizeof *floors * count);
 
-    start(argv[1], folder);
+    start(argv[1], folder, argc == 7 ? argv[6] : "4294967295");
     FILE *setup = fopen(argv[3], "r");
     if (!setup) fail("there is no such setup");
     char buffer[65536];
@@ -129,6 +149,7 @@ int main(int argc, char **argv) {
         say(buffer, length);
         await_commit();
         commits[turn] = now() - begun;
+        if (argc == 7) continue;
 
         off_t grown = size_of(folder), bytes = grown - size;
         size = grown;
@@ -148,6 +169,15 @@ int main(int argc, char **argv) {
     if (wait(&status) < 0 || status) fail("the session did not end clean");
     unlink(path);
 
+    if (argc == 7) {
+        double sum = 0, longest = 0;
+        for (int turn = 0; turn < count; turn++) {
+            sum += commits[turn];
+            if (commits[turn] > longest) longest = commits[turn];
+        }
+        printf("%.1f %.1f %llu\n", sum / count, longest, generation(folder) - 1);
+        return 0;
+    }
     double commit = median(commits, count), beside = median(floors, count);
     double early = median(commits, tenth), late = median(commits + count - tenth, tenth);
     printf("%.1f %.1f %.2f %.1f %.1f %.2f\n", commit, beside, commit / beside, early, late, late / early);

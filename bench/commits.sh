@@ -1,6 +1,7 @@
 #!/usr/bin/env bash
 # Times commits that are kept on the disk, through a pipe: small ones, those of one changed statement at 300 and at 3,000 interfaces,
-# and 10,000 in a row, each beside the floor of this file system (commits.c); and the start over a list of 1,000 and of 10,000.
+# and 10,000 in a row, each beside the floor of this file system (commits.c); and the start over a list of 1,000 and of 10,000. Then
+# the mean commit and the longest where the journal's files rotate: at the least limit, and at the usual one.
 # The folder named, or this one, decides which file system that is.
 set -eu
 place=$(cd "${1:-.}" && pwd)
@@ -22,6 +23,15 @@ time_commits() {
     init
     "$work/commits" "$program" "$folder/journal" "$setup" "$count" "$line" | awk -v name="$name" '{
         printf "%s: %.0f microseconds, floor %.0f, ratio %.2f; early %.0f, late %.0f, ratio %.2f\n", name, $1, $2, $3, $4, $5, $6
+    }'
+}
+
+# commits of a line after a setup, where the files rotate at that many bytes
+time_rotations() {
+    local name=$1 setup=$2 count=$3 line=$4 limit=$5
+    init
+    "$work/commits" "$program" "$folder/journal" "$setup" "$count" "$line" "$limit" | awk -v name="$name" -v count="$count" '{
+        printf "%s: %d commits with %d rotations, %.0f microseconds in the mean, the longest %.0f\n", name, count, $3, $1, $2
     }'
 }
 
@@ -47,3 +57,9 @@ for count in 300 3000; do
 done
 time_commits '10,000 commits' "$work/nothing" 10000 'set system host-name r%d'
 time_start 'a start over 10,000 commits'
+
+time_rotations 'small commits at the least limit' "$work/nothing" 1000 'set system host-name r%d' 4096
+time_start 'a start over the last of them'
+time_rotations 'one statement of 3000 interfaces at the least limit' "$work/setup" 100 'set interfaces ge-0/0/0 description "turn %d"' 4096
+time_start 'a start over the last of them'
+time_rotations 'the same at 64 MiB' "$work/setup" 200 'set interfaces ge-0/0/0 description "turn %d"' 67108864

@@ -1,7 +1,8 @@
 #!/usr/bin/env bash
 # Kills the program 200 times, each time after another number of bytes of its output, checks the journal and starts again: every
-# commit that was answered must be there. Then changes each byte of a small journal in turn, and looks whether the status and the
-# place that `check` tells are those that the bytes say.
+# commit that was answered must be there. The same 300 times over a limit by which the journal's files rotate every few commits. Then
+# changes each byte of a small journal in turn, and looks whether the status and the place that `check` tells are those that the
+# bytes say.
 # Builds nothing: the program is the one that ./demo leaves. The folder named, or this one, decides which file system is used.
 set -eu
 place=$(cd "${1:-.}" && pwd)
@@ -14,61 +15,81 @@ python3 - "$program" "$folder" << 'END'
 import hashlib, os, random, subprocess, sys, threading
 
 program, folder = sys.argv[1:]
-journal = folder + "/journal"
-os.mkdir(journal)
 
 def run(*words, lines=b""):
     it = subprocess.run([program, *words], input=lines, capture_output=True)
     return it.returncode, it.stdout.decode(), it.stderr.decode()
-
-def entries():
-    status, told, why = run("check", journal)
-    assert status == 0, (status, told, why)
-    return int(told.split()[1])
 
 def must(holds, what):
     if not holds:
         print("FAILED:", what)
         sys.exit(1)
 
-must(run("init", journal)[:2] == (0, "journal created\n"), "init")
+def entries(journal):
+    status, told, why = run("check", journal)
+    assert status == 0, (status, told, why)
+    entries, commits = (int(line.split()[1]) for line in told.splitlines()[:2])
+    must(commits == min(entries, 50), f"{commits} commits are kept of {entries}")
+    return entries
+
+def generation(journal):
+    """The greater generation of the two files, and whether both file gates are open."""
+    heads = []
+    for name in ("journal.a", "journal.b"):
+        with open(f"{journal}/{name}", "rb") as it:
+            heads.append(it.read(17))
+    return max(int.from_bytes(it[8:16], "big") for it in heads), all(it[16] == 1 for it in heads)
 
 # 1. killed, and started again
-KILLS = 200
+def kill(journal, kills, *options):
+    """Kills so many services over a new journal. How many entries it then has, and after how many kills a file's gate was closed."""
+    os.mkdir(journal)
+    must(run("init", journal)[:2] == (0, "journal created\n"), "init")
+    kept, closed = 1, 0
+    for kill in range(kills):
+        stop = random.randrange(0, 1200)
+        lines = ["configure"]
+        for turn in range(kept, kept + 200):
+            lines += [f"set system host-name r{turn}", "commit"]
+        served = subprocess.Popen([program, *options, "serve", journal], stdin=subprocess.PIPE, stdout=subprocess.PIPE)
+        def feed(pipe=served.stdin, text="\n".join(lines).encode() + b"\n"):
+            try:
+                pipe.write(text)
+                pipe.close()
+            except OSError:
+                pass
+        feeder = threading.Thread(target=feed)
+        feeder.start()
+        heard = b""
+        while len(heard) < stop:
+            got = os.read(served.stdout.fileno(), stop - len(heard))
+            if not got:
+                break
+            heard += got
+        served.kill()
+        served.wait()
+        feeder.join()
+        answered = heard.count(b"commit complete\n")
+        number, is_open = generation(journal)
+        closed += number > 2 and not is_open
+        now = entries(journal)
+        must(now >= kept + answered, f"kill {kill}: {answered} commits were answered over {kept} entries, and {now} are there")
+        status, shown, why = run(*options, "serve", journal, lines=b"show configuration\n")
+        must(status == 0, f"kill {kill}: the start after it: {status} {why}")
+        wanted = f"system {{\n    host-name r{now - 1};\n}}\n" if now > 1 else ""
+        must(shown == wanted, f"kill {kill}: {now} entries, and {shown!r} is active")
+        kept = now
+    return kept, closed
+
 random.seed(1)
-kept = entries()
-for kill in range(KILLS):
-    stop = random.randrange(0, 1200)
-    lines = ["configure"]
-    for turn in range(kept, kept + 200):
-        lines += [f"set system host-name r{turn}", "commit"]
-    served = subprocess.Popen([program, "serve", journal], stdin=subprocess.PIPE, stdout=subprocess.PIPE)
-    def feed(pipe=served.stdin, text="\n".join(lines).encode() + b"\n"):
-        try:
-            pipe.write(text)
-            pipe.close()
-        except OSError:
-            pass
-    feeder = threading.Thread(target=feed)
-    feeder.start()
-    heard = b""
-    while len(heard) < stop:
-        got = os.read(served.stdout.fileno(), stop - len(heard))
-        if not got:
-            break
-        heard += got
-    served.kill()
-    served.wait()
-    feeder.join()
-    answered = heard.count(b"commit complete\n")
-    now = entries()
-    must(now >= kept + answered, f"kill {kill}: {answered} commits were answered over {kept} entries, and {now} are there")
-    status, shown, why = run("serve", journal, lines=b"show configuration\n")
-    must(status == 0, f"kill {kill}: the start after it: {status} {why}")
-    wanted = f"system {{\n    host-name r{now - 1};\n}}\n" if now > 1 else ""
-    must(shown == wanted, f"kill {kill}: {now} entries, and {shown!r} is active")
-    kept = now
-print(f"{KILLS} kills: {kept} entries, every answered commit is there")
+kept, _ = kill(folder + "/journal", 200)
+print(f"200 kills: {kept} entries, every answered commit is there")
+
+# 50 commits of this size and what states them have some 5,200 bytes
+kept, closed = kill(folder + "/rotating", 300, "--journal-limit", "5800")
+rotations = generation(folder + "/rotating")[0] - 1
+must(rotations * 10 > kept, f"{rotations} rotations for {kept} entries")
+print(f"300 kills and {rotations} rotations: {kept} entries, every answered commit is there; a file's gate was closed after {closed} of the kills")
 
 # 2. each byte of a small journal changed
 small = folder + "/small"
