@@ -14,11 +14,10 @@ use stored_ledger::StartFault;
 /// How many bytes each disk has room for.
 pub(crate) const ROOM: u64 = 1 << 20;
 
-/// What limits a database.
-pub(crate) const LIMITS: Limits = Limits {
-    input: 0,
-    journal: ROOM,
-};
+/// What limits a database whose journal has that limit.
+pub(crate) fn limits(journal: u64) -> Limits {
+    Limits { input: 0, journal }
+}
 
 /// A book without a view, for one database.
 #[derive(Drop)]
@@ -56,6 +55,7 @@ impl<J: Naming> NewBook<J> {
         a: MemDisk,
         b: MemDisk,
         users: Users,
+        journal: u64,
     ) -> Result<Database<MemDisk, J>, StartFault<MemDisk>>
         ensures { IfOk result (λ book. book.users ≡ users) }
     {
@@ -64,7 +64,7 @@ impl<J: Naming> NewBook<J> {
             front,
             of: _,
         } = self;
-        Database::start(alloc, shelf, front, a, b, users, LIMITS, true)
+        Database::start(alloc, shelf, front, a, b, users, limits(journal), true)
     }
 
     /// Makes a database on two disks.
@@ -75,6 +75,7 @@ impl<J: Naming> NewBook<J> {
         a: MemDisk,
         b: MemDisk,
         users: Users,
+        journal: u64,
     ) -> Result<Database<MemDisk, J>, StartFault<MemDisk>>
         ensures { IfOk result (λ book. book.users ≡ users) }
     {
@@ -83,6 +84,6 @@ impl<J: Naming> NewBook<J> {
             front,
             of: _,
         } = self;
-        Database::create(rt, alloc, shelf, front, a, b, users, LIMITS, true)
+        Database::create(rt, alloc, shelf, front, a, b, users, limits(journal), true)
     }
 }

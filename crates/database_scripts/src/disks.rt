@@ -1,5 +1,6 @@
 //! Calls of the two disks while no database is open.
 
+use crate::book::ROOM;
 use crate::images::left_of;
 use crate::resting::{Resting, Which, which_of};
 use cfg_base::Calls;
@@ -9,11 +10,13 @@ use std::alloc::Global;
 use std::mem;
 use std::sync::Wait;
 
-/// The disks, unless a database is open, and the calls that are to fail of the next disks that are made.
+/// The disks, unless a database is open, the calls that are to fail of the next disks that are made, and the journal's limit of
+/// the next database.
 #[derive(Drop)]
 pub(crate) struct Disks {
     failing_a: Vec<FailAt>,
     failing_b: Vec<FailAt>,
+    limit: u64,
     resting: Option<Resting>,
 }
 
@@ -32,6 +35,7 @@ impl Disks {
         Ok(Disks {
             failing_a: Vec::new(alloc),
             failing_b: Vec::new(alloc),
+            limit: ROOM,
             resting: Some(resting),
         })
     }
@@ -39,6 +43,11 @@ impl Disks {
     /// The disks that are at rest, in whose place stand none.
     pub(crate) fn take(&mut self) -> Option<Resting> {
         self.resting.take()
+    }
+
+    /// The journal's limit of the next database.
+    pub(crate) fn limit(&self) -> u64 {
+        self.limit
     }
 
     /// These disks are at rest from now on.
@@ -64,6 +73,12 @@ impl Disks {
             let call = small_number(call)?;
             failing.push(FailAt { call, mode })?;
         }
+        Ok(())
+    }
+
+    /// limit BYTES
+    fn take_limit(&mut self, limit: &[u8]) -> Result<(), Fault> {
+        self.limit = number(limit)?;
         Ok(())
     }
 
@@ -123,6 +138,7 @@ impl Disks {
     ) -> Result<(), Fault> {
         match (name, args) {
             ("fail", [which, mode, calls @ ..]) => self.fail(which, mode, calls),
+            ("limit", [limit]) => self.take_limit(limit),
             ("disks", []) => self.make(alloc),
             ("crash", [a, b, left]) => self.crash(alloc, a, b, left),
             ("events", []) => self.say_events(out),

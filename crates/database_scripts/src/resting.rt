@@ -2,7 +2,7 @@
 
 ghost use Rattle.std.specs.Prelude.{◌≡◌, [], IfOk};
 
-use crate::book::{LIMITS, NewBook, ROOM};
+use crate::book::{NewBook, ROOM, limits};
 use crate::images::{Left, image};
 use active_snapshot::{Front, Naming, Shelf, open_book};
 use cfg_base::{Calls, NoMemory, Users};
@@ -91,7 +91,7 @@ fn say_started<R: Wait, J: Naming>(
 {
     let Resting { a, b, .. } = disks;
     let users = Users::new(alloc);
-    match Database::<MemDisk, J>::start(alloc, shelf, front, a, b, users, LIMITS, false) {
+    match Database::<MemDisk, J>::start(alloc, shelf, front, a, b, users, limits(ROOM), false) {
         Err(fault) => say_why(out, fault.why),
         Ok(book) => say_opening(out, &book.close(rt).history),
     }
@@ -216,7 +216,7 @@ impl Resting {
         }
     }
 
-    /// Opens the database that the disks hold, or makes one.
+    /// Opens the database that the disks hold, or makes one, with that limit of its journal.
     pub(crate) fn open<R: Wait, J: Naming>(
         self,
         rt: &R,
@@ -224,14 +224,15 @@ impl Resting {
         empty: NewBook<J>,
         makes: bool,
         users: Users,
+        journal: u64,
     ) -> Result<Database<MemDisk, J>, StartFault<MemDisk>>
         ensures { IfOk result (λ book. book.users ≡ users) }
     {
         let Resting { a, b, .. } = self;
         if makes {
-            empty.create(rt, alloc, a, b, users)
+            empty.create(rt, alloc, a, b, users, journal)
         } else {
-            empty.start(alloc, a, b, users)
+            empty.start(alloc, a, b, users, journal)
         }
     }
 

@@ -94,7 +94,7 @@ impl<J: Naming> Script<J> {
     ) -> Result<(), Fault>
         requires { length configuring.items ≡ length users }
     {
-        match resting.open(rt, self.alloc, empty, makes, users) {
+        match resting.open(rt, self.alloc, empty, makes, users, self.disks.limit()) {
             Ok(book) => self.begin(rt, Running::of(self.alloc, book, configuring), out),
             Err(fault) => {
                 self.disks.put(Resting::refused(self.alloc, fault, out));

@@ -193,6 +193,14 @@ impl StagedDisk {
         Ok(())
     }
 
+    /// front a|b LENGTH
+    fn ask_front(&self, alloc: Global, length: &[u8], out: &mut Text) -> Result<(), Fault> {
+        let front = front_of(alloc, &self.disk, number(length)?)?;
+        say_number(out, self.disk.contents().len() as u64);
+        say_bytes(out, "bytes", &front);
+        Ok(())
+    }
+
     /// write_at a|b PLACE BYTES
     fn ask_write(&mut self, at: &[u8], bytes: &[u8], out: &mut Text) -> Result<(), Fault> {
         let at = number(at)?;
@@ -209,6 +217,7 @@ impl StagedDisk {
     ) -> Option<Result<(), Fault>> {
         Some(match (name, args) {
             ("disk", []) => self.ask_contents(out),
+            ("front", [length]) => self.ask_front(alloc, length, out),
             ("write_at", [at, bytes]) => self.ask_write(at, bytes, out),
             ("cut", [length]) => self.cut(alloc, length, out),
             ("disk-fails", [mode, calls @ ..]) => self.fail(mode, calls),
@@ -253,6 +262,12 @@ impl Disks {
     pub(crate) fn put(&mut self, a: MemDisk, b: MemDisk) {
         self.a.disk = a;
         self.b.disk = b;
+    }
+
+    /// Copies of two disks stand here.
+    pub(crate) fn copies_of(&mut self, alloc: Global, other: &Disks) -> Result<(), Fault> {
+        self.a.copy_of(alloc, &other.a.disk)?;
+        self.b.copy_of(alloc, &other.b.disk)
     }
 
     /// Copies of two disks stand here, of which that one is hurt.

@@ -20,6 +20,8 @@ struct Script {
     stage: Stage,
     /// The disks of the next run, which come back from it.
     disks: Disks,
+    /// Copies of disks, for more than one run over them.
+    kept: Disks,
     machine: Machine,
 }
 
@@ -36,11 +38,13 @@ fn ask(alloc: Global, name: &str, args: &[Arg], out: &mut Text) -> Option<Result
 impl Script {
     fn new(alloc: Global) -> Result<Script, Fault> {
         let disks = Disks::new(alloc, 0)?;
+        let kept = Disks::new(alloc, 0)?;
         Ok(Script {
             alloc,
             text: KeptText::new(alloc),
             stage: Stage::new(alloc),
             disks,
+            kept,
             machine: Machine::new(alloc)?,
         })
     }
@@ -93,6 +97,8 @@ impl Answers for Script {
                 ask_hurt(rt, alloc, &mut self.stage, &self.disks, name, rest, out)
             }
             "fresh" => make_fresh(rt, alloc, &mut self.disks),
+            "keep-disks" => self.kept.copies_of(alloc, &self.disks),
+            "kept-disks" => self.disks.copies_of(alloc, &self.kept),
             _ => self.answer_words(name, &args_of(alloc, rest)?, out),
         }
     }
