@@ -21,7 +21,7 @@ module _ {E : Type 0} where
   abbrev pub moves : List E → List E → ℕ → Type 0
   moves before after answer = ⊤
 
-  -- what the exchange tells whoever has seen a list of that length
+  -- what the exchange reports to whoever has seen a list of that length
   abbrev pub tells : List E → E → ℕ → ℕ → View E ℕ → Type 0
   tells seen e old = Adds (step 0 old (old + 1) e) (seen, (no_nib, None))
 

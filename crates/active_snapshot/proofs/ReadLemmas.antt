@@ -12,11 +12,11 @@ use Rattle.active_snapshot.specs.Views.{IsLast}
 some_inj : {A : Type 0} {x y : A} → Some x ≡ Some y → x ≡ y
 some_inj e = cc e
 
--- what is told of a run
+-- what is reported of a run
 abbrev told_of : Option Unconfirmed → Option Pending
 told_of run = option_map (λ (r : Unconfirmed). record { deadline = r.deadline; target = r.target.number }) run
 
--- the run whose deadline is told
+-- the run whose deadline is reported
 pub run-told : (run : Option Unconfirmed) (told : Pending)
     → Some told ≡ told_of run
     → (r : Unconfirmed) × (run ≡ Some r) × (told.deadline ≡ r.deadline)

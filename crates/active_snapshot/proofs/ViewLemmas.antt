@@ -48,7 +48,7 @@ count-nth view nth more zero follows is = let same : view ≡ nth = cc is in ome
 count-nth view nth [] (suc n) follows is = absurd (cc is)
 count-nth view nth (v ∷ more) (suc n) follows is = omega (arith, count-nth v nth more n follows.1 is, count-next view v follows.0)
 
--- the count of the last view is the opening's and as many as there are views behind the opening's
+-- the count of the last view is the opening's and as many as there are views after the opening's
 pub count-last : (view last : Kept) (more : List Kept) → FollowsOn view more → last_or (Some view) more ≡ Some last
     → last.count ≡ view.count + length more
 count-last view last [] follows is = let same : view ≡ last = some_inj is in omega (arith, ap (λ (k : Kept). k.count) same)
@@ -105,7 +105,7 @@ length-room views seen last shown front are is same_list same_view is_front with
     omega (arith, length-views views last are is, ap (λ (l : List Kept). length l) same_list) in
     omega (arith, shorter, ap (λ (k : Kept). k.count) same_view, is_front, within)
 
--- a list with the view that comes next behind it
+-- a list with the view that comes next after it
 pub Views-added : (views kept seen after : List Kept) (next value : Kept) → AreViews views → views ≡ kept
     → ComesNext kept next → seen ≡ views → value ≡ next → after ≡ seen ++ value ∷ []
     → AreViews after × IsLast after next

@@ -1,4 +1,4 @@
--- The rule of the book that keeps the list of views, and what its one step tells. This is the project's own.
+-- The rule of the book that keeps the list of views, and what its one step reports. This is the project's own.
 use Rattle.std.specs.Prelude.{ℕ, ◌≡◌, ◌==◌, ◌<◌, true, List, [], ◌∷◌, ◌++◌, length, MatchBool}
 use mathlib.Core.List.{IsPrefix}
 use Rattle.logbook.specs.Pages.{Cell, Step, View, Book, Named}
@@ -11,7 +11,7 @@ IsKeptIn cells list = cells ≡ (length list, true) ∷ (0, true) ∷ []
 abbrev pub head_of : Book → Named
 head_of book = record { tracked = true; key = 0; book = book }
 
--- one was added behind all that had been seen; or the list was longer, and was seen
+-- one was added after all that had been seen; or the list was longer, and was seen
 abbrev pub Adds : {E : Type 0} → Step E → View E ℕ → ℕ → View E ℕ → Type 0
 Adds step before found after =
     MatchBool (found == step.old) (after.0 ≡ before.0 ++ step.ask ∷ []) (length after.0 ≡ found)

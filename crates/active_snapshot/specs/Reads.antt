@@ -18,10 +18,10 @@ IsAnswer view moment (At front shown) = (front ≡ view.count) × (is_revert_due
 abbrev pub IsReadOf : List Kept → ℕ → Read → Type 0
 IsReadOf list moment read = (view : Kept) × IsLast list view × IsAnswer view moment read
 
--- memory may be wanting for a view that is handed out; the answer that its deadline has come takes none
+-- memory may run out for a view that is handed out; the answer that its deadline has come takes none
 abbrev pub HandsOut : List Kept → ℕ → Type 0
 HandsOut list moment = (view : Kept) → IsLast list view → is_revert_due view moment ≡ false
 
--- a read wants memory only where not all is there that was told, or a view is to be handed out
+-- a read needs memory only where not all is there that was reported, or a view is to be handed out
 abbrev pub MayWant : List Kept → List Kept → ℕ → Type 0
 MayWant list told moment = length told ≤ length list → HandsOut list moment

@@ -16,7 +16,7 @@ pub record WriterState : Type 0 where
   pub late : Bool
   pub published : ℕ
 
--- what a writer tells: the views that were kept, and how many of them are published
+-- what a writer reports: the views that were kept, and how many of them are published
 pub record NoteState : Type 0 where
   pub list : List Kept
   pub published : ℕ
@@ -30,7 +30,7 @@ pub record ReaderState : Type 0 where
 abbrev pub first_written : Kept → WriterState
 first_written view = record { list = view ∷ []; proposal = None; late = false; published = 1 }
 
--- and nothing was told beyond it
+-- and nothing was reported beyond it
 abbrev pub first_read : Kept → ReaderState
 first_read view = record { list = view ∷ []; told = view ∷ [] }
 

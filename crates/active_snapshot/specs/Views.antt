@@ -9,7 +9,7 @@ use Rattle.commit_ledger.specs.Kept.{Kept, append_entry}
 abbrev pub IsNextView : Kept → Kept → Type 0
 IsNextView view next = (entry : Entry) × (next ≡ append_entry view entry)
 
--- each view behind one is the view after one more entry than the view before it
+-- each view after one is the view after one more entry than the view before it
 abbrev pub FollowsOn : Kept → List Kept → Type 0
 FollowsOn view [] = ⊤
 FollowsOn view (next ∷ more) = IsNextView view next × FollowsOn next more
@@ -27,7 +27,7 @@ IsLast views view = last_or None views ≡ Some view
 abbrev pub ComesNext : List Kept → Kept → Type 0
 ComesNext views next = (last : Kept) × IsLast views last × IsNextView last next
 
--- the views with a proposal behind them, where there is one
+-- the views with a proposal after them, where there is one
 abbrev pub with_proposal : List Kept → Option Kept → List Kept
 with_proposal views None = views
 with_proposal views (Some next) = views ++ next ∷ []

@@ -158,7 +158,7 @@ impl Front {
         both.learn(&other.seen);
     }
 
-    /// Adds a view behind all that was seen, and says whether it did. It did not where the list is longer.
+    /// Adds a view after all that was seen, and says whether it did. It did not where the list is longer.
     pub(crate) fn add(&mut self, shelf: &Shelf, view: &Snapshot<Shown>) -> bool
         requires room { length self.old.list < 2 ^ 63 }
         requires shelf { shelf.now ≡ self.old.book }

@@ -14,7 +14,7 @@ pub fn fronts_never_fall()
         → IsLast one view → IsLast two later → view.count ≤ later.count }
 {}
 
-/// The last view of a list is what as many entries leave behind the opening as there are views behind its view.
+/// The last view of a list is what as many entries leave after the opening as there are views after its view.
 pub fn views_are_of_entries()
     ensures { (opening last : Kept) (more : List Kept) → AreViews (opening ∷ more) → IsLast (opening ∷ more) last
         → (entries : List Entry) × (length entries ≡ length more) × (last ≡ after_entries opening entries) }

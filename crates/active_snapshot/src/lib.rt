@@ -1,7 +1,7 @@
 //! Views of the list of commits, which readers take without waiting while a writer publishes new ones.
 //!
 //! Guarantees: what a reader sees is the view that a beginning of the kept list leaves, never an earlier one than before, and
-//! never one that isn't kept; a missed deadline is told in place of a view.
+//! never one that isn't kept; a missed deadline is reported in place of a view.
 //! Leaves to others: when an entry is kept (`commit_journal`), which entries there are (`commit_ledger`), and that a publish
 //! reaches readers (`left_right`).
 //!

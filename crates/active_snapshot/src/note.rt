@@ -1,4 +1,4 @@
-//! What a writer tells.
+//! What a writer reports.
 
 ghost use Rattle.std.specs.Prelude.{◌≡◌, length};
 ghost use Rattle.active_snapshot.specs.Views.{AreViews};

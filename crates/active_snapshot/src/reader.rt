@@ -29,7 +29,7 @@ impl<J: Naming> Protocol<Slot, u8> for Of<J> {
     ghost first = { 0 };
 }
 
-/// What a step of the writer or of a reader tells.
+/// What a step of the writer or of a reader reports.
 pub(crate) struct OfBook<J> {
     of: PhantomData<J>,
 }
@@ -94,7 +94,7 @@ fn answer_of(shown: &Arc<Shown, Global>, moment: Moment) -> Result<Read, NoMemor
 }
 
 impl Slot {
-    /// Whether it is as long as what was told, or longer.
+    /// Whether it is as long as what was reported, or longer.
     fn reaches(&self, told: &Front) -> bool
         requires { told.now.book ≡ self.now.book }
         ensures prefix { MatchBool result (IsPrefix told.now.list self.now.list) (IsPrefix self.now.list told.now.list) }
@@ -168,7 +168,7 @@ impl<J: Naming> SnapReader<J> {
     }
 
     /// What the longest view says at a moment. It waits for nobody, and answers from the view that it keeps where `left_right`
-    /// refuses it. `NoMemory` comes only where less is published than was told, or for a view that is handed out.
+    /// refuses it. `NoMemory` comes only where less is published than was reported, or for a view that is handed out.
     pub fn read(&mut self, moment: Moment) -> Result<Read, NoMemory>
         ensures later { IsPrefix self.old.list self.new.list }
         ensures told { self.new.told ≡ self.old.told }
@@ -183,7 +183,7 @@ impl<J: Naming> SnapReader<J> {
         self.slot.answer(moment)
     }
 
-    /// Takes in what a writer told, and the last view of it, where it is given.
+    /// Takes in what a writer reported, and the last view of it, where it is given.
     pub fn learn(&mut self, note: &SnapNote<J>, view: Option<Arc<Shown, Global>>)
         requires { IfSome view (λ view. IsLast note.now.list (arc_value view)) }
         ensures told { IsLonger self.old.told note.now.list self.new.told }
@@ -213,7 +213,7 @@ impl<J: Naming> SnapReader<J> {
         }
     }
 
-    /// Whether all that was read is in the list that a note tells.
+    /// Whether all that was read is in the list that a note reports.
     pub fn is_within(&self, note: &SnapNote<J>) -> bool
         ensures within { result ≡ true → IsPrefix self.now.list note.now.list }
         ensures exact { result ≡ nat_le (length self.now.list) (length note.now.list) }

@@ -70,7 +70,7 @@ impl Slot {
         self.front.len()
     }
 
-    /// The view that comes next, behind the list. `None` where the book's list has become longer.
+    /// The view that comes next, after the list. `None` where the book's list has become longer.
     pub(crate) fn with(&self, shelf: &Shelf, shown: Arc<Shown, Global>) -> Option<Slot>
         requires shelf { shelf.now ≡ self.now.book }
         requires next { ComesNext self.now.list (arc_value shown) }

@@ -64,7 +64,7 @@ fn put_back<T>(place: &mut Option<T>, value: T)
     let None = nothing else { unreachable!() };
 }
 
-/// Publishes a slot behind whatever waits, and says whether it did.
+/// Publishes a slot after whatever waits, and says whether it did.
 fn publish_slot<J: Naming, R: Wait>(
     rt: &R,
     writer: &mut Option<Writer<Slot, Slot, u8, Of<J>>>,

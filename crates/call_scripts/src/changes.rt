@@ -42,7 +42,7 @@ fn op_of_two(call: &str, from: Words, to: Words) -> Option<Op> {
     }
 }
 
-/// The change of that name; the words of a second statement stand behind `--`.
+/// The change of that name; the words of a second statement stand after `--`.
 pub(crate) fn op_of(alloc: Global, call: &str, args: &[Arg]) -> Result<Option<Op>, Fault> {
     match call {
         "rename" | "copy" | "insert_before" | "insert_after" => {
@@ -71,7 +71,7 @@ pub(crate) fn put_word_list(out: &mut Text, words: &WordList) {
     }
 }
 
-/// The words of a statement, behind `--`.
+/// The words of a statement, after `--`.
 pub(crate) fn put_own_words(out: &mut Text, words: &WordList) {
     if !words.is_empty() {
         out.put(" --");

@@ -15,7 +15,7 @@ fn ask_check(alloc: Global, tree: &Tree, out: &mut Text) {
     }
 }
 
-/// Answers one of these calls, and tells whether it is one.
+/// Answers one of these calls, and reports whether it is one.
 pub(crate) fn ask(alloc: Global, tree: &Tree, call: &str, out: &mut Text) -> bool {
     match call {
         "check" => ask_check(alloc, tree, out),

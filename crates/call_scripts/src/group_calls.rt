@@ -8,7 +8,7 @@ use group_expand::{ExpandFault, expand};
 use script_lines::{Arg, Fault, Text, put_bytes, put_path, say, say_number, say_whole_text};
 use std::alloc::Global;
 
-/// The group that a statement was inherited from, behind `<-`.
+/// The group that a statement was inherited from, after `<-`.
 fn put_group(out: &mut Text, group: &Word) {
     if !group.as_bytes().is_empty() {
         out.put(" <-");

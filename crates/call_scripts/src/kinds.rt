@@ -51,7 +51,7 @@ fn put_range(out: &mut Text, from: u32, to: u32) {
     out.put_number(u64::from(to));
 }
 
-/// The name of a kind, behind a blank.
+/// The name of a kind, after a blank.
 pub(crate) fn put_kind(out: &mut Text, kind: Kind) {
     out.put(" ");
     match kind {

@@ -1,4 +1,4 @@
-//! Calls that read a text. What stands behind the call and a blank is the text, blanks and all; without it the text
+//! Calls that read a text. What stands after the call and a blank is the text, blanks and all; without it the text
 //! that the script keeps is read.
 
 ghost use Rattle.cfg_lex.specs.Tokens.{IsPlaced};
@@ -122,7 +122,7 @@ pub(crate) fn ask(alloc: Global, tree: &mut Tree, call: &str, text: &[u8], out: 
     }
 }
 
-/// parse_front N: the same of so many bytes at the front of the text; their end is told as the end
+/// parse_front N: the same of so many bytes at the front of the text; their end is reported as the end
 pub(crate) fn ask_front(
     alloc: Global,
     tree: &mut Tree,

@@ -1,5 +1,5 @@
 -- A candidate: a commit that it is based on, and edits over that commit's map. Junos OS CLI User Guide, on the candidate
--- configuration; that a candidate is told by its edits, and which edits there are, is this project's own.
+-- configuration; that a candidate is known by its edits, and which edits there are, is this project's own.
 use Rattle.std.specs.Prelude.{◌≡◌, ◌≢◌, ◌⊎◌, ℕ, Bool, false, IsTrue, Decides, List, [], ◌∷◌}
 use Rattle.std.specs.FinMap as finite
 use Rattle.cfg_base.specs.declared.path.Step.{Step}

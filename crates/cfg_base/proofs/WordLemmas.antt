@@ -248,7 +248,7 @@ joined-grows old (x ∷ given) h = by_test (lists old x) (joined-grows old given
     by_test true go longer h = go h
     by_test false go longer h = omega (arith, longer, length-append old (x ∷ []))
 
--- whether the join is as long as the list tells whether the list has all of the words
+-- whether the join is as long as the list shows whether the list has all of the words
 pub has_all_by : (old given : List (List ℕ)) (n k : ℕ) → n ≡ length (joined old given) → k ≡ length old → (n == k) ≡ list_all (lists old) given
 has_all_by old given n k e f = by_test (list_all (lists old) given) refl
   where

@@ -43,7 +43,7 @@ fn push_in(alloc: Global, blocks: &mut Vec<Shared<Word>>, word: Word) -> Result<
     Ok(())
 }
 
-/// Puts a block behind the others.
+/// Puts a block after the others.
 pub(crate) fn push_block(
     blocks: &mut Vec<Shared<Word>>,
     block: Shared<Word>,
@@ -67,7 +67,7 @@ fn push_alone(alloc: Global, blocks: &mut Vec<Shared<Word>>, word: Word) -> Resu
     push_block(blocks, Shared::new(alloc, words)?)
 }
 
-/// Puts a word behind the others.
+/// Puts a word after the others.
 pub(crate) fn push_word(
     alloc: Global,
     blocks: &mut Vec<Shared<Word>>,

@@ -34,7 +34,7 @@ fn join_few(list: &WordList, given: &[Word]) -> Result<WordList, NoMemory>
     Ok(words)
 }
 
-/// Takes a word out of a set, and tells whether it was there.
+/// Takes a word out of a set, and reports whether it was there.
 fn strike(missing: &mut BTreeSet<Word>, word: &Word) -> bool
     ensures was { result ≡ set.contains word_cmp missing.old word.now }
     ensures left { (other : List ℕ) → set.contains word_cmp missing.new other ≡ (not (same_word other word.now) && set.contains word_cmp missing.old other) }

@@ -24,7 +24,7 @@ pub(crate) fn has_word(words: &[Word], word: &Word) -> bool
         .any(|other| word.as_bytes() == other.as_bytes())
 }
 
-/// Adds a word to a set of words, and tells whether it is new there.
+/// Adds a word to a set of words, and reports whether it is new there.
 pub fn learn(known: &mut BTreeSet<Word>, word: &Word) -> Result<bool, NoMemory>
     ensures new { IfOk result (λ new. new ≡ not (set.contains word_cmp known.old word.now)) }
     ensures knows { OnOk result ((other : List ℕ) → set.contains word_cmp known.new other ≡ (same_word other word.now || set.contains word_cmp known.old other)) }

@@ -75,7 +75,7 @@ enum Steps {
     More(Shared<Step>),
 }
 
-/// Steps with one more behind them, in a row of their own.
+/// Steps with one more after them, in a row of their own.
 fn row_with_last(alloc: Global, above: &[Step], last: Step) -> Result<Shared<Step>, NoMemory>
     ensures { IfOk result (λ steps. steps ≡ above.now ++ last ∷ []) }
 {
@@ -85,7 +85,7 @@ fn row_with_last(alloc: Global, above: &[Step], last: Step) -> Result<Shared<Ste
     Shared::new(alloc, steps)
 }
 
-/// Steps with one more behind them.
+/// Steps with one more after them.
 fn with_last(alloc: Global, above: &[Step], last: Step) -> Result<Steps, NoMemory>
     ensures { IfOk result (λ steps. steps_of steps ≡ above.now ++ last ∷ []) }
 {

@@ -137,7 +137,7 @@ impl WordList {
         }
     }
 
-    /// This list with more words behind it.
+    /// This list with more words after it.
     pub fn extended(&self, more: &[Word]) -> Result<WordList, NoMemory>
         ensures { IfOk result (λ list. list ≡ self.now ++ more.now) }
     {

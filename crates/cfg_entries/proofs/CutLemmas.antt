@@ -21,7 +21,7 @@ use Rattle.cfg_entries.proofs.PlaceLemmas.{within_take, within_drop}
 use Rattle.cfg_entries.proofs.BlockLemmas.{all_drop}
 use Rattle.cfg_entries.proofs.PageLemmas.{rows_of_pages, row_within}
 
--- what stands before a path in front of a cut is in front of it too
+-- what stands before a path that is before a cut is before the cut too
 module _ (path p q : List Step) (l : path_cmp p q ≡ Less) where
   less_is : (o : Ordering) → is_lt o ≡ true → o ≡ Less
   less_is Less h = refl
@@ -95,7 +95,7 @@ module _ {V : Type 0} (test : List Step → Bool) (front : (p q : List Step) →
   none_in_front (e ∷ xs) h =
       ap (λ (b : Bool). cond b (e ∷ filter (λ x. test x.0) xs) (filter (λ x. test x.0) xs)) h.0 ∙ none_in_front xs h.1
 
-  -- entries in order are those in front of the cut, and then the others
+  -- entries in order are those before the cut, and then the others
   pub split_at_cut : (es : List (Pair V)) → Rises es → es ≡ filter (λ e. test e.0) es ++ behind test es
   split_at_cut [] up = refl
   split_at_cut (e ∷ es) up = by_test (test e.0) refl (split_at_cut es up.1)
@@ -126,7 +126,7 @@ module _ {V : Type 0} (test : List Step → Bool) (front : (p q : List Step) →
   partitioned ((e ∷ es) ∷ bs) sized up (suc i) (suc j) d le l h =
       partitioned bs sized.1 (rises_back (e ∷ es) (flat bs) up) i j d (omega (arith, le)) (omega (arith, l)) h
 
-  -- the rows that begin in front stand in front of the others
+  -- the rows that begin before the cut stand before the others
   pub rows_partitioned : (bs : List (List (Pair V))) → AreRows bs → IsPartitionedBy (begins test) bs
   rows_partitioned bs is i j d le l h = partitioned bs is.filled (rises (flat bs) is.ordered) i j d le l h
 
@@ -153,7 +153,7 @@ module _ {V : Type 0} (test : List Step → Bool) (front : (p q : List Step) →
       (rises_apart (flat (take i bs)) e (es ++ flat (drop (i + 1) bs))
       (subst (λ (xs : List (Pair V)). Rises xs) (flat_around bs i (e ∷ es) l read) up))
 
-  -- the row before the first that doesn't begin in front
+  -- the row before the first that doesn't begin before the cut
   pub row_found : (bs : List (List (Pair V))) (count : ℕ) → AreRows bs → count ≤ length bs
       → IsPartitionPoint (λ b. begins test b ≡ true) (λ b. begins test b ≡ false) bs count → (at : ℕ) → at ≡ count - 1 → IsCutRow test bs at
   row_found bs zero is l h at e = subst (λ (n : ℕ). IsCutRow test bs n) (sym e) (record {
@@ -192,7 +192,7 @@ module _ {V : Type 0} (test : List Step → Bool) (front : (p q : List Step) →
       sym (ap (λ (xs : List (Pair V)). behind test xs) (sym (take-append-drop count es))
       ∙ left_middle (take count es) [] (drop count es) (within_take _ es count l h.0) (within_drop _ es count h.1))
 
-  -- the entries from the cut on, in its row and in those behind it
+  -- the entries from the cut on, in its row and in those after it
   pub rows_cut : (bs : List (List (Pair V))) (at : ℕ) (b es : List (Pair V)) → at < length bs → b ≡ get_or bs at b → IsCutRow test bs at
       → es ≡ behind test b → es ++ flat (drop (at + 1) bs) ≡ behind test (flat bs)
   rows_cut bs at b es l read around e =
@@ -216,7 +216,7 @@ module _ {V : Type 0} (test : List Step → Bool) (front : (p q : List Step) →
   begins_at (p ∷ ps) zero d x h l = first_begins p h.0
   begins_at (p ∷ ps) (suc k) d x h l = begins_at ps k d x h.1 (omega (arith, l))
 
-  -- the pages that begin in front stand in front of the others
+  -- the pages that begin before the cut stand before the others
   pub pages_partitioned : (ps : List (List (List (Pair V)))) → ArePages ps → IsPartitionedBy (page_begins test) ps
   pages_partitioned ps is i j d le l h =
       begins_at ps i d [] is.sized (omega (arith, le, l))
@@ -238,7 +238,7 @@ not_before Equal = refl
 not_before Greater = refl
 
 module _ {V : Type 0} where
-  -- what isn't before a path is at it or behind it
+  -- what isn't before a path is at it or after it
   pub from_is : (path : List Step) (es : List (Pair V)) → behind (in_front Before path) es ≡ from_key path_cmp path es
   from_is path [] = refl
   from_is path (e ∷ es) =

@@ -1,4 +1,4 @@
--- An entry is told by its path and its value.
+-- An entry is determined by its path and its value.
 use mathlib.Core.Bool.{beq}
 use Rattle.std.specs.Bool.{Decides}
 use Rattle.std.specs.Cmp.Lexicographic.{pointwise_decides}

@@ -16,7 +16,7 @@ use cfg_base::Path;
 pub enum Cut {
     /// Before a path.
     Before,
-    /// Behind a path and all below it.
+    /// After a path and all below it.
     Behind,
 }
 
@@ -29,7 +29,7 @@ fn is_in_front(cut: Cut, at: &Path, path: &Path) -> bool
     }
 }
 
-/// The entries that don't stand in front of the cut.
+/// The entries that don't stand before the cut.
 pub fn entries_behind<'a, V: Drop>(entries: &'a [Entry<V>], cut: Cut, at: &Path) -> &'a [Entry<V>]
     requires { IsStrictlySortedBy path_cmp (keys_of entries.now) }
     ensures { result.now ≡ behind (in_front cut at.now) entries.now }

@@ -1,6 +1,6 @@
 //! Values by their paths, in the order of paths, in pages and blocks that copies share.
 //!
-//! Guarantees: a map is the list of its entries in the order of their paths; a change that wants memory
+//! Guarantees: a map is the list of its entries in the order of their paths; a change that runs out of memory
 //! leaves the map as it was; a copy equals its source, and shares what doesn't change.
 //! Leaves to others: which paths and values may stand in a map (`cfg_tree`).
 #![tactic(auto)]

@@ -20,7 +20,7 @@ use std::alloc::Global;
 use std::marker::Model;
 use std::mem::replace;
 
-/// Puts entries as one more block behind others; the older one where it has just these.
+/// Puts entries as one more block after others; the older one where it has just these.
 fn lay_block<V: Same + Drop>(
     alloc: Global,
     blocks: &mut Vec<Block<V>>,
@@ -40,7 +40,7 @@ fn lay_block<V: Same + Drop>(
     Ok(())
 }
 
-/// Puts blocks as one more page behind others.
+/// Puts blocks as one more page after others.
 fn lay_page<V: Drop>(
     alloc: Global,
     pages: &mut Vec<Page<V>>,

@@ -13,7 +13,7 @@ pub struct Older<'a, V> {
     pub block: Option<&'a Block<V>>,
 }
 
-/// The first of the entries that are left which stands at the path or behind it.
+/// The first of the entries that are left which stands at the path or after it.
 fn found<'a, V: Drop>(rest: &mut Rest<'a, V>, path: &Path) -> Option<Older<'a, V>> {
     let mut block = rest.next_block();
     while let Some(entry) = rest.next() {

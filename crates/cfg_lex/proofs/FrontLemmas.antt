@@ -135,7 +135,7 @@ quoted_found bytes behind inner =
     ap (quote_front rest) (quote_found false bytes behind inner)
     ∙ ap (λ bs. quoted_front bs (prefix_len is_printing bs)) (take_at bytes (34 ∷ behind) (length bytes) refl)
 
--- a lexeme that may stand in front of what follows is found there by its shape
+-- a lexeme that may stand before what follows is found there by its shape
 pub shape_found : (lexeme : Lexeme) (behind : List ℕ) → IsShaped lexeme behind → front_of (spelled lexeme ++ behind) ≡ shape_front lexeme
 shape_found (Space byte) behind shaped = at_true (is_space byte) (Gap 1) (after_space byte behind) shaped
 shape_found (LineComment bytes) behind shaped =
@@ -369,7 +369,7 @@ front_tells b rest =
     (λ no_comment. sign_tells b rest no_quote no_comment)))))
     refl
 
--- a lexeme that stands in front of what follows is found there
+-- a lexeme that stands before what follows is found there
 stands_found : (lexeme : Lexeme) (behind : List ℕ) → Stands lexeme behind → shape_front lexeme ≡ found_front (kind_of lexeme) (length (spelled lexeme))
 stands_found (Space byte) behind stands = refl
 stands_found (LineComment bytes) behind stands = ap Gap (omega arith)

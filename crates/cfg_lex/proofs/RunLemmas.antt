@@ -55,7 +55,7 @@ longest_found test (b ∷ front) back each stops =
     let parts = and_parts (test b) (list_all test front) each in
     ap (λ t. cond t (1 + prefix_len test (front ++ back)) 0) parts.0 ∙ (let e = longest_found test front back parts.1 stops in omega (arith, e))
 
--- the first `*/`: what stands before it and behind it
+-- the first `*/`: what stands before it and after it
 pub record IsClosed (text : List ℕ) (count : ℕ) : Type 0 where
   pub inside : List ℕ
   pub behind : List ℕ
@@ -63,7 +63,7 @@ pub record IsClosed (text : List ℕ) (count : ℕ) : Type 0 where
   pub size : length inside ≡ count
   pub first : closes (inside ++ 42 ∷ []) ≡ false
 
--- the first quote that no backslash takes up: what stands before it and behind it
+-- the first quote that no backslash takes up: what stands before it and after it
 pub record IsQuoted (backslash : Bool) (text : List ℕ) (count : ℕ) : Type 0 where
   pub inside : List ℕ
   pub behind : List ℕ
@@ -71,7 +71,7 @@ pub record IsQuoted (backslash : Bool) (text : List ℕ) (count : ℕ) : Type 0 
   pub size : length inside ≡ count
   pub inner : is_inside backslash inside ≡ true
 
--- what a place that is one further on tells
+-- what a place that is one further on says
 pub later_some : (found : Option ℕ) (count : ℕ) → later found ≡ Some count → (place : ℕ) × (found ≡ Some place) × (count ≡ 1 + place)
 later_some None count e = absurd cc
 later_some (Some place) count e = (place, refl, cc)
@@ -80,7 +80,7 @@ pub later_none : (found : Option ℕ) → later found ≡ None → found ≡ Non
 later_none None e = refl
 later_none (Some place) e = absurd cc
 
--- a `*/` in front of more bytes begins as it does in front of one star
+-- a `*/` before more bytes begins as it does before one star
 begins_same : (inside behind : List ℕ) → begins_with 47 (inside ++ 42 ∷ behind) ≡ begins_with 47 (inside ++ 42 ∷ [])
 begins_same [] behind = refl
 begins_same (b ∷ inside) behind = refl

@@ -186,7 +186,7 @@ spelled_word (QuotedWord bytes) rest kind shaped e =
     let is : Quoted ≡ kind = cc in
     ap (λ k. word_spelled k (34 ∷ (bytes ++ 34 ∷ []))) (sym is) ∙ ap (unescaped false) (between_ends bytes)
 
--- the word of a token that stands behind some bytes
+-- the word of a token that stands after some bytes
 word_behind : (front behind : List ℕ) (x : Lexeme) (kind : Option TokenKind) → IsShaped x behind → kind_of x ≡ kind → map (word_in (front ++ (spelled x ++ behind))) (token_at kind (length front) (length (spelled x))) ≡ word_at kind (word_of x)
 word_behind front behind x None shaped is = refl
 word_behind front behind x (Some kind) shaped is =

@@ -57,20 +57,20 @@ abbrev pub closes : List ℕ → Bool
 closes [] = false
 closes (b ∷ bytes) = (b == 42 && begins_with 47 bytes) || closes bytes
 
--- bytes that may stand in quotes as they are written: a quote stands only right behind a backslash that no backslash takes up. The test
--- says whether the byte in front of them is such a backslash.
+-- bytes that may stand in quotes as they are written: a quote stands only right after a backslash that no backslash takes up. The test
+-- says whether the byte before them is such a backslash.
 abbrev pub is_inside : Bool → List ℕ → Bool
 is_inside backslash [] = not backslash
 is_inside true (b ∷ bytes) = is_inside false bytes
 is_inside false (b ∷ bytes) = not (b == 34) && is_inside (b == 92) bytes
 
--- what a byte in quotes stands for, behind a backslash or not: \" and \\ stand for a quote and a backslash, and any other backslash for
--- itself. A backslash is read with the byte behind it.
+-- what a byte in quotes stands for, after a backslash or not: \" and \\ stand for a quote and a backslash, and any other backslash for
+-- itself. A backslash is read with the byte after it.
 abbrev pub read_byte : Bool → ℕ → List ℕ
 read_byte true b = if b == 34 || b == 92 then b ∷ [] else 92 ∷ b ∷ []
 read_byte false b = if b == 92 then [] else b ∷ []
 
--- the byte is a backslash that takes up the byte behind it
+-- the byte is a backslash that takes up the byte after it
 abbrev pub is_escape : Bool → ℕ → Bool
 is_escape true b = false
 is_escape false b = b == 92

@@ -24,7 +24,7 @@ abbrev pub close_of : List ℕ → Option ℕ
 close_of [] = None
 close_of (b ∷ bytes) = if b == 42 && begins_with 47 bytes then Some 0 else later (close_of bytes)
 
--- where the first quote stands that no backslash takes up; the test says whether a backslash stands in front
+-- where the first quote stands that no backslash takes up; the test says whether a backslash stands before these bytes
 abbrev pub quote_of : Bool → List ℕ → Option ℕ
 quote_of backslash [] = None
 quote_of true (b ∷ bytes) = later (quote_of false bytes)
@@ -38,7 +38,7 @@ word_front kind size count = if nat_lt 255 size then Fault LongWord 0 else Token
 abbrev pub bare_front : ℕ → Front
 bare_front count = if count == 0 then Fault BadByte 0 else word_front kind.Bare count count
 
--- what stands behind a `<`, which so many bytes of an angle word follow
+-- what stands after a `<`, which so many bytes of an angle word follow
 abbrev pub angle_front : ℕ → List ℕ → Front
 angle_front count rest =
     if nat_lt 0 count && begins_with 62 (drop count rest) then word_front kind.Bare (count + 2) (count + 2) else Fault BadByte 0
@@ -50,12 +50,12 @@ quoted_front inside printing =
     then Fault LongWord 0
     else (if printing == length inside then Token kind.Quoted (length inside + 2) else Fault BadByte (1 + printing))
 
--- what stands behind a quote, by where the next one is
+-- what stands after a quote, by where the next one is
 abbrev pub quote_front : List ℕ → Option ℕ → Front
 quote_front rest None = Fault OpenQuote 0
 quote_front rest (Some count) = quoted_front (take count rest) (prefix_len is_printing (take count rest))
 
--- what stands behind `/*`, by where the next `*/` is
+-- what stands after `/*`, by where the next `*/` is
 abbrev pub comment_front : Option ℕ → Front
 comment_front None = Fault OpenComment 0
 comment_front (Some count) = Gap (count + 4)

@@ -51,7 +51,7 @@ abbrev pub EndsLine : List ℕ → Type 0
 EndsLine [] = Unit {0}
 EndsLine (b ∷ bytes) = b ≡ 10
 
--- the lexeme may stand in front of what follows: a comment is closed by the first `*/`, a quoted word by the first quote that no backslash
+-- the lexeme may stand before what follows: a comment is closed by the first `*/`, a quoted word by the first quote that no backslash
 -- takes up, and a bare word is as long as it can be
 abbrev pub IsShaped : Lexeme → List ℕ → Type 0
 IsShaped (Space byte) rest = is_space byte ≡ true
@@ -72,7 +72,7 @@ IsPrinting (BareWord bytes) = Unit {0}
 IsPrinting (AngleWord bytes) = Unit {0}
 IsPrinting (QuotedWord bytes) = list_all is_printing bytes ≡ true
 
--- the lexeme stands in front of what follows, and is no fault: a word has at most 255 bytes
+-- the lexeme stands before what follows, and is no fault: a word has at most 255 bytes
 pub record Stands (lexeme : Lexeme) (rest : List ℕ) : Type 0 where
   pub shaped : IsShaped lexeme rest
   pub short : length (word_of lexeme) ≤ 255

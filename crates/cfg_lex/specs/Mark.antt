@@ -1,5 +1,5 @@
 -- Words that mean something else where they stand bare. Junos OS CLI User Guide, on inactive and on protected statements, on load replace,
--- and on the pipe behind a command.
+-- and on the pipe after a command.
 use Rattle.std.specs.Prelude.{ℕ, List, [], ◌∷◌, Bool, nat_eq, codes}
 use Rattle.std.specs.List.{list_any}
 use Rattle.std.specs.Cmp.Lexicographic.{pointwise}

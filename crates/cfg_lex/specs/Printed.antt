@@ -40,7 +40,7 @@ pub record IsPrintable (word : List ℕ) : Type 0 where
   pub short : length word ≤ 255
   pub printing : list_all is_printing word ≡ true
 
--- what is printed of a word is one lexeme in front of what follows, and that word
+-- what is printed of a word is one lexeme before what follows, and that word
 pub record IsPrintedAs (word rest : List ℕ) (lexeme : Lexeme) : Type 0 where
   pub spells : spelled lexeme ≡ printed_word word
   pub stands : Stands lexeme rest

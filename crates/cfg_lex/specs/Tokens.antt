@@ -81,7 +81,7 @@ pub record IsStray (text : List ℕ) : Type 0 where
   pub no_comment : byte ≡ 47 → begins_with 42 rest ≡ true → ⊥
   pub no_lexeme : (lexeme : Lexeme) (behind : List ℕ) → text ≡ spelled lexeme ++ behind → IsShaped lexeme behind → ⊥
 
--- the first byte of a quoted word that may not stand in one, behind its quote and the bytes before it; the word itself isn't too long
+-- the first byte of a quoted word that may not stand in one, after its quote and the bytes before it; the word itself isn't too long
 pub record IsNotPrinting (text : List ℕ) (offset : ℕ) : Type 0 where
   pub front : List ℕ
   pub byte : ℕ
@@ -121,7 +121,7 @@ FaultAt text cause.OpenComment offset = IsOpenComment text × (offset ≡ 0)
 FaultAt text cause.OpenQuote offset = IsOpenQuote text × (offset ≡ 0)
 FaultAt text cause.LongWord offset = IsLong text × (offset ≡ 0)
 
--- a fault with its place; a place that 32 bits can't hold is told as the last that they can
+-- a fault with its place; a place that 32 bits can't hold is reported as the last that they can
 abbrev pub fault_at : Cause → ℕ → LexFault
 fault_at cause.BadByte place = BadByte (min place 4294967295)
 fault_at cause.OpenComment place = OpenComment (min place 4294967295)

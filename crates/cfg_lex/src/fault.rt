@@ -4,7 +4,7 @@ ghost use Rattle.cfg_lex.specs.declared.fault.LexFault.TheVariants.{NoMemory};
 
 use thiserror::Error;
 
-/// Why a text has no tokens, with the place of the leftmost fault. A place past 2^32 - 1 is told as 2^32 - 1.
+/// Why a text has no tokens, with the place of the leftmost fault. A place past 2^32 - 1 is reported as 2^32 - 1.
 #[derive(Clone, Copy, Debug, PartialEq, Eq, Error)]
 pub enum LexFault {
     #[error("bad byte at byte {0}")]

@@ -42,7 +42,7 @@ fn bare_front(count: usize) -> Front
     }
 }
 
-/// What stands behind a `<`.
+/// What stands after a `<`.
 fn angle_front(rest: &[u8]) -> Front
     ensures { result ≡ angle_front (prefix_len is_angle_byte rest.now) rest.now }
 {
@@ -69,7 +69,7 @@ fn quoted_front(inside: &[u8]) -> Front
     }
 }
 
-/// What stands behind a quote.
+/// What stands after a quote.
 fn quote_front(rest: &[u8]) -> Front
     ensures { result ≡ quote_front rest.now (quote_of false rest.now) }
 {
@@ -79,7 +79,7 @@ fn quote_front(rest: &[u8]) -> Front
     }
 }
 
-/// What stands behind `/*`.
+/// What stands after `/*`.
 fn comment_front(rest: &[u8]) -> Front
     ensures { result ≡ comment_front (close_of rest.now) }
 {

@@ -21,8 +21,8 @@ pub fn words_of_tokens_are_of_lexemes()
     ensures { (text : List ℕ) (lexemes : List Lexeme) → BeginsWith lexemes text [] → map (word_in text) (tokens_at 0 lexemes) ≡ words_of lexemes }
 {}
 
-/// What is printed of a word of printing bytes is read as one token of that word: alone, and as one lexeme in
-/// front of what doesn't go on with a bare word.
+/// What is printed of a word of printing bytes is read as one token of that word: alone, and as one lexeme
+/// before what doesn't go on with a bare word.
 pub fn printed_words_are_read_back()
     ensures one_token { (word : List ℕ) → IsPrintable word → IsTokens (printed_word word) (printed_token word ∷ []) }
     ensures same_word { (word : List ℕ) → IsPrintable word → word_in (printed_word word) (printed_token word) ≡ word }

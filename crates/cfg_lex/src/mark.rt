@@ -1,7 +1,7 @@
 ghost use Rattle.std.specs.Prelude.{◌≡◌};
 ghost use Rattle.cfg_lex.specs.Mark.{mark_word};
 
-/// A word that means something else where it stands bare: what marks a statement, and the pipe behind a command.
+/// A word that means something else where it stands bare: what marks a statement, and the pipe after a command.
 #[derive(Clone, Copy, Debug, PartialEq, Eq)]
 pub enum Mark {
     Inactive,

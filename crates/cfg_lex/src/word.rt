@@ -11,7 +11,7 @@ use cfg_base::NoMemory;
 use std::alloc::Global;
 use std::borrow::CowSlice;
 
-/// Puts at the end of a word what a byte in quotes stands for, behind a backslash or not.
+/// Puts at the end of a word what a byte in quotes stands for, after a backslash or not.
 fn read_byte(word: &mut Vec<u8>, backslash: bool, byte: u8) -> Result<(), NoMemory>
     ensures { OnOk result (word.new.items ≡ word.old.items ++ read_byte backslash byte) }
 {

@@ -64,7 +64,7 @@ statement_step s t ws vs e = cc
 statement_words : (s t : Step) (ws vs : List (List ℕ)) → Statement s ws ≡ Statement t vs → ws ≡ vs
 statement_words s t ws vs e = cc
 
--- what a begun row tells
+-- what a begun row says
 module _ (here : Place) (id : ℕ) (word next : List ℕ) where
   stood : Begins here.row here.in_group word next (begun.Row id) → StandsBelow here.row here.in_group id
   stood (inl h) = h.0.0

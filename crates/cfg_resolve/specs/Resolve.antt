@@ -160,7 +160,7 @@ pub data Reads : List Step → Place → List (List ℕ) → Result Target Words
       → 0 < length words → IsFront here words (Level step next used) → used < length words
       → Reads (path ++ step ∷ []) next (drop used words) answer → Reads path here words answer
 
--- what the words say, or that memory was wanting
+-- what the words say, or that memory ran out
 abbrev pub IsReadingOf : List Step → Place → List (List ℕ) → Result Target WordsFault → Type 0
 IsReadingOf path here words (Ok found) = Reads path here words (Ok found)
 IsReadingOf path here words (Err (Unknown at)) = Reads path here words (Err (Unknown at))

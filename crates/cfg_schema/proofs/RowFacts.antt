@@ -1,4 +1,4 @@
--- The tests of the table, run once, and what they tell of each row.
+-- The tests of the table, run once, and what they say of each row.
 use Rattle.std.proofs.Common.{None, not, ◌==◌, ◌≡◌, ℕ, zero, suc, ◌<◌, ◌+◌, nat_eq, Bool, true, false, List, [], ◌∷◌, ◌++◌, length, take, map, filter, refl, arith, ap, ◌∙◌, sym, subst, eqb-true, cond, append-nil}
 use Rattle.std.specs.List.{list_all}
 use Rattle.std.proofs.lemmas.List.{take_more, map-append}
@@ -83,7 +83,7 @@ one_passed level line passed = ap (λ (b : Bool). map (λ (l : Line). l.number) 
 number_in : (lines : List Line) (n : ℕ) → lines ≡ profile → n < length lines → (line_at lines n).number ≡ n
 number_in lines n same = subst (λ (ls : List Line). n < length ls → (line_at ls n).number ≡ n) (sym same) (number_at n)
 
--- a row that stands there comes behind those before it
+-- a row that stands there comes after those before it
 pub rows_kept : (lines : List Line) (level : Level) (n : ℕ) (so_far now : List ℕ)
     → lines ≡ profile → n < length lines → true ≡ stands level (line_at lines n)
     → so_far ≡ rows_in (take n lines) level → now ≡ so_far ++ n ∷ [] → now ≡ rows_in (take (n + 1) lines) level

@@ -1,4 +1,4 @@
--- The first row of a level that is asked for stands among the apply statements or behind the level's row.
+-- The first row of a level that is asked for stands among the apply statements or after the level's row.
 use Rattle.std.proofs.Common.{◌≡◌, ℕ, ◌<◌, ◌≤◌, ◌+◌, ◌-◌, ◌==◌, nat_lt, nat_le, Bool, true, false, not, ◌&&◌, ◌||◌, List, length, get_or, Option, Some, None, refl, arith, ap, ◌∙◌, sym, subst, eqb-true, leb-true, ltb-true, position, slice_range, ◌⊎◌, inl, inr}
 use Rattle.std.specs.List.{list_all, position_or_len}
 use Rattle.std.proofs.lemmas.List.Quantifiers.{position-Some}
@@ -18,7 +18,7 @@ use Rattle.cfg_schema.proofs.TestLemmas.{both, other_of, position-None}
 use Rattle.cfg_schema.proofs.RowFacts.{profile_length, number_at}
 use Rattle.cfg_schema.proofs.LevelLemmas.{all_at}
 
--- a row stands behind its level's row, and no later than the last one of it; apply statements are 4 and 5
+-- a row stands after its level's row, and no later than the last one of it; apply statements are 4 and 5
 abbrev placed_by : Reach → ℕ → ℕ → Bool
 placed_by Top under number = true
 placed_by Within under number = nat_lt under number && nat_le number (last_below under)

@@ -1,4 +1,4 @@
--- What the tests of the rows tell, and what a search for the first row tells.
+-- What the tests of the rows say, and what a search for the first row gives.
 use Rattle.std.proofs.Common.{◌≡◌, ◌≢◌, ℕ, ◌<◌, Bool, true, false, not, cond, ◌&&◌, ◌||◌, List, length, refl, arith, Some, None, nat_lt, get_or, position}
 use Rattle.std.specs.List.{position_or_len}
 use Rattle.std.specs.Cmp.Lexicographic.{bytes_decides}

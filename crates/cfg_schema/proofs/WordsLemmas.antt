@@ -1,4 +1,4 @@
--- A row's words tell its steps: a step with the words of a row is one of it, and of no row with other words.
+-- A row's words determine its steps: a step with the words of a row is one of it, and of no row with other words.
 use Rattle.std.proofs.Common.{◌≡◌, ◌<◌, ◌==◌, ℕ, zero, suc, Bool, true, false, not, ◌&&◌, ◌||◌, List, [], ◌∷◌, length, refl, arith, sym, ap, ◌∙◌, eqb-true}
 use Rattle.std.specs.List.{list_all}
 use Rattle.cfg_base.specs.declared.kind.Shape.{Shape}
@@ -61,7 +61,7 @@ pub told : (id : ℕ) (step : Step) → id < length profile → HasWords id step
 told id step below words =
     told_by (line_at profile id).shape (head_of id) (name_of id) step (bare_head id below) (names_at id).0 words
 
--- the steps of an ordered row are told by its head
+-- the steps of an ordered row are known by its head
 pub ordered_told : (id : ℕ) (step : Step) → (row_of id).ordered ≡ true → is_step_of id step ≡ same_word (head_of id) step.head
 ordered_told id step ordered =
     by_head (same_word (head_of id) step.head) (length (name_of id) == 0) (same_word (name_of id) step.name)

@@ -35,7 +35,7 @@ HasHead parent in_group word id =
 abbrev pub IsNoHead : ℕ → Bool → List ℕ → Type 0
 IsNoHead parent in_group word = (id : ℕ) → ¬ (HasHead parent in_group word id)
 
--- what a word begins, in words: heads come before bare names, and a Fixed row wants its name
+-- what a word begins, in words: heads come before bare names, and a Fixed row needs its name
 abbrev pub Begins : ℕ → Bool → List ℕ → List ℕ → Child → Type 0
 Begins parent in_group word next (Row id) =
     (HasHead parent in_group word id × ((row_of id).shape ≡ Fixed → name_of id ≡ next))

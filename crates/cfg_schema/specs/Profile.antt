@@ -100,12 +100,12 @@ goes_on next line = not (is_fixed line.shape) || same_word (spelled line.name) n
 abbrev pub names : Level → Line → Bool
 names level line = stands level line && is_bare line.shape
 
--- what is told of a row
+-- what is said of a row
 abbrev pub told : ℕ → Line → Row
 told id line =
     record { id = id; shape = line.shape; name_kind = line.name_kind; value_kind = line.value_kind; ordered = line.ordered }
 
--- what is told of a row of the profile; 0 is the top
+-- what is said of a row of the profile; 0 is the top
 abbrev pub row_of : ℕ → Row
 row_of id = told id (line_at profile id)
 
@@ -120,7 +120,7 @@ name_of id = spelled (line_at profile id).name
 abbrev pub has_row_words : List ℕ → List ℕ → Step → Bool
 has_row_words head name step = same_word head step.head && (length name == 0 || same_word name step.name)
 
--- a step is one of a row, told by the row's words
+-- a step is one of a row, known by the row's words
 abbrev pub is_step_of : ℕ → Step → Bool
 is_step_of id step = has_row_words (head_of id) (name_of id) step
 

@@ -65,7 +65,7 @@ pub fn child(parent: RowId, in_group: bool, word: &[u8], next: &[u8]) -> Child
     child_in(lines, &level, word, next)
 }
 
-/// What is told of a row.
+/// What is said of a row.
 pub fn row(id: RowId) -> Row
     ensures { result ≡ row_of id }
 {

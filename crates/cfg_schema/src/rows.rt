@@ -16,7 +16,7 @@ pub const GROUP: u8 = 3;
 /// The row `apply-groups`.
 pub const APPLY_GROUPS: u8 = 4;
 
-/// The row `apply-groups-except`, behind it.
+/// The row `apply-groups-except`, after it.
 pub const APPLY_GROUPS_EXCEPT: u8 = 5;
 
 /// The number of a row of the profile, or 0 for the top.
@@ -73,7 +73,7 @@ impl RowId {
     }
 }
 
-/// What is told of a row. Where a row has no name or no value, that kind is `Name`.
+/// What is said of a row. Where a row has no name or no value, that kind is `Name`.
 #[derive(Clone, Copy, Debug, PartialEq, Eq)]
 pub struct Row {
     pub id: RowId,

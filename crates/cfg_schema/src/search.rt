@@ -1,4 +1,4 @@
-//! The rows of a level are sought where they stand: behind the level's row, up to the last one of it. The
+//! The rows of a level are sought where they stand: after the level's row, up to the last one of it. The
 //! apply statements, which stand at many levels, are sought apart.
 
 ghost use Rattle.std.specs.Prelude.{◌≡◌, ◌<◌, ◌≤◌, ◌+◌, length, position, slice_range};

@@ -107,7 +107,7 @@ macro_rules! line {
     };
 }
 
-/// The rows of the first profile, behind the top, which has the number 0.
+/// The rows of the first profile, after the top, which has the number 0.
 static PROFILE_1: [Line; 93] = [
     row!(0 top),
     row!(1 in 0, Version, Leaf Text),

@@ -1,4 +1,4 @@
-//! The words by which a row's steps are told.
+//! The words by which a row's steps are known.
 
 ghost use Rattle.std.specs.Prelude.{◌≡◌};
 ghost use Rattle.cfg_schema.specs.Profile.{is_step_of};

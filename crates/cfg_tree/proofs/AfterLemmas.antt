@@ -205,7 +205,7 @@ module _ (p : List Step) where
           (sym (keys_filter (from_here p) es) ∙ ap (λ (xs : List (List Step × Value)). keys_of xs) (sym is ∙ e))
           (IsStrictlySortedBy-filter path_cmp (from_here p) (keys_of es) sorted)
 
-      -- the one behind it
+      -- the one after it
       after_second : (k2 : List Step) (v2 : Value) (rest2 : List (List Step × Value)) → p ≡ k → rest ≡ (k2, v2) ∷ rest2
           → IsStrictlySortedBy path_cmp (keys_of es) → filter (λ x. after_here p x.0) es ≡ (k2, v2) ∷ filter (λ x. after_here p x.0) rest2
       after_second k2 v2 rest2 same f sorted =
@@ -240,7 +240,7 @@ module _ (m : EntryMap (List Step) Value) (p : List Step) where
       pub next_found : is_eq (path_cmp p k) ≡ false → IsNext (shown m) p k v
       next_found other = found_next k v _ sorted (after_other p m.entries start is k v rest e other)
 
-      -- it is the path, and the next one is behind it
+      -- it is the path, and the next one is after it
       pub next_behind : (k2 : List Step) (v2 : Value) (rest2 : List (List Step × Value)) → is_eq (path_cmp p k) ≡ true → rest ≡ (k2, v2) ∷ rest2
           → IsNext (shown m) p k2 v2
       next_behind k2 v2 rest2 same f =

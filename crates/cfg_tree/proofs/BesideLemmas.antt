@@ -38,7 +38,7 @@ apart_by p q rest e differs = by_test _ refl
     by_test true h = absurd (differs (same_front p q rest e h))
     by_test false h = refl
 
--- the place behind a path
+-- the place after a path
 place_append : (p rest : List Step) (start : Place) → place_from (p ++ rest) start ≡ and_then (place_from rest) (place_from p start)
 place_append [] rest start = refl
 place_append (s ∷ p) rest start = go (place_after start s) (λ next. place_append p rest next)
@@ -56,7 +56,7 @@ follows_join [] rest start here f e g = subst (λ (h : Place). FollowsFrom rest 
 follows_join (s ∷ p) rest start here f e g =
     (f.0, f.1, f.2, follows_join p rest f.0 here f.3 (ap (and_then (place_from p)) (sym f.1) ∙ e) g)
 
--- the parent of what stands behind a path
+-- the parent of what stands after a path
 pub parent_behind : (p rest : List Step) → 0 < length rest → parent_of (p ++ rest) ≡ p ++ parent_of rest
 parent_behind p rest long =
     (same_ends (parent_of (p ++ rest)) (p ++ parent_of rest) (last_of (p ++ rest)) (last_of rest)

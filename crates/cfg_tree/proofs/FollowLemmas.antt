@@ -1,4 +1,4 @@
--- What a typed path tells of its place, of its last step, and of the levels above it.
+-- What a typed path says of its place, of its last step, and of the levels above it.
 use Rattle.std.proofs.Common.{◌≡◌, ℕ, zero, suc, ◌<◌, Bool, true, false, not, ◌||◌, List, [], ◌∷◌, ◌++◌, length, take, refl, sym, ap, subst, ◌∙◌, Some, arith, if◌then◌else◌}
 use Rattle.std.specs.List.{list_all}
 use Rattle.cfg_base.specs.declared.path.TheConstants.{MAX_STEPS}
@@ -75,7 +75,7 @@ follows_front (step ∷ rest) (suc n) start f = (f.0, f.1, f.2, follows_front re
 pub typed_front : (path : List Step) (n : ℕ) → IsTypedPath path → IsTypedPath (take n path)
 typed_front path n f = follows_front path n top_place f
 
--- the steps behind a level follow rows from where the level leads
+-- the steps after a level follow rows from where the level leads
 pub follows_behind : (level rest : List Step) (start here : Place) → FollowsFrom (level ++ rest) start → place_from level start ≡ Some here → FollowsFrom rest here
 follows_behind [] rest start here f e = subst (λ (p : Place). FollowsFrom rest p) (some_same start here e) f
 follows_behind (s ∷ level) rest start here f e =

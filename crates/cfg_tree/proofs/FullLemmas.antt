@@ -1,4 +1,4 @@
--- Expansions: what a look-up in the entries tells, and how many they are.
+-- Expansions: what a look-up in the entries gives, and how many they are.
 use Rattle.std.proofs.Common.{◌≡◌, ℕ, ◌≤◌, cond, List, [], ◌∷◌, length, refl, sym, ap, subst, ◌∙◌, Some, arith, rules, Fits, w32, lit≤}
 use Rattle.std.specs.FinMap as map
 use Rattle.std.specs.FinMap.Entries.{by_order, put, find}
@@ -22,12 +22,12 @@ use Rattle.cfg_tree.specs.declared.limit.TheConstants.{MAX_EXPANDED}
 use Rattle.cfg_tree.specs.Full.{IsWithin}
 
 module _ {X : Type 0} where
-  -- the first entry at a key, told in two ways
+  -- the first entry at a key, stated in two ways
   find_entry : (es : List (List Step × X)) (q : List Step) → find path_cmp q es ≡ lookup (is_at (path_cmp q)) es
   find_entry [] q = refl
   find_entry (e ∷ es) q = ap (cond (is_eq (path_cmp q e.0)) (Some e.1)) (find_entry es q)
 
-  -- what a look-up in the entries tells
+  -- what a look-up in the entries gives
   pub get_from : (m : EntryMap (List Step) X) (q : List Step) → map.get (map.from_entries {R = path_cmp} m.entries) q ≡ get path_cmp m q
   get_from m q = map.get-from_entries paths_total m.entries q ∙ find_entry m.entries q
 
@@ -73,7 +73,7 @@ same_words = pointwise_decides (ties_decide words_total word_same)
 given_of : (g h : Given) → g.words ≡ h.words → g.order ≡ h.order → g.group ≡ h.group → g ≡ h
 given_of g h a b c = λ i. record { words = a i; order = b i; group = c i }
 
--- what is given is told by its words, its order and its group
+-- what is given is determined by its words, its order and its group
 pub same_given : (g h : Given) → Decides ((given.ghosts).eq g h) (g ≡ h)
 same_given g h =
     Decides-like _

@@ -16,7 +16,7 @@ use Rattle.cfg_tree.specs.Gather.{value_of_both, joined_at, with_one, grown, Are
 use Rattle.cfg_entries.proofs.OrderLemmas.{path_same}
 use Rattle.cfg_entries.proofs.RowLemmas.{all_join, all_each, all_back, Rises, rises, ascends, rises_apart, lookup_before, lookup_here, put_before, put_here}
 
--- what is put behind all
+-- what is put after all
 at_end : (k : List Step) (v : Value) (es : List (Pair Value)) → AreBefore k es → put path_cmp k v es ≡ es ++ (k, v) ∷ []
 at_end k v es h = ap (λ (xs : List (Pair Value)). put path_cmp k v xs) (sym (append-nil es)) ∙ put_before k v es [] h
 

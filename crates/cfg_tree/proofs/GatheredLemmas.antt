@@ -1,4 +1,4 @@
--- Entries put in turn: what a look-up tells, and that a stable sort changes nothing of it.
+-- Entries put in turn: what a look-up gives, and that a stable sort changes nothing of it.
 use Rattle.std.proofs.Common.{◌≡◌, true, false, Bool, T, not, ◌&&◌, cond, List, [], ◌∷◌, filter, refl, sym, ap, subst, ◌∙◌, None, Some, Option, Less, Equal, Greater, Ordering, is_lt, is_le, is_eq, if◌then◌else◌, ℕ, zero, suc, ◌<◌, length, get_or, arith}
 use Rattle.std.specs.FinMap as map
 use Rattle.std.specs.FinMap.{put}
@@ -32,7 +32,7 @@ get_gathered (e ∷ es) m q =
     by_tie true h = ap (λ (k : List Step). Some (joined_at e.0 (map.get m k) e.1)) (sym (path_same q e.0 (tied _ h)))
     by_tie false h = refl
 
--- only the entries at a path tell what is there
+-- only the entries at a path determine what is there
 told_filter : (q : List Step) (p : Pair Value → Bool) → ((e : Pair Value) → p e ≡ eq_by_cmp path_cmp q e.0) → (es : List (Pair Value)) (o : Option Value) → told q o (filter p es) ≡ told q o es
 told_filter q p is [] o = refl
 told_filter q p is (e ∷ es) o = by_tie (p e) refl (told_filter q p is es)
@@ -128,14 +128,14 @@ not_tied Less h = refl
 not_tied Equal h = absurd h
 not_tied Greater h = refl
 
--- nothing behind a path is joined to what is there
+-- nothing after a path is joined to what is there
 pub told_behind : (k : List Step) (v : Value) (es : List (Pair Value)) → T (below_all path_cmp k es) → told k (Some v) es ≡ Some v
 told_behind k v [] h = refl
 told_behind k v (e ∷ es) h =
     ap (λ (b : Bool). told k (if b then Some (joined_at e.0 (Some v) e.1) else Some v) es) (not_tied (path_cmp k e.0) (front _ _ h))
     ∙ told_behind k v es (back _ _ h)
 
--- entries in order tell what is found among them
+-- entries in order determine what is found among them
 told_found : (q : List Step) (es : List (Pair Value)) → T (is_sorted path_cmp es) → told q None es ≡ find path_cmp q es
 told_found q [] h = refl
 told_found q (e ∷ es) h = by_tie (eq_by_cmp path_cmp q e.0) refl (told_found q es (back _ _ h))

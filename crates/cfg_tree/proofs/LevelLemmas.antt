@@ -196,7 +196,7 @@ module _ (path : List Step) where
       e_below : is_below child e.0 ≡ true
       e_below = below_take count e.0
 
-      -- nothing behind the path is the child itself or before it
+      -- nothing after the path is the child itself or before it
       not_upto : (x : List Step) → path_cmp e.0 x ≡ Less → is_le (path_cmp x child) ≡ true → ⊥
       not_upto x less le =
           let first = ap is_le (flipped e.0 child (before_le e.0 x child less le))

@@ -1,4 +1,4 @@
--- Maps from paths: what a look-up in the entries tells, and that maps which answer alike are one.
+-- Maps from paths: what a look-up in the entries gives, and that maps which answer alike are one.
 use Rattle.std.proofs.Common.{◌≡◌, cond, List, [], ◌∷◌, length, refl, sym, ap, ◌∙◌, Some, arith}
 use Rattle.std.specs.FinMap as map
 use Rattle.std.specs.FinMap.Entries.{by_order, put, find}
@@ -25,12 +25,12 @@ same_path = ties_decide paths_total path_same
 pub same_step : (s t : Step) → Decides (eq_by_cmp step_cmp s t) (s ≡ t)
 same_step = ties_decide steps_total step_same
 
--- the first entry at a key, told in two ways
+-- the first entry at a key, stated in two ways
 find_lookup : (es : List (List Step × Value)) (q : List Step) → find path_cmp q es ≡ lookup (is_at (path_cmp q)) es
 find_lookup [] q = refl
 find_lookup (e ∷ es) q = ap (cond (is_eq (path_cmp q e.0)) (Some e.1)) (find_lookup es q)
 
--- what a look-up in the entries tells
+-- what a look-up in the entries gives
 pub get_is : (m : EntryMap (List Step) Value) (q : List Step) → map.get (shown m) q ≡ lookup (is_at (path_cmp q)) m.entries
 get_is m q = map.get-from_entries paths_total m.entries q ∙ find_lookup m.entries q
 

@@ -1,4 +1,4 @@
--- What a copy and a change of a name leave: what look-ups tell, as the code makes them.
+-- What a copy and a change of a name leave: what look-ups give, as the code makes them.
 use Rattle.std.proofs.Common.{◌≡◌, ℕ, ◌-◌, ◌<◌, Bool, true, false, cond, List, length, get_or, sym, ap, ◌∙◌, Option, Some, None, if◌then◌else◌}
 use Rattle.std.specs.FinMap as map
 use Rattle.std.specs.Map.{keys_of}

@@ -137,7 +137,7 @@ pub names_from_none : (m : Statements) (items all : List (Pair Value)) → AreSa
 names_from_none m items all said e f =
     f ∙ ap (λ (xs : List (Pair Value)). gathered_from_none xs) e ∙ names_said map.empty items nothing_is.statements nothing_is.typed said
 
--- what a look-up finds after statements that are said from nothing: what the items of its path tell, with the names of its ordered children
+-- what a look-up finds after statements that are said from nothing: what the items of its path give, with the names of its ordered children
 pub get-stated : (items : List (Pair Value)) (q : List Step) → AreSaid map.empty items → map.get (stated_from_none items) q ≡ told q None (with_child_names items)
 get-stated items q said =
     ap (λ (m : Statements). map.get m q) (sym (names_said map.empty items nothing_is.statements nothing_is.typed said))

@@ -31,7 +31,7 @@ use Rattle.cfg_tree.proofs.BelowLemmas.{below_self, below_more}
 use Rattle.cfg_tree.proofs.FollowLemmas.{typed_place, typed_last, typed_front}
 use Rattle.cfg_tree.proofs.ReadyLemmas.{order_is}
 
--- two tests that tell the same
+-- two tests that decide the same
 pub same_test : (a b : Bool) → (a ≡ true → b ≡ true) → (b ≡ true → a ≡ true) → a ≡ b
 same_test true b f g = sym (f refl)
 same_test false true f g = g refl

@@ -1,4 +1,4 @@
--- A statement and all below it, put at the same places below another path: what look-ups tell, and how many statements there are.
+-- A statement and all below it, put at the same places below another path: what look-ups give, and how many statements there are.
 use Rattle.std.proofs.Common.{◌≡◌, ◌≢◌, ℕ, ◌+◌, Bool, true, false, T, cond, ◌&&◌, List, [], ◌∷◌, ◌++◌, length, drop, filter, refl, append-nil, append_assoc, sym, ap, ◌∙◌, Option, Some, None, is_some, suc, arith}
 use Rattle.std.specs.List.{AllByRecursion}
 use Rattle.std.specs.FinMap as map
@@ -29,7 +29,7 @@ pub below_more_steps : (p rest : List Step) → is_below p (p ++ rest) ≡ true
 below_more_steps [] rest = refl
 below_more_steps (x ∷ p) rest = both_true _ _ (both _ _ (below_self (x ∷ p))).0 (below_more_steps p rest)
 
--- the steps behind the first ones
+-- the steps after the first ones
 pub placed_at : (from to rest : List Step) → placed from to (from ++ rest) ≡ to ++ rest
 placed_at from to rest = ap (λ (r : List Step). to ++ r) (drop_at from rest (length from) refl)
 
@@ -88,7 +88,7 @@ abbrev pub or_else : Option Value → Option Value → Option Value
 or_else None o = o
 or_else (Some v) o = Some v
 
--- what a look-up tells after the part was put
+-- what a look-up gives after the part was put
 get-with : (from to : List Step) (es : List (Pair Value)) (m : Statements) (q : List Step) → T (is_sorted path_cmp es) → AreBelow from es
     → map.get (with_part from to m es) q ≡ cond (is_below to q) (or_else (find path_cmp (placed to from q) es) (map.get m q)) (map.get m q)
 get-with from to [] m q sorted below = alike (is_below to q)

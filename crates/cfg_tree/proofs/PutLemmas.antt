@@ -42,7 +42,7 @@ lists-push (x ∷ names) name other = again (same_word other x) _ _ _ (lists-pus
     again true b c d e = refl
     again false b c d e = e
 
--- what a put and a change of the parent's order leave, told by look-ups
+-- what a put and a change of the parent's order leave, stated by look-ups
 pub record Puts (m n : Statements) (path : List Step) (value : Value) (adds : Bool) : Type 0 where
   pub here : map.get n path ≡ Some value
   pub others : (q : List Step) → q ≢ path → q ≢ parent_of path → map.get n q ≡ map.get m q

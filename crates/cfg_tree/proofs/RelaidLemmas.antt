@@ -44,7 +44,7 @@ none_before a to [] h far = refl
 none_before a to (e ∷ es) h far =
     ap (λ (b : Bool). cond b (e ∷ before to es) (before to es)) (not_less a to e.0 h far.0) ∙ none_before a to es h far.1
 
--- of entries in order, those in front of a path come first
+-- of entries in order, those before a path come first
 front_is : (to : List Step) (es : List (Pair Value)) → Rises es → front_of (is_before to) es ≡ before to es
 front_is to [] up = refl
 front_is to (e ∷ es) up = by_test _ refl (front_is to es up.1)
@@ -54,7 +54,7 @@ front_is to (e ∷ es) up = by_test _ refl (front_is to es up.1)
     by_test true h go = ap (λ (xs : List (Pair Value)). e ∷ xs) go
     by_test false h go = sym (none_before e.0 to es h up.0)
 
--- what is laid so far is all, where nothing is left or the next one isn't in front
+-- what is laid so far is all, where nothing is left or the next one isn't before the path
 pub front_end : (stays : Bool) (from to : List Step) (made all left : List (Pair Value)) → left ≡ []
     → made ++ kept stays from (front_of (is_before to) left) ≡ all → made ≡ all
 front_end stays from to made all left none e =
@@ -68,14 +68,14 @@ front_other stays from to entry made all left rest next f e =
     ∙ ap (λ (xs : List (Pair Value)). made ++ kept stays from (front_of (is_before to) xs)) (sym next)
     ∙ e
 
--- and all is what stands in front
+-- and all is what stands before the path
 pub front_found : (stays : Bool) (from to : List Step) (made start : List (Pair Value)) (m : EntryMap (List Step) Value) → IsOrdered path_cmp m → start ≡ m.entries
     → made ++ kept stays from (front_of (is_before to) start) ≡ made ++ kept stays from (before to m.entries)
 front_found stays from to made start m up e =
     ap (λ (xs : List (Pair Value)). made ++ kept stays from (front_of (is_before to) xs)) e
     ∙ ap (λ (xs : List (Pair Value)). made ++ kept stays from xs) (front_is to m.entries (rises m.entries up))
 
--- the three rows that are laid one behind another
+-- the three rows that are laid one after another
 pub laid : (stays : Bool) (from to : List Step) (part es none front both rest made : List (Pair Value)) → none ≡ []
     → front ≡ none ++ kept stays from (before to es) → both ≡ front ++ moved from to part → rest ≡ past to es → made ≡ both ++ kept stays from rest
     → made ≡ relaid stays from to part es
@@ -116,7 +116,7 @@ rises_join : (xs ys : List (Pair Value)) → Rises xs → Rises ys → AllByRecu
 rises_join [] ys g h far = h
 rises_join (x ∷ xs) ys g h far = (all_join (λ y. path_cmp x.0 y.0 ≡ Less) xs ys g.0 far.0, rises_join xs ys g.1 h far.1)
 
--- steps in front of both don't count
+-- steps before both don't count
 cmp_front : (p a b : List Step) → path_cmp (p ++ a) (p ++ b) ≡ path_cmp a b
 cmp_front [] a b = refl
 cmp_front (s ∷ p) a b = ap (λ (o : Ordering). ordering_then o (path_cmp (p ++ a) (p ++ b))) (tied_itself steps_total s) ∙ cmp_front p a b
@@ -146,7 +146,7 @@ moved_below : (from to : List Step) (es : List (Pair Value)) → AreBelow to (mo
 moved_below from to [] = tt
 moved_below from to (e ∷ es) = (below_more_steps to (drop (length from) e.0), moved_below from to es)
 
--- where an entry stands behind a path and all below it
+-- where an entry stands after a path and all below it
 abbrev IsPast : List Step → Pair Value → Type 0
 IsPast to c = (is_le (path_cmp c.0 to) ≡ false) × (is_below to c.0 ≡ false)
 

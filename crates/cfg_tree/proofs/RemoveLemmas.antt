@@ -20,7 +20,7 @@ use Rattle.cfg_tree.proofs.BelowLemmas.{below_more, below_first, below_self}
 use Rattle.cfg_tree.proofs.OrderLemmas.{top_is_unordered}
 use Rattle.cfg_tree.proofs.PutLemmas.{order_same}
 
--- what a removal leaves, told by look-ups
+-- what a removal leaves, stated by look-ups
 pub record Removes (m n : Statements) (path : List Step) : Type 0 where
   pub below : (q : List Step) → is_below path q ≡ true → map.get n q ≡ None
   pub others : (q : List Step) → is_below path q ≡ false → (is_ordered path ≡ true → q ≢ parent_of path) → map.get n q ≡ map.get m q

@@ -1,4 +1,4 @@
--- A copy and a change of a name, told by look-ups; how many statements they leave; and that these are a tree.
+-- A copy and a change of a name, stated by look-ups; how many statements they leave; and that these are a tree.
 use Rattle.std.proofs.Common.{◌≡◌, ◌≢◌, ℕ, ◌+◌, ◌-◌, ◌<◌, ◌≤◌, Bool, true, false, cond, ◌&&◌, List, [], ◌∷◌, ◌++◌, length, append-nil, refl, sym, ap, subst, ◌∙◌, Option, Some, None, is_some, is_none, option_map, arith, if◌then◌else◌}
 use Rattle.std.specs.Prelude.{IsSome}
 use Rattle.std.specs.FinMap as map
@@ -333,7 +333,7 @@ renamed_kept m from to sorted tree new =
     renamed_tree (shown m) from to tree new
     (let few = tree.few in let parts = part_size m from sorted in let same = size-renamed (shown m) from to tree new in omega (arith, few, parts, same))
 
--- look-ups tell one map
+-- look-ups determine one map
 pub one_move : (m one other : Statements) (from to : List Step) (stays : Bool) (change : List (List ℕ) → List (List ℕ)) → Moves m one from to stays change
     → Moves m other from to stays change → one ≡ other
 one_move m one other from to stays change a b = same_statements one other (λ q. by_tests q _ _ refl refl)

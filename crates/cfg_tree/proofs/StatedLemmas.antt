@@ -1,4 +1,4 @@
--- Statements said one after another: what a look-up tells, and that they keep what holds of the statements of a tree.
+-- Statements said one after another: what a look-up gives, and that they keep what holds of the statements of a tree.
 use Rattle.std.proofs.Common.{◌≡◌, ◌≢◌, ℕ, zero, suc, ◌+◌, ◌<◌, ◌≤◌, Bool, true, false, cond, ◌||◌, ◌&&◌, List, [], ◌∷◌, ◌++◌, take, length, get_or, refl, sym, ap, subst, ◌∙◌, Option, Some, None, is_some, is_none, option_map, arith, if◌then◌else◌}
 use Rattle.std.specs.Prelude.{IsSome}
 use Rattle.std.specs.FinMap as map
@@ -50,7 +50,7 @@ pub said_join : (m : Statements) (xs ys : List (Pair Value)) → AreSaid m xs �
 said_join m [] ys h k = k
 said_join m (x ∷ xs) ys h k = (h.0, said_join (stated_one m x) xs ys h.1 k)
 
--- what a look-up tells after one statement: at its path
+-- what a look-up gives after one statement: at its path
 pub stated_here : (m : Statements) (item : Pair Value) → 0 < length item.0 → map.get (stated_one m item) item.0 ≡ Some (joined_at item.0 (map.get m item.0) item.1)
 stated_here m item long = (puts m item.0 (joined_at item.0 (map.get m item.0) item.1) long).here
 

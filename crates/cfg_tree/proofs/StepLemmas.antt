@@ -1,4 +1,4 @@
--- What a put, a removal and a change of an order leave, told by look-ups.
+-- What a put, a removal and a change of an order leave, stated by look-ups.
 use Rattle.std.proofs.Common.{◌≡◌, ◌≢◌, ℕ, ◌+◌, ◌<◌, ◌≤◌, Bool, true, false, cond, not, ◌&&◌, List, [], ◌∷◌, length, refl, sym, ap, subst, ◌∙◌, Option, Some, None, is_some, is_none, option_map, arith, if◌then◌else◌}
 use Rattle.std.specs.FinMap as map
 use Rattle.cfg_base.specs.Order.{paths_total}

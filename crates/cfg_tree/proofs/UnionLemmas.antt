@@ -32,7 +32,7 @@ joined_is : (q k : List Step) (o : Option Value) (v : Value) → q ≡ k → Som
 joined_is q k None v e = refl
 joined_is q k (Some old) v e = ap (λ (p : List Step). Some (value_of_both p old v)) (sym e)
 
--- entries in order tell what stands in both
+-- entries in order determine what stands in both
 told_both : (q : List Step) (o : Option Value) (es : List (Pair Value)) → T (is_sorted path_cmp es) → told q o es ≡ value_in_both q o (find path_cmp q es)
 told_both q None [] h = refl
 told_both q (Some v) [] h = refl

@@ -33,7 +33,7 @@ abbrev pub order_in : Option Value → List (List ℕ)
 order_in None = []
 order_in (Some value) = value.order
 
--- the steps of a row: in the user's order where it is ordered, else those that its words tell
+-- the steps of a row: in the user's order where it is ordered, else those that its words name
 abbrev pub row_steps : ℕ → List (List ℕ) → List Step → List Step
 row_steps id names steps =
     (if (row_of id).ordered then map (step_of (head_of id)) names

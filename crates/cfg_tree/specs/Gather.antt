@@ -84,7 +84,7 @@ abbrev pub grown : List (Pair Value) → List (Pair Value) → List (Pair Value)
 grown es [] = es
 grown es (e ∷ more) = grown (with_one e es) more
 
--- no entry stands behind a path
+-- no entry stands after a path
 abbrev pub AreUpTo : List Step → List (Pair Value) → Type 0
 AreUpTo path es = AllByRecursion (λ e. is_le (path_cmp e.0 path) ≡ true) es
 

@@ -62,7 +62,7 @@ IsCopyFault m from to NoMemory = Unit {0}
 abbrev pub reordered : (List (List ℕ) → List (List ℕ)) → Value → Value
 reordered change value = record value { order = change value.order }
 
--- the same, told by look-ups: what was at and below the old path is at the same place below the new one, and still at its own or not; the
+-- the same, stated by look-ups: what was at and below the old path is at the same place below the new one, and still at its own or not; the
 -- parent has its names changed; and all else is as it was
 pub record Moves (m n : Statements) (from to : List Step) (stays : Bool) (change : List (List ℕ) → List (List ℕ)) : Type 0 where
   pub new : (rest : List Step) → finite.get n (to ++ rest) ≡ finite.get m (from ++ rest)

@@ -16,7 +16,7 @@ naming name = record { inactive = false; protected = false; order = name ∷ [];
 abbrev pub named_in_parent : List Step → Option (Pair Value)
 named_in_parent path = if is_ordered path then Some (parent_of path, naming (last_of path).name) else None
 
--- a statement, and behind it what it adds to its parent
+-- a statement, and after it what it adds to its parent
 abbrev pub with_child_name : Pair Value → List (Pair Value)
 with_child_name item = item ∷ option_to_list (named_in_parent item.0)
 

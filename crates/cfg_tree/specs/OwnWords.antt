@@ -11,6 +11,6 @@ word_if_any (byte ∷ bytes) = (byte ∷ bytes) ∷ []
 abbrev pub words_of_step : Step → List (List ℕ)
 words_of_step step = word_if_any step.head ++ word_if_any step.name
 
--- the words of the steps, one step behind the other
+-- the words of the steps, one step after the other
 abbrev pub own_words : List Step → List (List ℕ)
 own_words steps = flat_map words_of_step steps

@@ -20,7 +20,7 @@ left_by stays m from = if stays then m else cleared m from
 abbrev pub kept : Bool → List Step → List (Pair Value) → List (Pair Value)
 kept stays from es = filter (λ e. is_kept stays from e.0) es
 
--- the entries in front of a path
+-- the entries before a path
 abbrev pub before : List Step → List (Pair Value) → List (Pair Value)
 before path es = filter (λ e. is_lt (path_cmp e.0 path)) es
 

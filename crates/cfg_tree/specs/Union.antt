@@ -1,4 +1,4 @@
--- Two maps put together, path by path. Junos OS CLI User Guide, on load merge; that it is told by paths is this project's own.
+-- Two maps put together, path by path. Junos OS CLI User Guide, on load merge; that it is stated by paths is this project's own.
 use Rattle.std.specs.Prelude.{◌≡◌, List, Option, Some, None}
 use Rattle.std.specs.FinMap as map
 use Rattle.cfg_base.specs.declared.path.Step.{Step}

@@ -8,7 +8,7 @@ use crate::store::Entries;
 use cfg_base::{Path, Value};
 use cfg_entries::Entry;
 
-/// The first entry behind a path, where one stands there.
+/// The first entry after a path, where one stands there.
 fn entry_after<'a>(entries: &'a Entries, path: &Path) -> Option<&'a Entry<Value>>
     ensures { MatchOption result (IsLast (shown entries.now) path.now)
         (λ entry. IsNext (shown entries.now) path.now entry.now.0 entry.now.1) }

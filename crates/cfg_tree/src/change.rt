@@ -79,7 +79,7 @@ fn take_listed(
     Ok(())
 }
 
-/// Takes a path and all below it away, and tells how many paths went.
+/// Takes a path and all below it away, and reports how many paths went.
 pub fn unstore(alloc: Global, entries: &mut Entries, path: &Path) -> Result<usize, NoMemory>
     ensures ok { OnOk result (shown entries.new ≡ removed (shown entries.old) path.now) }
     ensures count { IfOk result (λ count. count + size_of (shown entries.new) ≡ size_of (shown entries.old)) }
@@ -153,7 +153,7 @@ pub fn replace_in(
     Ok(())
 }
 
-/// Takes a path and all below it away, and tells how many paths went.
+/// Takes a path and all below it away, and reports how many paths went.
 pub fn remove_in(alloc: Global, entries: &mut Entries, path: &Path) -> Result<u32, NoMemory>
     requires { IsTree (shown entries.old) }
     ensures ok { OnOk result (shown entries.new ≡ removed (shown entries.old) path.now) }

@@ -157,7 +157,7 @@ impl Draft {
         Ok(Draft { alloc, statements })
     }
 
-    /// The statements at a path and behind it, in the order of paths.
+    /// The statements at a path and after it, in the order of paths.
     pub fn walk_from(&self, path: &Path) -> Walk<'_>
         ensures { result ≡ filter (λ e. is_le (path_cmp path.now e.0)) (finite.entries self.now) }
     {

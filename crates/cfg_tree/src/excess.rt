@@ -13,7 +13,7 @@ use cfg_base::{NoMemory, Path, Value};
 use std::alloc::Global;
 use std::collections::BTreeSet;
 
-/// Adds a path to the known ones, and tells whether it is new.
+/// Adds a path to the known ones, and reports whether it is new.
 fn learn(known: &mut BTreeSet<Path>, path: &Path) -> Result<bool, NoMemory>
     ensures new { IfOk result (λ new. new ≡ not (set.contains path_cmp known.old path.now)) }
     ensures knows { OnOk result ((other : List Step) → set.contains path_cmp known.new other ≡ cond (eq_by_cmp path_cmp path.now other) true (set.contains path_cmp known.old other)) }

@@ -70,7 +70,7 @@ impl<'a> Model for Gatherer<'a> {
     ghost invariant = { λ g. IsGathered g.maker g.last };
 }
 
-/// What was met, with one statement more behind it.
+/// What was met, with one statement more after it.
 fn pushed<'a>(
     maker: Maker<'a, Value>,
     last: Pending,

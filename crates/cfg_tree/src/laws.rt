@@ -51,7 +51,7 @@ pub fn one_path_is_past_the_limit()
     ensures too_many { (paths : List (List Step)) (at : ℕ) → IsPathPast paths at → MAX_STATEMENTS < different paths }
 {}
 
-/// What a copy and a change of a name leave, told by look-ups; and look-ups tell one map.
+/// What a copy and a change of a name leave, stated by look-ups; and look-ups determine one map.
 pub fn moves_are_told_by_look_ups()
     ensures copied { (m : Statements) (from to : List Step) → IsTree m → IsNewName m from to
         → Moves m (copied m from to) from to true (names_copied to) }

@@ -31,7 +31,7 @@ fn named_in_parent(alloc: Global, path: &Path) -> Result<Option<(Path, Value)>, 
     Ok(Some((path.prefix(above)?, value)))
 }
 
-/// Statements, and behind each what it adds to its parent.
+/// Statements, and after each what it adds to its parent.
 pub fn with_child_names(
     alloc: Global,
     items: Vec<(Path, Value)>,

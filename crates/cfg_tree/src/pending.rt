@@ -17,7 +17,7 @@ fn is_many(path: &Path) -> bool
     }
 }
 
-/// Words, and those of a list behind them.
+/// Words, and those of a list after them.
 fn with_all(words: Vec<Word>, given: &WordList) -> Result<Vec<Word>, NoMemory>
     ensures { IfOk result (λ all. all.items ≡ words.items ++ given.now) }
 {

@@ -17,7 +17,7 @@ use cfg_base::{NoMemory, Path, Value};
 use cfg_entries::{Entry, Maker, Rest};
 use std::alloc::Global;
 
-/// A path, and the steps of another one behind its first ones.
+/// A path, and the steps of another one after its first ones.
 pub fn placed(to: &Path, count: usize, path: &Path) -> Result<Path, NoMemory>
     requires { length to.now ≡ count }
     ensures { IfOk result (λ place. place ≡ to.now ++ drop count path.now) }
@@ -58,7 +58,7 @@ fn lay_one<'a>(
     maker.push(entry.path().clone()?, entry.value().clone()?)
 }
 
-/// The entries in front of a path that stay.
+/// The entries before a path that stay.
 fn lay_front<'a>(
     maker: Maker<'a, Value>,
     entries: &Entries,

@@ -186,7 +186,7 @@ impl Tree {
         replace_in(self.alloc, &mut self.statements, path, value)
     }
 
-    /// Takes a path and all below it away, and tells how many paths went.
+    /// Takes a path and all below it away, and reports how many paths went.
     pub fn remove(&mut self, path: &Path) -> Result<u32, NoMemory>
         ensures ok { OnOk result (self.new ≡ removed self.old path.now) }
         ensures count { IfOk result (λ count. count + size_of self.new ≡ size_of self.old) }
@@ -232,7 +232,7 @@ impl Tree {
         Walk::of(self.statements.iter())
     }
 
-    /// The statements at a path and behind it, in the order of paths.
+    /// The statements at a path and after it, in the order of paths.
     pub fn walk_from(&self, path: &Path) -> Walk<'_>
         ensures { result ≡ filter (λ e. is_le (path_cmp path.now e.0)) (map.entries self.now) }
     {

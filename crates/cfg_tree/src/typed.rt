@@ -96,7 +96,7 @@ fn is_right(
     are_canonical(alloc, row.value_kind, words)
 }
 
-/// Tells that a path and a value are of the profile, where they are.
+/// Checks that a path and a value are of the profile.
 pub fn check(alloc: Global, path: &Path, value: &Value) -> Result<(), TreeFault>
     requires { IsAlmostFit path.now value.now }
     ensures ok { OnOk result (FitsProfile path.now value.now) }

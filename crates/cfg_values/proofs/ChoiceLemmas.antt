@@ -1,4 +1,4 @@
--- A test of each word of a set tells whether the bytes are one of them.
+-- A test of each word of a set says whether the bytes are one of them.
 use Rattle.std.proofs.Common.{◌≡◌, ◌<◌, ◌∙◌, ap, refl, ℕ, zero, suc, List, [], ◌∷◌, map, length, Bool, true, false, ◌||◌, arith}
 use Rattle.std.specs.Prelude.{Contains, slice_index_or}
 use Rattle.std.specs.List.{list_any}

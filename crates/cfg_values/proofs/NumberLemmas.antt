@@ -12,7 +12,7 @@ use Rattle.std.specs.Prelude.{All}
 use Rattle.std.proofs.lemmas.Bool.Decides.{nat_tests}
 use Rattle.cfg_values.specs.Number.{IsNumber, IsNumberWithin}
 
--- `AllDigits` and `digits_value` tell and read decimal digits
+-- `AllDigits` and `digits_value` recognize and read decimal digits
 pub own_digits : IsNumeralModel (AllDigits 10) (digits_value 10)
 own_digits = numerals_by_value (AllDigits 10) tells_digits
 
@@ -24,7 +24,7 @@ front_below bytes i k digits short = digits_value_short own_digits (take i bytes
 pub each_is_digit : (bytes : List ℕ) (i : ℕ) → AllDigits 10 bytes → i < length bytes → false ≡ is_ascii_digit (get_or bytes i 0) → ⊥
 each_is_digit bytes i digits within fails = let range = digit_at bytes i digits within in grind (arith, nat_tests)
 
--- the test of a digit tells its value
+-- the test of a digit gives its value
 pub digit_tested : (b : ℕ) → true ≡ is_ascii_digit b → (digit_value b < 10) × (digit_value b ≡ b - 48)
 digit_tested b e =
     let range : (48 ≤ b) × (b ≤ 57) = (grind (arith, nat_tests), grind (arith, nat_tests)) in

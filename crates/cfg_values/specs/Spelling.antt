@@ -76,7 +76,7 @@ pub record IsCanonicalOf (kind : Kind) (bytes word : List ℕ) : Type 0 where
 abbrev pub IsCanonical : Kind → List ℕ → Type 0
 IsCanonical kind bytes = IsCanonicalOf kind bytes bytes
 
--- why no word is given: they are no spelling of that kind; or they are one, and memory was wanting
+-- why no word is given: they are no spelling of that kind; or they are one, and memory ran out
 abbrev pub IsCause : Kind → List ℕ → ValueFault → Type 0
 IsCause kind bytes (NotOfKind refused) = (refused ≡ kind) × ¬ (IsSpelling kind bytes)
 IsCause kind bytes NoMemory = IsSpelling kind bytes

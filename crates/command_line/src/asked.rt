@@ -7,7 +7,7 @@ pub enum RunMode {
     Init,
     /// Serves sessions over the journal at the place.
     Serve,
-    /// Tells what the journal at the place holds.
+    /// Reports what the journal at the place holds.
     Check,
     /// Makes a configuration of so many interfaces as the place says, and commits it.
     Gen,

@@ -20,7 +20,7 @@ mark Copy = codes "to"
 mark InsertBefore = codes "before"
 mark InsertAfter = codes "after"
 
--- what a change of this kind asks of the words in front of its mark and of those behind it
+-- what a change of this kind asks of the words before its mark and of those after it
 abbrev pub op_of : Mover → List (List ℕ) → List (List ℕ) → Op
 op_of Rename front behind = op.Rename front behind
 op_of Copy front behind = op.Copy front behind

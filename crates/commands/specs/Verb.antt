@@ -1,4 +1,4 @@
--- The changes that are written as a keyword with words behind it.
+-- The changes that are written as a keyword with words after it.
 -- Junos OS CLI User Guide, on set, delete, activate, deactivate, protect and unprotect.
 use Rattle.std.specs.Prelude.{ℕ, List, codes}
 use Rattle.commands.specs.declared.command.Op.{Op}
@@ -15,7 +15,7 @@ keyword Deactivate = codes "deactivate"
 keyword Protect = codes "protect"
 keyword Unprotect = codes "unprotect"
 
--- what a change of this kind asks of the words behind its keyword
+-- what a change of this kind asks of the words after its keyword
 abbrev pub op_of : Verb → List (List ℕ) → Op
 op_of Set words = op.Set words
 op_of Delete words = op.Delete words

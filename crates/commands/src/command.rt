@@ -66,7 +66,7 @@ pub enum Op {
         from: Words,
         to: Words,
     },
-    /// Moves the statement before or behind another one of its row in the user's order.
+    /// Moves the statement before or after another one of its row in the user's order.
     Insert {
         moved: Words,
         before: bool,
@@ -115,7 +115,7 @@ pub enum Command {
     /// Asks whether the candidate keeps the rules that a commit asks of it; where it does, a pending commit is confirmed.
     CheckOnly,
     /// Makes the candidate the active configuration. With minutes the commit is rolled back unless it is confirmed within
-    /// them; an empty comment is none; `quit` leaves configuration mode behind the commit.
+    /// them; an empty comment is none; `quit` leaves configuration mode after the commit.
     Commit {
         minutes: u32,
         comment: Word,

@@ -1,6 +1,6 @@
 //! What a session asks: commands, changes of the candidate, and the words that changes are written with.
 //!
-//! Guarantees: each kind of change that is written as a keyword with words behind it, or with words, a mark and words, has
+//! Guarantees: each kind of change that is written as a keyword with words after it, or with words, a mark and words, has
 //! one keyword, one mark, and one reading of these words.
 //! Leaves to others: which lines ask what (`shell_words`, `set_text`), and what a command does (`config_core`).
 #![tactic(auto)]

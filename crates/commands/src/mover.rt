@@ -38,7 +38,7 @@ impl Mover {
         }
     }
 
-    /// The change of this kind with these words in front of its mark and behind it.
+    /// The change of this kind with these words before its mark and after it.
     pub fn op_of(self, front: Words, behind: Words) -> Op
         ensures { result ≡ op_of self front behind }
     {

@@ -1,4 +1,4 @@
-//! The kinds of changes that are written as a keyword with words behind it.
+//! The kinds of changes that are written as a keyword with words after it.
 
 ghost use Rattle.std.specs.Prelude.{◌≡◌};
 ghost use Rattle.commands.specs.Verb.{keyword, op_of};
@@ -32,7 +32,7 @@ impl Verb {
         }
     }
 
-    /// The change of this kind with these words behind its keyword.
+    /// The change of this kind with these words after its keyword.
     pub fn op_of(self, words: Words) -> Op
         ensures { result ≡ op_of self words }
     {

@@ -156,7 +156,7 @@ module _ (m : Statements) (full : Expansion) where
   fault_is expansion few (Rule number path) first = first_is 1 RULES number path rules_numbered (below_one few) expansion first
   fault_is expansion few NoMemory first = tt
 
--- the first rule and the others, as the pattern `[rule, rules @ ..]` tells them
+-- the first rule and the others, as the pattern `[rule, rules @ ..]` gives them
 first_and_rest : (rules : List CommitRule) → 1 ≤ length rules → rules ≡ slice_index_or rules 0 Width ∷ take (length rules - 1) (drop 1 rules)
 first_and_rest [] some = absurd (omega (arith, some))
 first_and_rest (rule ∷ rules) some =

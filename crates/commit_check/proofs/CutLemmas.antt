@@ -27,7 +27,7 @@ behind_mark mark front back none =
     ∙ ap (λ bs. drop (length front + 1) bs) (sym (append_assoc front (mark ∷ []) back))
     ∙ drop_at (front ++ mark ∷ []) back (length front + 1) (length-append front (mark ∷ []))
 
--- a text with something behind its first mark is cut there
+-- a text with something after its first mark is cut there
 pub cut_there : (mark : ℕ) (text : List ℕ) → 0 < length (after_first (λ b. eqb b mark) text)
     → text ≡ before_first (λ b. eqb b mark) text ++ mark ∷ after_first (λ b. eqb b mark) text
 cut_there mark text some =

@@ -1,4 +1,4 @@
--- What a look-up among entries in the order of their paths tells.
+-- What a look-up among entries in the order of their paths gives.
 use Rattle.std.proofs.Common.{◌≡◌, ◌≢◌, Bool, true, false, cond, T, List, [], ◌∷◌, refl, sym, ap, subst, ◌∙◌, Some, is_some}
 use Rattle.std.specs.Prelude.{IsSome, ◌&&◌}
 use Rattle.std.specs.FinMap.Entries.{find, below_all}

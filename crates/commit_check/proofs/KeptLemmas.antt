@@ -175,7 +175,7 @@ stray_none path none = by_test (is_kept (last_of path).name) refl
     by_test false k =
         by_route (is_route path) ∙ ap (λ b. is_route path && (b && not (eqb (bits_past (network_in (last_of path).name)) 0))) (sym k)
 
--- the test of a route tells that bits past its length aren't all 0
+-- the test of a route decides that bits past its length aren't all 0
 pub stray_told : (path : List Step) → IsTrue (has_stray_bits path) ↔ HasStrayBits path
 stray_told path = (told, tells)
   where

@@ -81,6 +81,6 @@ length_reads n high = elim (cases_lt n 10) [
   | inr large ↦ ap length_of (decimal_two n large (omega arith)) ∙ two_reads n large high
 ]
 
--- what tells no length is not written of one
+-- what gives no length is not written of one
 pub length_missed : (digits : List ℕ) (n : ℕ) → length_of digits ≡ None → n ≤ 32 → digits ≡ decimal n → ⊥
 length_missed digits n none few e = let read = sym none ∙ ap length_of e ∙ length_reads n few in cc

@@ -42,7 +42,7 @@ or_second : (a b : Bool) → b ≡ true → (a || b) ≡ true
 or_second true b e = refl
 or_second false b e = e
 
--- behind an entry that is no address
+-- after an entry that is no address
 passed : (e : Entry) (es : List Entry) (met : List (List ℕ)) (p : List Step) → is_address e.0 ≡ false → RepeatsIn met (e ∷ es) p → RepeatsIn met es p
 passed e es met p none r =
     by_first e es p _ r.there (λ same. absurd (clash _ r.address (ap is_address same ∙ none)))
@@ -66,7 +66,7 @@ unpassed e es met p r = record {
   ];
 }
 
--- behind an address whose numbers are new
+-- after an address whose numbers are new
 noted : (e : Entry) (es : List Entry) (met : List (List ℕ)) (p : List Step) → T (below_all path_cmp e.0 es)
     → lists met (numbers_of e.0) ≡ false → RepeatsIn met (e ∷ es) p → RepeatsIn (numbers_of e.0 ∷ met) es p
 noted e es met p below new r =
@@ -144,7 +144,7 @@ first_repeats (e ∷ es) met p sorted f = by_tests _ _ refl refl f (λ s. first_
     by_tests false b k l g go =
         let m = go _ g in record { repeats = unpassed e es met p m.repeats; least = λ q less r. m.least q less (passed e es met q k r) }
 
--- what is told of an expansion is told of its entries
+-- what is said of an expansion is said of its entries
 module _ (full : Expansion) where
   found : (p : List Step) → IsSome (map.get full p) → IsSome (find path_cmp p (map.entries full))
   found p there = subst (λ (o : Option Given). IsSome o) (map.get-entries full p) there

@@ -53,7 +53,7 @@ never_as rows steps h = by (begin_as rows steps) refl
     by true e = absurd (h (as_many rows steps e))
     by false e = sym e
 
--- a step with the head of a row comes at the row's own step or behind it
+-- a step with the head of a row comes at the row's own step or after it
 at_or_behind : (name : List ℕ) (rest : List Step) → is_le (ordering_then (ordering_then Equal (word_cmp [] name)) (slice_cmp step_cmp [] rest)) ≡ true
 at_or_behind [] [] = refl
 at_or_behind [] (s ∷ ss) = refl

@@ -1,4 +1,4 @@
--- The statements of which the rules speak, told by the words of their steps; rows by their numbers (Rows.antt).
+-- The statements of which the rules speak, known by the words of their steps; rows by their numbers (Rows.antt).
 -- Which statements there are is this project's own selection of those of the Junos OS CLI User Guide.
 use Rattle.std.specs.Prelude.{ℕ, Bool, true, false, ◌&&◌, List, [], ◌∷◌, ◌++◌, is_some}
 use Rattle.std.specs.FinMap as map
@@ -8,7 +8,7 @@ use Rattle.cfg_schema.specs.Profile.{is_step_of, head_of}
 use Rattle.cfg_tree.specs.Tree.{step_of}
 use Rattle.cfg_tree.specs.Full.{Expansion}
 
--- steps are of these rows, one by one, told by the rows' words
+-- steps are of these rows, one by one, known by the rows' words
 abbrev pub begin_as : List ℕ → List Step → Bool
 begin_as [] [] = true
 begin_as (row ∷ rows) (step ∷ steps) = is_step_of row step && begin_as rows steps

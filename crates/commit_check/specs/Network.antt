@@ -33,7 +33,7 @@ pub record HasStrayBits (path : List Step) : Type 0 where
 abbrev pub quad_in : List ℕ → List ℕ
 quad_in name = map (digits_value 10) (slice_split (λ b. b == 46) (before_first (λ b. b == 47) name))
 
--- these, and the number behind the slash
+-- these, and the number after the slash
 abbrev pub network_in : List ℕ → Network
 network_in name = network (quad_in name) (digits_value 10 (after_first (λ b. b == 47) name))
 

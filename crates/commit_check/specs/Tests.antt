@@ -1,4 +1,4 @@
--- What the rules ask of one statement of an expansion: each test tells that the statement breaks its rule. Junos OS CLI User Guide, on the
+-- What the rules ask of one statement of an expansion: each test says that the statement breaks its rule. Junos OS CLI User Guide, on the
 -- statements in question; which rules there are is this project's own.
 use Rattle.std.specs.Prelude.{ℕ, Bool, false, not, ◌&&◌, ◌||◌, List, [], ◌∷◌, ◌++◌, take, codes, Option, Some, None, if◌then◌else◌}
 use Rattle.std.specs.FinMap as map

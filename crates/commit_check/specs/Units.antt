@@ -13,7 +13,7 @@ use Rattle.commit_check.specs.Kinds.{begin_as, named, plain, is_in}
 abbrev pub is_ospf_interface : List Step → Bool
 is_ospf_interface path = begin_as (51 ∷ 64 ∷ 66 ∷ 67 ∷ []) path
 
--- the unit that a name is of: of the interface before its dot, the unit behind it
+-- the unit that a name is of: of the interface before its dot, the unit after it
 abbrev pub unit_of : List ℕ → List Step
 unit_of name = plain 30 ∷ named 31 (before_first (λ b. b == 46) name) ∷ named 36 (after_first (λ b. b == 46) name) ∷ []
 

@@ -24,7 +24,7 @@ fn place(name: &[u8], mark: u8) -> Option<usize>
     name.iter().position(|&byte| byte == mark)
 }
 
-/// What stands before the first mark, which is all where there is none, and what stands behind it.
+/// What stands before the first mark, which is all where there is none, and what stands after it.
 pub fn cut(name: &[u8], mark: u8) -> (&[u8], &[u8])
     ensures before { result.0.now ≡ before_first (λ b. b == mark) name.now }
     ensures after { result.1.now ≡ after_first (λ b. b == mark) name.now }

@@ -102,7 +102,7 @@ pub fn has_stray_bits(path: &Path) -> bool
     }
 }
 
-/// The test of a route tells that its name spells a network in whose address the bits past the length aren't all 0,
+/// The test of a route decides that its name spells a network in whose address the bits past the length aren't all 0,
 /// and a name that is kept spells one network.
 pub fn stray_bits_are_told()
     ensures told { (path : List Step) → IsTrue (has_stray_bits path) ↔ HasStrayBits path }

@@ -45,7 +45,7 @@ pub enum CommitRule {
     TextLength,
 }
 
-/// All rules behind the first one. A rule that is added is a line here, at the place of its number.
+/// All rules after the first one. A rule that is added is a line here, at the place of its number.
 static RULES: [CommitRule; 12] = [
     CommitRule::Groups,
     CommitRule::Each(StatementRule::UserClass),
@@ -61,7 +61,7 @@ static RULES: [CommitRule; 12] = [
     CommitRule::TextLength,
 ];
 
-/// All rules behind the first one.
+/// All rules after the first one.
 pub fn rules() -> &'static [CommitRule]
     ensures { result.now ≡ RULES }
 {

@@ -14,7 +14,7 @@ use Rattle.commit_journal.specs.Pair.{head_a, head_b, magic, file_gate, generati
 use Rattle.commit_journal.specs.Rotation.{IsSpare}
 use Rattle.commit_journal.proofs.FileLemmas.{goes_state}
 
--- the header of A and the open gate behind it
+-- the header of A and the open gate after it
 abbrev pub front_a : List ℕ
 front_a = 0x43 ∷ 0x4f ∷ 0x4e ∷ 0x46 ∷ 0x44 ∷ 0x4a ∷ 0x31 ∷ 0x0a ∷ 0 ∷ 0 ∷ 0 ∷ 0 ∷ 0 ∷ 0 ∷ 0 ∷ 1 ∷ 0 ∷ 1 ∷ []
 

@@ -130,7 +130,7 @@ placed_push : (g : ℕ) (placed : List Placed) (p : Placed) (gate : ℕ) → Pla
 placed_push g [] p gate places at = (at ∙ sym places, ap (λ (n : ℕ). n + 38 + length p.payload) places)
 placed_push g (q ∷ placed) p gate places at = (places.0, placed_push (g + 38 + length q.payload) placed p gate places.1 at)
 
--- and it stands behind those before it
+-- and it stands after those before it
 pub placed_more : (placed placed' : List Placed) (p : Placed) (g gate next : ℕ) → PlacedFrom g placed gate → p.offset ≡ gate → next ≡ gate + 38 + length p.payload → placed' ≡ placed ++ p ∷ []
     → PlacedFrom g placed' next
 placed_more placed placed' p g gate next places at behind more =

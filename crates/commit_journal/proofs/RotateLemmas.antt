@@ -22,7 +22,7 @@ one_byte = 1 ∷ []
 lt_or_ge : (m n : ℕ) → (m < n) ⊎ (n ≤ m)
 lt_or_ge m n = grind arith
 
--- a file with the records of an image behind an open gate
+-- a file with the records of an image after an open gate
 pub image_spells : (d : List ℕ) (bytes : List ℕ) (image : List Record) → All IsSound image → 0 < length image → bytes ≡ gated (bodies image)
     → slice d first_gate (length bytes) ≡ bytes → first_gate + length bytes ≤ length d → Spells d image (16 + length bytes)
 image_spells d bytes [] sound some is there long = absurd (omega arith)
@@ -100,7 +100,7 @@ module _ (o : List ℕ) (number : ℕ) (image : List Record) (next : ℕ) where
             holds2 : contents_of h2 ≡ put 16 zero_byte (contents_of h)
             holds2 = ap (λ (s : DiskState). s.contents) state2
 
-  -- what lies in front of the generation and the gate stay while the rest is written
+  -- what lies before the generation and the gate stay while the rest is written
   record Still (s : DiskState) : Type 0 where
     front : (k : ℕ) → k < 8 → s.pending k ≡ false
     gate : s.pending 16 ≡ false

@@ -19,7 +19,7 @@ use Rattle.commit_journal.proofs.SettleLemmas.{settle_leaves, settle_waits, wait
 use Rattle.commit_journal.proofs.SideLemmas.{side_a, side_b, sides_cause, sides_count, sides_count_b, sides_tell, sides_tell_b}
 use Rattle.commit_journal.proofs.TurnLemmas.{turns_either, turns_settles}
 
--- the list that a settled journal has is the one that it tells
+-- the list that a settled journal has is the one that it reports
 has_settled : (v : JournalView) (rs : List Record) (r : Record) (settled : Settled) → Has v (settled_list rs r settled) → HasSettled v rs r settled
 has_settled v rs r Kept has = has
 has_settled v rs r NotKept has = has

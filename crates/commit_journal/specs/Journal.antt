@@ -50,7 +50,7 @@ IsImageInFlight Nothing = ⊥
 IsImageInFlight (InFlight next) = ⊥
 IsImageInFlight (ImageInFlight next) = Unit {0}
 
--- the gate behind a record at this gate, or the last place for one
+-- the gate after a record at this gate, or the last place for one
 abbrev pub gate_behind : ℕ → Record → ℕ
 gate_behind gate r = min (gate + length (body 0 r)) (2 ^ 62 - 1)
 
@@ -64,7 +64,7 @@ pub record Awaits (v : JournalView) (rs : List Record) (r : Record) : Type 0 whe
   pub flight : v.flight ≡ InFlight (gate_behind v.gate r)
   pub waits : Waits v.b_counts v.counting.history v.other.history v.gate rs r
 
--- the gate behind the records of an image, or the last place for one
+-- the gate after the records of an image, or the last place for one
 abbrev pub image_gate : List Record → ℕ
 image_gate image = min (first_gate + length (bodies image)) (2 ^ 62 - 1)
 
@@ -141,7 +141,7 @@ pub record PairCause (a a' b b' : ℕ) (failed : Type 0) : Type 0 where
   pub later_b : b ≤ b'
   pub rose : failed → Rose a a' ⊎ Rose b b'
 
--- the place of the gate behind what is in flight
+-- the place of the gate after what is in flight
 abbrev pub next_of : Flight → ℕ → ℕ
 next_of Nothing gate = gate
 next_of (InFlight next) gate = next

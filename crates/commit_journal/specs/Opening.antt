@@ -36,7 +36,7 @@ making_b = Write 0 head_b ∷ (Sync true ∷ [])
 abbrev pub making : List ℕ → List Call
 making file = Write 0 file ∷ (Sync true ∷ (Write 16 (1 ∷ []) ∷ (Sync true ∷ [])))
 
--- the calls that make A: its header and its first record behind an open gate
+-- the calls that make A: its header and its first record after an open gate
 abbrev pub making_a : List Record → List Call
 making_a first = making (head_a ++ gated (bodies first))
 
@@ -88,7 +88,7 @@ pub record IsAttached (a b : DiskView) (placed : List Placed) (v : JournalView) 
 
 -- the disks of two files that couldn't be opened, and why not
 pub record IsNotAttached (a b : DiskView) (why : AttachWhy) (a' b' : DiskView) : Type 0 where
-  -- the bytes have the cause that is told
+  -- the bytes have the cause that is reported
   pub explained : IsTrue a.tells → IsTrue b.tells → ExplainsPair (contents_of a.history) (contents_of b.history) why
   -- where a cause holds, a refusal by the bytes is the one of that cause
   pub owed : IsTrue a.tells → IsTrue b.tells → IsOwed (contents_of a.history) (contents_of b.history) why

@@ -20,7 +20,7 @@ pub record IsRotated (v : JournalView) (image : List Record) (v' : JournalView) 
   pub only : (rs : List Record) → Tell v → Has v rs → Only (a_of v') (b_of v') image
   -- nothing is in flight
   pub idle : IsIdle v'
-  -- the next gate is the one behind them
+  -- the next gate is the one after them
   pub gate_is : v'.gate ≡ first_gate + length (bodies image)
   -- the other file counts now, and the one that did wasn't called
   pub choice : v'.b_counts ≡ not v.b_counts

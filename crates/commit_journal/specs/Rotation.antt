@@ -6,14 +6,14 @@ use Rattle.record_code.specs.Record.{Record, IsSound, bodies, gated}
 use Rattle.record_code.specs.Reading.{slice, Agree, Spells, first_gate}
 use Rattle.commit_journal.specs.Pair.{file_gate, generation, IsQuiet, IsSettled, IsChosen}
 
--- the file is the new one: its gate is open, its generation is the one behind that number, and it has these records
+-- the file is the new one: its gate is open, its generation is the one after that number, and it has these records
 pub record IsReplacement (number : ℕ) (image : List Record) (next : ℕ) (d : List ℕ) : Type 0 where
   pub opened : file_gate d ≡ 1
   pub number_is : generation d ≡ (number + 1) % 2 ^ 64
   pub spells : Spells d image next
   pub bound : next < 2 ^ 62
 
--- beside a file that counted, this one is the next: its gate is open, and its generation is the one behind
+-- beside a file that counted, this one is the next: its gate is open, and its generation is the one after
 pub record IsNext (counting d : List ℕ) : Type 0 where
   pub opened : file_gate d ≡ 1
   pub number_is : generation d ≡ (generation counting + 1) % 2 ^ 64
@@ -38,7 +38,7 @@ pub record IsStaged (file gen bytes : List ℕ) (h : History) : Type 0 where
   pub there : slice (contents_of h) first_gate (length bytes) ≡ bytes
   pub whole : first_gate + length bytes ≤ length (contents_of h)
 
--- these bytes are the generation behind that number and the records of an image
+-- these bytes are the generation after that number and the records of an image
 pub record IsImageOf (number : ℕ) (image : List Record) (next : ℕ) (gen bytes : List ℕ) : Type 0 where
   pub sound : All IsSound image
   pub some : 0 < length image

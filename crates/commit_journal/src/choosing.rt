@@ -24,7 +24,7 @@ fn is_new<D: Disk>(disk: &mut D, number: u64) -> Option<bool>
     }
 }
 
-/// Syncs both files, and tells whether the other one is open with this generation.
+/// Syncs both files, and reports whether the other one is open with this generation.
 pub(crate) fn choose_anew<D: Disk>(counting: &mut D, other: &mut D, number: u64) -> Option<bool>
     ensures counting { IsSyncedFile (D.view counting.old) (D.view counting.new) (IsSome result) }
     ensures other { IsSyncedFile (D.view other.old) (D.view other.new) (IsSome result) }

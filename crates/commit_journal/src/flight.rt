@@ -5,14 +5,14 @@ ghost use Rattle.commit_journal.specs.Journal.{next_of};
 #[derive(Clone, Copy, Debug, PartialEq, Eq)]
 pub enum Flight {
     Nothing,
-    /// A record, with the place of the gate behind it.
+    /// A record, with the place of the gate after it.
     Record(u64),
-    /// An image in the file that doesn't count, with the place of the gate behind its records.
+    /// An image in the file that doesn't count, with the place of the gate after its records.
     Image(u64),
 }
 
 impl Flight {
-    /// The place of the gate behind what is in flight.
+    /// The place of the gate after what is in flight.
     pub(crate) fn next_or(self, gate: u64) -> u64
         ensures { result ≡ next_of self gate }
     {

@@ -12,7 +12,7 @@
 //! 2. `attach` syncs each disk once, writes nothing, and reads what the files spell. It refuses files
 //!    exactly for what their bytes are (`IsAttached`: `spelled`, `synced_a`, `synced_b`, `free`;
 //!    `IsNotAttached`: `explained`, `owed`).
-//! 3. `append` writes the record behind the closed gate and syncs, then opens the gate and syncs, and
+//! 3. `append` writes the record after the closed gate and syncs, then opens the gate and syncs, and
 //!    stops at the first call that fails. It calls the file that counts alone (`IsAppended`: `made`;
 //!    `IsAppendFaulted`: `part`; `IsAppendSafe`: `other_is`).
 //! 4. A crash at any moment of an append leaves the old list or the new one; after Ok it leaves the

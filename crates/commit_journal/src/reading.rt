@@ -23,7 +23,7 @@ pub(crate) struct Listed {
     pub(crate) gate: u64,
 }
 
-// The kind and the length of the record behind a gate.
+// The kind and the length of the record after a gate.
 fn read_head<D: Disk>(disk: &mut D, gate: u64) -> Option<[u8; 5]>
     requires { gate < 2 ^ 62 }
     ensures tells { (D.view disk.new).tells ≡ (D.view disk.old).tells }
@@ -46,7 +46,7 @@ fn length_in(head: &[u8; 5]) -> u32
     u32::from_be_bytes([a, b, c, d])
 }
 
-// The length of the payload behind this head; one above the limit is read as none.
+// The length of the payload after this head; one above the limit is read as none.
 fn size_in(head: &[u8; 5]) -> usize
     ensures bound { result ≤ 1049600 }
     ensures size { (file : List ℕ) (gate : ℕ) → head.now ≡ slice file (gate + 1) 5
@@ -88,7 +88,7 @@ fn digest_of_parts(head: &[u8], payload: &[u8]) -> [u8; 32]
     hasher.finalize()
 }
 
-// The record with this head, of the bytes behind it: its payload, which is moved on, and its digest.
+// The record with this head, of the bytes after it: its payload, which is moved on, and its digest.
 fn record_from(gate: u64, head: &[u8; 5], rest: Vec<u8>) -> Result<Placed, AttachWhy>
     requires { 32 ≤ vec_len rest }
     ensures ok { (file : List ℕ) → head.now ≡ slice file (gate + 1) 5
@@ -122,7 +122,7 @@ fn record_from(gate: u64, head: &[u8; 5], rest: Vec<u8>) -> Result<Placed, Attac
     })
 }
 
-// The record behind an open gate, and the place of the gate after it.
+// The record after an open gate, and the place of the gate after it.
 fn read_record<D: Disk>(alloc: Global, disk: &mut D, gate: u64) -> Result<(Placed, u64), AttachWhy>
     requires { gate < 2 ^ 62 }
     ensures tells { (D.view disk.new).tells ≡ (D.view disk.old).tells }

@@ -1,4 +1,4 @@
--- Commits that are read from records one after another, behind others.
+-- Commits that are read from records one after another, after others.
 use Rattle.std.proofs.Common.{◌≡◌, ◌≢◌, ◌≤◌, ◌+◌, ◌-◌, ◌∙◌, inl, inr, ℕ, List, [], ◌∷◌, ◌++◌, length, take, drop, get_or, refl, sym, ap, subst, arith, append_assoc, length-append, ⊎_elim}
 use Rattle.std.proofs.lemmas.List.{append-nil, take_all}
 use Rattle.cfg_tree.specs.Statements.{Statements}
@@ -59,7 +59,7 @@ module _ (P : Statements → Type 0) (records : List Placed) (first : Placed) (i
 pub read_none : (P : Statements → Type 0) (records : List Placed) (commits : List Commit) → records ≡ [] → AreReadBehind P records commits commits
 read_none P records commits is = record { commits = []; are = subst (λ (l : List Placed). AreCommits P l []) (sym is) tt; is = sym (append-nil commits) }
 
--- the commits of records, behind none
+-- the commits of records, after none
 module _ (P : Statements → Type 0) (f : KeepForm) (place : ℕ) (records : List Placed) (before after : List Commit) (none : before ≡ []) (read : AreReadBehind P records before after) where
   whole : after ≡ read.commits
   whole = read.is ∙ ap (λ (l : List Commit). l ++ read.commits) none

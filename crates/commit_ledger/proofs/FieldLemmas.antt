@@ -1,4 +1,4 @@
--- Fields one behind another, each read in one way.
+-- Fields one after another, each read in one way.
 use Rattle.std.proofs.Common.{◌≡◌, ◌<◌, ◌^◌, ℕ, List, [], ◌∷◌, ◌++◌, length, refl, sym, ◌∙◌, ap, arith}
 use Rattle.std.proofs.lemmas.List.{append-nil}
 use Rattle.std.specs.Int.{w32, w64, to_be_bytes, from_be_bytes}
@@ -11,7 +11,7 @@ use Rattle.commit_ledger.specs.declared.entry.Confirm.{Confirm}
 use Rattle.commit_ledger.specs.Rules.{IsCommit, IsConfirm}
 use Rattle.commit_ledger.specs.Payload.{form_of, confirm_form, CommitForm, ConfirmForm, commit_bytes, confirm_bytes, CommitFits, ConfirmFits, short, via_byte}
 
--- two texts of one length, and what stands behind them
+-- two texts of one length, and what stands after them
 pub same_cut : (xs ys r s : List ℕ) → length xs ≡ length ys → xs ++ r ≡ ys ++ s → (xs ≡ ys) × (r ≡ s)
 same_cut [] [] r s size is = (refl, is)
 same_cut [] (y ∷ ys) r s size is = absurd (omega (arith, size))
@@ -37,7 +37,7 @@ behind_32 m n r s is = (same_cut (to_be_bytes w32 m) (to_be_bytes w32 n) r s ref
 behind_one : (x y : ℕ) (r s : List ℕ) → x ∷ r ≡ y ∷ s → r ≡ s
 behind_one x y r s is = cc
 
--- what stands behind the four numbers
+-- what stands after the four numbers
 pub user_left : (bytes r1 r2 r3 r4 : List ℕ) (number moment minutes : ℕ) (via : Via) (f : CommitForm) → bytes ≡ to_be_bytes w64 number ++ r1 → r1 ≡ to_be_bytes w64 moment ++ r2 → r2 ≡ via_byte via ∷ r3
     → r3 ≡ to_be_bytes w32 minutes ++ r4 → bytes ≡ commit_bytes f → r4 ≡ short f.user ++ (short f.comment ++ (to_be_bytes w32 (length f.text) ++ f.text))
 user_left bytes r1 r2 r3 r4 number moment minutes via f e1 e2 e3 e4 is =

@@ -21,7 +21,7 @@ AreRising [] = Unit {0}
 AreRising (c ∷ []) = Unit {0}
 AreRising (c ∷ (d ∷ commits)) = (c.number < d.number) × ((c.moment ≤ d.moment) × AreRising (d ∷ commits))
 
--- a list that grew: the commits that are kept, behind others of which one may be what a run goes back to
+-- a list that grew: the commits that are kept, after others of which one may be what a run goes back to
 pub record IsGrown (accepted : Statements → Type 0) (kept : Kept) : Type 0 where
   pub early : List Commit
   pub each : AllByRecursion (IsCommit accepted) (early ++ commits_of kept)
@@ -40,7 +40,7 @@ below m n told = grind (arith, nat_tests)
 pub not_below : (m n : ℕ) → nat_lt m n ≡ false → n ≤ m
 not_below m n told = grind (arith, nat_tests)
 
--- commits behind others
+-- commits after others
 rising_push : (xs : List Commit) (l c : Commit) → AreRising (xs ++ l ∷ []) → l.number < c.number → l.moment ≤ c.moment → AreRising ((xs ++ l ∷ []) ++ c ∷ [])
 rising_push [] l c r number moment = (number, (moment, tt))
 rising_push (x ∷ []) l c r number moment = (r.0, (r.1.0, rising_push [] l c r.1.1 number moment))
@@ -93,7 +93,7 @@ pub among_back : (c : Commit) (xs ys : List Commit) → IsAmong c ys → IsAmong
 among_back c [] ys is = is
 among_back c (x ∷ xs) ys is = inr (among_back c xs ys is)
 
--- one commit in a rising row, and another one behind it
+-- one commit in a rising row, and another one after it
 before_in : (x : Commit) (xs : List Commit) (y : Commit) (ys : List Commit) → AreRising (x ∷ (xs ++ y ∷ ys)) → (x.number < y.number) × (x.moment ≤ y.moment)
 before_in x [] y ys r = (r.0, r.1.0)
 before_in x (z ∷ xs) y ys r = let later = before_in z xs y ys r.1.1 in (omega (arith, r.0, later.0), omega (arith, r.1.0, later.1))
@@ -108,7 +108,7 @@ earlier_in [] y ys c r is low = ⊎_elim (λ same. absurd (let e = ap (λ (d : C
 earlier_in (x ∷ xs) y ys c r is low =
     ⊎_elim (λ same. let e = ap (λ (d : Commit). d.moment) same in omega (arith, (before_in x xs y ys r).1, e)) (λ rest. earlier_in xs y ys c (rising_tail x (xs ++ y ∷ ys) r) rest low) is
 
--- and one of no lower number stands there or behind it
+-- and one of no lower number stands there or after it
 later_in : (xs : List Commit) (y : Commit) (ys : List Commit) (c : Commit) → AreRising (xs ++ y ∷ ys) → IsAmong c (xs ++ y ∷ ys) → y.number ≤ c.number → IsAmong c (y ∷ ys)
 later_in [] y ys c r is high = is
 later_in (x ∷ xs) y ys c r is high =

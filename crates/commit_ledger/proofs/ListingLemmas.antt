@@ -45,7 +45,7 @@ one_list (commit ∷ newer) s t one other =
 pub one_listing : (kept : Kept) (s t : List ℕ) → IsListing kept s → IsListing kept t → s ≡ t
 one_listing kept s t one other = one_list (kept.older ++ kept.last ∷ []) s t one other
 
--- a rollback number, a date and what stands behind it are a commit's lines
+-- a rollback number, a date and what stands after it are a commit's lines
 pub line_is_added : (n : ℕ) (commit : Commit) (before placed dated after : List ℕ) → placed ≡ before ++ in_four_places n → Adds (IsDateOf commit.moment) placed dated → after ≡ dated ++ line_end commit
     → Adds (AreLinesOf n commit) before after
 line_is_added n commit before placed dated after place date end = record {
@@ -61,7 +61,7 @@ line_is_added n commit before placed dated after place date end = record {
 pub lists_last : (last : Commit) (text : List ℕ) → Adds (AreLinesOf 0 last) [] text → Lists (last ∷ []) text
 lists_last last text adds = ([], adds.added, refl, adds.is, adds.at_end)
 
--- the lines of the commit before those that are listed stand behind theirs
+-- the lines of the commit before those that are listed stand after theirs
 lists_one : (commit : Commit) (newer : List Commit) (n : ℕ) (before after : List ℕ) → n ≡ length newer → Lists newer before → Adds (AreLinesOf n commit) before after → Lists (commit ∷ newer) after
 lists_one commit newer n before after place lists adds =
     (before, adds.added, lists, subst (λ k. AreLinesOf k commit adds.added) place adds.is, adds.at_end)
@@ -92,7 +92,7 @@ lists_more k n commits last commit before after within is number lists adds =
         let left : length (drop (length commits - k) commits) ≡ length commits - (length commits - k) = length-drop (length commits - k) commits in
         number ∙ sym (length-append (drop (length commits - k) commits) (last ∷ []) ∙ omega (arith, left, within))
 
--- three pieces one behind another
+-- three pieces one after another
 pub three : (t t1 t2 t3 a b c : List ℕ) → t1 ≡ t ++ a → t2 ≡ t1 ++ b → t3 ≡ t2 ++ c → t3 ≡ t ++ (a ++ (b ++ c))
 three t t1 t2 t3 a b c first second third =
     third ∙ ap (λ l. l ++ c) (second ∙ ap (λ l. l ++ b) first ∙ append_assoc t a b) ∙ append_assoc t (a ++ b) c

@@ -23,7 +23,7 @@ use Rattle.commit_ledger.proofs.BadLemmas.{bad_not_begun, one_bad_checkpoint, op
 use Rattle.commit_ledger.proofs.GrownLemmas.{IsGrown, all_among, all_back, among_back, entry_grows, opened_is_grown, restored_is_grown, agreeing_is_grown, checkpoint_is_read, is_restorable, reads_agree}
 use Rattle.commit_ledger.proofs.RestoreLemmas.{one_restored, same_size}
 
--- one more entry that may come next is read behind the others
+-- one more entry that may come next is read after the others
 pub appended_is_read : (P : Statements → Type 0) (rs : List Record) (kept : Kept) (entry : Entry) → ReadsAs P rs kept → IsEntry P entry → Follows kept entry → ReadsAs P (rs ++ entry_record entry ∷ []) (append_entry kept entry)
 appended_is_read P rs kept entry reads is follows = record {
   front = reads.front;
@@ -83,7 +83,7 @@ each_short P (c ∷ commits) each = (each.0.text, each_short P commits each.1)
 pub texts_are_short : (P : Statements → Type 0) (rs : List Record) (one kept : Kept) → ReadsAs P rs one → Agrees one kept → HaveShortTexts (listed kept)
 texts_are_short P rs one kept reads agrees = each_short P (listed kept) (is_restorable P kept (agreeing_is_grown P one kept agrees (reads_grown P rs one reads))).each
 
--- two rows of one length, and what stands behind them
+-- two rows of one length, and what stands after them
 same_rows : (xs ys r s : List Record) → length xs ≡ length ys → xs ++ r ≡ ys ++ s → (xs ≡ ys) × (r ≡ s)
 same_rows [] [] r s size is = (refl, is)
 same_rows [] (y ∷ ys) r s size is = absurd (omega (arith, size))
@@ -183,7 +183,7 @@ badly_not_begun P p ps offset front rest kept (inr bad) cut (inr restores) =
 records_append : (ps qs : List Placed) → records_of (ps ++ qs) ≡ records_of ps ++ records_of qs
 records_append ps qs = map-append record_of ps qs
 
--- nor those of which one behind their beginning breaks a rule
+-- nor those of which one after their beginning breaks a rule
 not_behind : (P : Statements → Type 0) (placed : List Placed) (offset : ℕ) (m : Kept) → IsBadBehind P placed offset → ReadsAs P (records_of placed) m → ⊥
 not_behind P placed offset m bad reads =
     let begun = bad.begun in
@@ -267,7 +267,7 @@ one_unread P (p ∷ ps) m n (inl one) (inr two) = absurd (not_begun P p ps m n o
 one_unread P (p ∷ ps) m n (inr one) (inl two) = absurd (not_begun P p ps n m two one)
 one_unread P (p ∷ ps) m n (inr one) (inr two) = one_behind P (p ∷ ps) m n one two
 
--- how a journal's records are begun, and read behind that
+-- how a journal's records are begun, and read after that
 pub begun_alone : (P : Statements → Type 0) (p : Placed) (ps : List Placed) (kept : Kept) → Opens P (record_of p) kept → IsBegun P (p ∷ ps) kept ps
 begun_alone P p ps kept opens = record { front = p ∷ []; cut = refl; begins = inl (record_of p, refl, opens) }
 

@@ -70,7 +70,7 @@ one_opening P r m n one other =
 pub one_more : (P : Statements → Type 0) (k : Kept) (r : Record) (m n : Kept) → GoesOn P k r m → GoesOn P k r n → m ≡ n
 one_more P k r m n x y = x.is ∙ ap (append_entry k) (one_entry P r x.entry y.entry x.is_record y.is_record) ∙ sym y.is
 
--- one more record is read behind others
+-- one more record is read after others
 pub goes_push : (P : Statements → Type 0) (k : Kept) (rs : List Record) (m : Kept) (r : Record) (n : Kept) → GoesThrough P k rs m → GoesOn P m r n → GoesThrough P k (rs ++ r ∷ []) n
 goes_push P k [] m r n so_far goes = (n, subst (λ x. GoesOn P x r n) (sym so_far) goes, refl)
 goes_push P k (q ∷ rs) m r n so_far goes = (so_far.0, so_far.1, goes_push P so_far.0 rs m r n so_far.2 goes)

@@ -47,7 +47,7 @@ one_list P (x ∷ xs) (y ∷ ys) each other is =
     let same : x ≡ y = entry_commit x y (one_entry P (commit_record x) (CommitOf x) (CommitOf y) (record { is = refl; is_entry = each.0 }) (record { is = head; is_entry = other.0 })) in
     ap (λ (l : List Commit). x ∷ l) (one_list P xs ys each.1 other.1 tail) ∙ ap (λ (c : Commit). c ∷ ys) same
 
--- a row with one commit in front or none
+-- a row with one commit before the others or none
 same_ends : (fs gs xs ys : List Commit) → length fs ≤ 1 → length gs ≤ 1 → (length fs ≡ 1 → length xs ≡ 50) → (length gs ≡ 1 → length ys ≡ 50) → length xs ≤ 50 → length ys ≤ 50
     → fs ++ xs ≡ gs ++ ys → xs ≡ ys
 same_ends [] [] xs ys a b p q few other is = is
@@ -151,7 +151,7 @@ module _ (P : Statements → Type 0) (rs : List Record) (one other : Kept) (firs
 pub number_32 : (m n : ℕ) → m < 2 ^ 32 → n < 2 ^ 32 → to_be_bytes w32 m ≡ to_be_bytes w32 n → m ≡ n
 number_32 m n lm ln is = sym (from_be_bytes-to_be_bytes_4 m lm) ∙ ap (from_be_bytes w32) is ∙ from_be_bytes-to_be_bytes_4 n ln
 
--- a Keep tells how many commits follow it
+-- a Keep states how many commits follow it
 pub same_size : (P : Statements → Type 0) (k l : Kept) → IsRestorable P k → IsRestorable P l → keep_record (keep_form k) ≡ keep_record (keep_form l) → length (listed k) ≡ length (listed l)
 same_size P k l one other is =
     let payload : keep_bytes (keep_form k) ≡ keep_bytes (keep_form l) = ap (λ (r : Record). r.payload) is in

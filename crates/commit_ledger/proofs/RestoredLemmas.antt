@@ -11,7 +11,7 @@ use Rattle.commit_ledger.specs.Restored.{IsRestored, IsApart}
 use Rattle.commit_ledger.proofs.GrownLemmas.{below, not_below, among_back, among_front, oldest}
 use Rattle.commit_ledger.proofs.RestoreLemmas.{one_end}
 
--- two rows of commits, each with one in front or none
+-- two rows of commits, each with one before the others or none
 record SameParts (fs gs xs ys : List Commit) : Type 0 where
   far : fs ≡ gs
   kept : xs ≡ ys
@@ -111,7 +111,7 @@ module _ (f : KeepForm) (far older : List Commit) (last : Commit) (apart : IsApa
     pub waits : (run : Unconfirmed) → kept.pending ≡ Some run → last.minutes ≢ 0
     waits run is none = (run_at run is).waits (ap (λ (c : Commit). c.minutes) ends.1 ∙ none)
 
-    -- without a commit in front the target is one of those before the last
+    -- without a commit before the others the target is one of those before the last
     pub near : far ≡ [] → (run : Unconfirmed) → kept.pending ≡ Some run → IsAmong run.target older × (run.target.number ≡ f.target)
     near none run is = (
       not_last older last run.target (subst (λ (l : List Commit). IsAmong run.target (l ++ (older ++ last ∷ []))) none (run_at run is).among)
@@ -119,7 +119,7 @@ module _ (f : KeepForm) (far older : List Commit) (last : Commit) (apart : IsApa
       target_at run is,
     )
 
-    -- with one in front that is the target
+    -- with one before the others that is the target
     pub far_is : (t : Commit) → far ≡ t ∷ [] → (run : Unconfirmed) × (kept.pending ≡ Some run) × (run.target ≡ t) × (t.number < first_of older last.number)
     far_is t is = by kept.pending refl
       where

@@ -30,7 +30,7 @@ time_text t = two t.time.hour ++ (codes ":" ++ (two t.time.minute ++ (codes ":" 
 abbrev pub date_text : DateTime → List ℕ
 date_text t = day_text t ++ (codes " " ++ time_text t)
 
--- a number, and blanks behind it up to four places
+-- a number, and blanks after it up to four places
 abbrev pub in_four_places : ℕ → List ℕ
 in_four_places n = decimal n ++ replicate (4 - length (decimal n)) 32
 
@@ -38,7 +38,7 @@ abbrev pub via_text : Via → List ℕ
 via_text Cli = codes " via cli"
 via_text Other = codes " via other"
 
--- of a commit that wanted a confirmation, within how many minutes
+-- of a commit that needed a confirmation, within how many minutes
 abbrev pub confirmed_text : ℕ → List ℕ
 confirmed_text minutes =
     if minutes == 0 then [] else codes " commit confirmed, rollback in " ++ (decimal minutes ++ codes " mins")
@@ -48,11 +48,11 @@ abbrev pub comment_text : List ℕ → List ℕ
 comment_text [] = []
 comment_text (byte ∷ bytes) = codes "    " ++ (byte ∷ bytes ++ codes "\n")
 
--- what stands behind the way in which it came
+-- what stands after the way in which it came
 abbrev pub line_rest : Commit → List ℕ
 line_rest commit = confirmed_text commit.minutes ++ (codes "\n" ++ comment_text commit.comment)
 
--- what stands behind the date: who made the commit and how, and its comment
+-- what stands after the date: who made the commit and how, and its comment
 abbrev pub line_end : Commit → List ℕ
 line_end commit = codes " UTC by " ++ (commit.user ++ (via_text commit.via ++ line_rest commit))
 
@@ -68,7 +68,7 @@ pub record AreLinesOf (n : ℕ) (commit : Commit) (text : List ℕ) : Type 0 whe
   pub is_date : IsDateOf commit.moment date
   pub is : text ≡ in_four_places n ++ (date ++ line_end commit)
 
--- such a text stands behind what was there
+-- such a text stands after what was there
 pub record Adds (Is : List ℕ → Type 0) (before : List ℕ) (after : List ℕ) : Type 0 where
   pub added : List ℕ
   pub is : Is added

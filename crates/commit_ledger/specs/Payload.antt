@@ -49,7 +49,7 @@ abbrev pub via_byte : Via → ℕ
 via_byte Cli = 0
 via_byte Other = 1
 
--- bytes behind their number, in one byte and in four
+-- bytes after their number, in one byte and in four
 abbrev pub short : List ℕ → List ℕ
 short bytes = length bytes ∷ bytes
 

@@ -38,7 +38,7 @@ pub record GoesOn (accepted : Statements → Type 0) (kept : Kept) (r : Record) 
   pub follows : Follows kept entry
   pub is : next ≡ append_entry kept entry
 
--- further records are read behind a value
+-- further records are read after a value
 abbrev pub GoesThrough : (Statements → Type 0) → Kept → List Record → Kept → Type 0
 GoesThrough accepted kept [] last = kept ≡ last
 GoesThrough accepted kept (r ∷ rs) last = (next : Kept) × GoesOn accepted kept r next × GoesThrough accepted next rs last
@@ -69,13 +69,13 @@ BeginsBadly accepted p behind offset =
     ((p.kind ≡ 3) × IsBadCheckpoint accepted p behind offset)
     ⊎ ((p.kind ≢ 3) × (offset ≡ p.offset) × ((kept : Kept) → Opens accepted (record_of p) kept → ⊥))
 
--- a list begins with some of these records, and the others stand behind them
+-- a list begins with some of these records, and the others stand after them
 pub record IsBegun (accepted : Statements → Type 0) (placed : List Placed) (kept : Kept) (rest : List Placed) : Type 0 where
   pub front : List Placed
   pub cut : placed ≡ front ++ rest
   pub begins : Begins accepted (records_of front) kept
 
--- a list begins with these records, and one behind them breaks a rule
+-- a list begins with these records, and one after them breaks a rule
 pub record IsBadBehind (accepted : Statements → Type 0) (placed : List Placed) (offset : ℕ) : Type 0 where
   pub first : Kept
   pub rest : List Placed

@@ -47,7 +47,7 @@ pub record IsReadKeep (accepted : Statements → Type 0) (f : KeepForm) (ps : Li
   pub are : AreCommits accepted ps commits
   pub restored : IsRestored f commits kept
 
--- or one of them isn't of a commit, or they break a rule together, which is told by the Keep's place
+-- or one of them isn't of a commit, or they break a rule together, which is reported at the Keep's place
 abbrev pub IsBadKeep : (Statements → Type 0) → KeepForm → ℕ → List Placed → ℕ → Type 0
 IsBadKeep accepted f place ps offset =
     IsBadCommit accepted ps offset

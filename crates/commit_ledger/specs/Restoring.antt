@@ -20,7 +20,7 @@ pub record HasRightNumbers (f : KeepForm) : Type 0 where
   pub run : f.target ≢ 0 → f.count ≤ MAX_ENTRIES
   pub fits : f.target < 2 ^ 64
 
--- so many records stand behind it, and each is of the kind of a commit
+-- so many records stand after it, and each is of the kind of a commit
 pub record AreBehind (f : KeepForm) (behind : List Placed) : Type 0 where
   pub follow : f.commits ≤ length behind
   pub kinds : AllByRecursion (λ (p : Placed). p.kind ≡ 1) (take f.commits behind)
@@ -58,7 +58,7 @@ IsBadCheckpoint accepted p behind offset =
     ⊎ ((cs : List Commit) × AreCommits accepted (take f.commits behind) cs × (offset ≡ p.offset)
     × ((kept : Kept) → Restores accepted (keep_record f ∷ map commit_record cs) kept → ⊥))))
 
--- the commit of a record stands behind others, and those of several
+-- the commit of a record stands after others, and those of several
 pub record IsReadBehind (accepted : Statements → Type 0) (p : Placed) (before after : List Commit) : Type 0 where
   pub commit : Commit
   pub is_record : IsRecordOf accepted (record_of p) (CommitOf commit)

@@ -1,4 +1,4 @@
--- What an entry of the list keeps to: its own fields, and its place behind the entries before it.
+-- What an entry of the list keeps to: its own fields, and its place after the entries before it.
 -- The ranges are this project's own.
 use Rattle.std.specs.Prelude.{ℕ, ◌≡◌, ◌≤◌, ◌<◌, ◌+◌, ◌^◌, length, IsSome}
 use Rattle.cfg_base.specs.declared.moment.TheConstants.{MOMENT_MAX}

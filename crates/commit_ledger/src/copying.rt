@@ -8,7 +8,7 @@ use crate::ledger::{Ledger, ROOM, Run};
 use cfg_base::NoMemory;
 use std::alloc::Global;
 
-/// Puts copies of commits behind others.
+/// Puts copies of commits after others.
 fn copy_behind(commits: &[Commit], copies: &mut Vec<Commit>) -> Result<(), NoMemory>
     requires { length copies.old.items + length commits.now ≤ vec_capacity copies.old }
     ensures ok { OnOk result (copies.new.items ≡ copies.old.items ++ commits.now) }

@@ -1,4 +1,4 @@
-//! The fields of a payload, each with what stands behind it.
+//! The fields of a payload, each with what stands after it.
 
 ghost use Rattle.std.specs.Prelude.{◌≡◌, ◌≢◌, ◌<◌, ◌^◌, ◌++◌, ◌∷◌, ◌↔◌, List, ℕ, length, IfSome, IsNone};
 ghost use Rattle.std.specs.Int.{w32, w64, to_be_bytes};
@@ -6,7 +6,7 @@ ghost use Rattle.commit_ledger.specs.Payload.{short, via_byte};
 
 use crate::entry::Via;
 
-/// Eight bytes as a number, and what stands behind them.
+/// Eight bytes as a number, and what stands after them.
 pub(crate) fn take_u64(bytes: &[u8]) -> Option<(u64, &[u8])>
     ensures some { IfSome result (λ read. bytes.now ≡ to_be_bytes w64 read.0 ++ read.1.now) }
     ensures none { IsNone result ↔ length bytes.now < 8 }
@@ -20,7 +20,7 @@ pub(crate) fn take_u64(bytes: &[u8]) -> Option<(u64, &[u8])>
     Some((u64::from_be_bytes(array), rest))
 }
 
-/// Four bytes as a number, and what stands behind them.
+/// Four bytes as a number, and what stands after them.
 pub(crate) fn take_u32(bytes: &[u8]) -> Option<(u32, &[u8])>
     ensures some { IfSome result (λ read. bytes.now ≡ to_be_bytes w32 read.0 ++ read.1.now) }
     ensures none { IsNone result ↔ length bytes.now < 4 }
@@ -34,7 +34,7 @@ pub(crate) fn take_u32(bytes: &[u8]) -> Option<(u32, &[u8])>
     Some((u32::from_be_bytes(array), rest))
 }
 
-/// How a commit came, and what stands behind it.
+/// How a commit came, and what stands after it.
 pub(crate) fn take_via(bytes: &[u8]) -> Option<(Via, &[u8])>
     ensures some { IfSome result (λ read. bytes.now ≡ via_byte read.0 ∷ read.1.now) }
     ensures none { IsNone result → (via : Via) → (rest : List ℕ) → bytes.now ≢ via_byte via ∷ rest }
@@ -46,7 +46,7 @@ pub(crate) fn take_via(bytes: &[u8]) -> Option<(Via, &[u8])>
     }
 }
 
-/// A text behind its length in one byte.
+/// A text after its length in one byte.
 pub(crate) fn take_short(bytes: &[u8]) -> Option<(&[u8], &[u8])>
     ensures some { IfSome result (λ read. bytes.now ≡ short read.0.now ++ read.1.now) }
     ensures bound { IfSome result (λ read. length read.0.now < 2 ^ 8) }
@@ -60,7 +60,7 @@ pub(crate) fn take_short(bytes: &[u8]) -> Option<(&[u8], &[u8])>
     Some(rest.split_at(size))
 }
 
-/// A text behind its length in four bytes, and nothing behind it.
+/// A text after its length in four bytes, and nothing after it.
 pub(crate) fn whole_text(bytes: &[u8]) -> Option<&[u8]>
     ensures some { IfSome result (λ text. bytes.now ≡ to_be_bytes w32 (length text.now) ++ text.now) }
     ensures bound { IfSome result (λ text. length text.now < 2 ^ 32) }

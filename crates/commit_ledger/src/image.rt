@@ -34,7 +34,7 @@ fn keep_payload(alloc: Global, keep: &KeepRead) -> Result<Bytes, NoMemory>
     Ok(Bytes::from(bytes))
 }
 
-/// Puts the record of a commit behind others.
+/// Puts the record of a commit after others.
 fn with_commit(alloc: Global, image: Encoded, commit: &Commit) -> Result<Encoded, NoMemory>
     requires { HasShortText (CommitOf commit.now) }
     ensures { IfOk result (λ e. e ≡ image ++ commit_record commit.now ∷ []) }
@@ -43,7 +43,7 @@ fn with_commit(alloc: Global, image: Encoded, commit: &Commit) -> Result<Encoded
     image.with(COMMIT, &payload)
 }
 
-/// Puts the records of commits behind others, one after another.
+/// Puts the records of commits after others, one after another.
 fn with_commits(alloc: Global, image: Encoded, commits: &[Commit]) -> Result<Encoded, NoMemory>
     requires { HaveShortTexts commits.now }
     ensures { IfOk result (λ e. e ≡ image ++ map commit_record commits.now) }
@@ -102,7 +102,7 @@ impl Ledger {
         }
     }
 
-    /// Puts the record of that target behind others.
+    /// Puts the record of that target after others.
     fn with_far_target(&self, alloc: Global, image: Encoded) -> Result<Encoded, NoMemory>
         requires { HaveShortTexts (listed self.now) }
         ensures { IfOk result (λ e. e ≡ image ++ map commit_record (far_target (first_number self.now) self.now.pending)) }

@@ -45,7 +45,7 @@ pub fn kept_maps_stay_accepted<J: LedgerCheck>(judge: &J)
 }
 
 /// Records are of one entry each and are read as one value, or aren't read for one of them, and not both; each map that is kept of
-/// them is accepted. Where they are read, one more entry that keeps to its ranges and may come next is read behind them.
+/// them is accepted. Where they are read, one more entry that keeps to its ranges and may come next is read after them.
 pub fn records_have_one_reading<J: LedgerCheck>(judge: &J)
     ensures one_entry { (r : Record) (one two : Entry) → IsRecordOf (J.accepted judge.now) r one
         → IsRecordOf (J.accepted judge.now) r two → one ≡ two }

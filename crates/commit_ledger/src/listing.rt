@@ -49,7 +49,7 @@ fn push_comment(text: &mut Vec<u8>, comment: &[u8]) -> Result<(), NoMemory>
     push_bytes(text, b"\n")
 }
 
-// What stands behind the way in which a commit came.
+// What stands after the way in which a commit came.
 fn push_rest(text: &mut Vec<u8>, commit: &Commit) -> Result<(), NoMemory>
     ensures { OnOk result (text.new.items ≡ text.old.items ++ line_rest commit.now) }
 {

@@ -89,7 +89,7 @@ fn open<J: LedgerCheck>(alloc: Global, placed: &Placed, judge: &J) -> Result<Led
     Ok(opened(alloc, commit)?)
 }
 
-/// The ledger that records begin with, and the records behind those.
+/// The ledger that records begin with, and the records after those.
 fn begin<'a, J: LedgerCheck>(
     alloc: Global,
     first: &Placed,
@@ -109,7 +109,7 @@ fn begin<'a, J: LedgerCheck>(
     }
 }
 
-/// The ledger of a first record and those behind it.
+/// The ledger of a first record and those after it.
 fn of_records<J: LedgerCheck>(
     alloc: Global,
     first: &Placed,

@@ -78,7 +78,7 @@ fn has_right_numbers(keep: KeepRead) -> bool
         && (keep.target == 0 || keep.count <= MAX_ENTRIES)
 }
 
-/// The records of so many commits, where they stand right behind a checkpoint's first record.
+/// The records of so many commits, where they stand right after a checkpoint's first record.
 fn commits_behind(keep: KeepRead, behind: &[Placed]) -> bool
     ensures { IsTrue result ↔ AreBehind (keep_read keep) behind.now }
 {
@@ -86,14 +86,14 @@ fn commits_behind(keep: KeepRead, behind: &[Placed]) -> bool
     commits <= behind.len() && are_commits(&behind[..commits])
 }
 
-/// Whether a checkpoint's first record keeps to its own rules, and so many commits' records stand behind it.
+/// Whether a checkpoint's first record keeps to its own rules, and so many commits' records stand after it.
 pub(crate) fn is_keep(keep: KeepRead, behind: &[Placed]) -> bool
     ensures { IsTrue result ↔ IsKeep (keep_read keep) behind.now }
 {
     has_right_numbers(keep) && commits_behind(keep, behind)
 }
 
-/// Puts the commit of a record behind others.
+/// Puts the commit of a record after others.
 fn push_commit<J: LedgerCheck>(
     alloc: Global,
     placed: &Placed,
@@ -117,7 +117,7 @@ fn push_commit<J: LedgerCheck>(
     Ok(())
 }
 
-/// Puts the commits of records behind others, up to the first record that is of none.
+/// Puts the commits of records after others, up to the first record that is of none.
 pub(crate) fn read_commits<J: LedgerCheck>(
     alloc: Global,
     records: &[Placed],
@@ -371,7 +371,7 @@ fn of_keep<J: LedgerCheck>(
     }
 }
 
-/// The ledger of a checkpoint, and the records behind it.
+/// The ledger of a checkpoint, and the records after it.
 pub(crate) fn restore<'a, J: LedgerCheck>(
     alloc: Global,
     placed: &Placed,

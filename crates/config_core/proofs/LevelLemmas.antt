@@ -42,7 +42,7 @@ alone level remembered is_level none =
 pub top_alone : (level : List Step) (remembered : List (List Step)) → level ≡ [] → remembered ≡ [] → AreLevels (record { level = level; remembered = remembered })
 top_alone level remembered e none = alone level remembered (top_is_level level e) none
 
--- of a path that follows rows it is told whether it is a level
+-- of a path that follows rows it is stated whether it is a level
 pub level_told : (path : List Step) → IsTypedPath path → (is_level_at path ≡ true) ↔ IsLevelPath path
 level_told path typed =
     let there = typed_place path top_place typed in (

@@ -45,13 +45,13 @@ fresh_in (ConfirmOf confirm) = None
 abbrev pub followed : CandidateView → CandidateView → CandidateView
 followed shared new = if shared.modified then shared else new
 
--- the shared candidate behind an entry: it follows a commit, and the candidate that a caller commits is the commit's
+-- the shared candidate after an entry: it follows a commit, and the candidate that a caller commits is the commit's
 abbrev pub shared_after : State → Option ℕ → Option CandidateView → CandidateView
 shared_after s maker None = s.shared
 shared_after s None (Some new) = followed s.shared new
 shared_after s (Some caller) (Some new) = shared_with (own_of s caller) (followed s.shared new) new
 
--- the private sessions' own candidates behind an entry: but for that which its caller commits they stay as they are
+-- the private sessions' own candidates after an entry: but for that which its caller commits they stay as they are
 abbrev pub own_after : State → Option ℕ → Option CandidateView → List (Option CandidateView)
 own_after s maker None = s.own
 own_after s None (Some new) = s.own

@@ -105,7 +105,7 @@ pub record IsPrepared (s : State) (caller moment : ℕ) (event : Event) (plan : 
   pub follows : Follows plan s
   pub steps : (outcome : Outcome) → CanEnd (waiting_of s moment) event (made_in plan.effect) outcome → Steps s caller moment event outcome (ended plan outcome s)
 
--- what comes before the next command, as it is told
+-- what comes before the next command, as it is reported
 abbrev pub need_in : Waiting → Need
 need_in (InFlight made) = need.Settle
 need_in Missed = need.Revert
@@ -136,7 +136,7 @@ abbrev pub committed_by : State → Option ℕ → CandidateView → State
 committed_by s None new = s
 committed_by s (Some caller) new = with_candidate s caller new
 
--- the candidates behind an entry
+-- the candidates after an entry
 abbrev pub with_new : State → Option ℕ → Option CandidateView → State
 with_new s maker new = record s { shared = shared_after s maker new; own = own_after s maker new }
 

@@ -150,7 +150,7 @@ pub record BreaksRule (s : State) (m : Statements) (turned : Turned) : Type 0 wh
   pub first : IsFirst m number path
   pub is : turned ≡ refused s (Check number path)
 
--- a configuration is checked: where it is accepted this comes of it
+-- a configuration is checked: where it is accepted this results from it
 abbrev pub Checks : State → Statements → Turned → Turned → Type 0
 Checks s m turned accepted = (Accepts m × (turned ≡ accepted)) ⊎ BreaksRule s m turned
 
@@ -165,7 +165,7 @@ abbrev pub ChecksWhole : State → Option CandidateView → Turned → (Statemen
 ChecksWhole s None turned accepted = Checks s s.shared.map turned (accepted s.shared.map)
 ChecksWhole s (Some own) turned accepted = ChecksMerged s own turned accepted ⊎ IsNotMerged s own turned
 
--- with `and-quit` the caller leaves the mode; behind its commit nothing is left to discard
+-- with `and-quit` the caller leaves the mode; after its commit nothing is left to discard
 abbrev pub left_if : Bool → ℕ → State → State
 left_if quit caller s = if quit then out_of_mode s caller else s
 

@@ -87,7 +87,7 @@ pub record NamesOne {A : Type 0} (answer_of : Target → A) (level : List Step) 
   pub names : ResolvesTo level asked (Ok target)
   pub is : answer ≡ answer_of target
 
--- the path of a statement that words name; words behind it are refused
+-- the path of a statement that words name; words after it are refused
 abbrev pub path_alone : Target → Result (List Step) Refusal
 path_alone target = if length target.words == 0 then Ok target.path else Err (refuse.Extra target.path)
 

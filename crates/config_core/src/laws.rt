@@ -1,5 +1,5 @@
 //! A step has one outcome, leaves the active configuration accepted, leaves the other callers where they are, and gives a
-//! session a candidate of its own exactly in private mode; and it is told which paths are levels.
+//! session a candidate of its own exactly in private mode; and it is stated which paths are levels.
 
 ghost use Rattle.std.specs.Prelude.{◌≡◌, ◌<◌, ◌↔◌, ℕ, true, List, IfSome};
 ghost use Rattle.cfg_base.specs.declared.path.Step.{Step};
@@ -86,7 +86,7 @@ pub fn rollback_0_leaves_nothing_modified()
         → candidate_of turned.state caller ≡ fresh_of turned.state.kept.last }
 {}
 
-/// Of a path that follows the profile's rows it is told whether it is a level.
+/// Of a path that follows the profile's rows it is stated whether it is a level.
 pub fn levels_are_told()
     ensures { (path : List Step) → IsTypedPath path → (is_level_at path ≡ true) ↔ IsLevelPath path }
 {}

@@ -38,7 +38,7 @@ impl Core {
         Ok(step(caller, moment, effect, Reply::Entered(mode)))
     }
 
-    // The shared candidate behind the caller's leaving, where what it changed is discarded.
+    // The shared candidate after the caller's leaving, where what it changed is discarded.
     pub(crate) fn fresh_for(&self, caller: u32) -> Result<Option<Candidate>, NoMemory>
         ensures { IfOk result (λ fresh. fresh ≡ fresh_for self.now caller) }
     {

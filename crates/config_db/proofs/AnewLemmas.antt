@@ -9,7 +9,7 @@ use Rattle.config_db.specs.Crash.{BothCalled, CallsOn, CountsAgree}
 use Rattle.config_db.proofs.CalledLemmas.{history_first, history_second}
 use Rattle.config_db.proofs.SpanLemmas.{first_moment}
 
--- the state behind the first calls
+-- the state after the first calls
 later_is : (h h' : History) (calls : List Call) → h'.first ≡ h.first → h'.calls ≡ h.calls ++ calls → (more : List Call) (c : List ℕ) → Since (after (state_of h) calls) more c → Since (state_of h') more c
 later_is h h' calls first made more c since =
     subst (λ (s : DiskState). Since s more c) (sym (state_later h h' (Since (state_of h) calls) (record { calls = calls; first = first; made = made; each = λ x y. y }))) since

@@ -45,7 +45,7 @@ published v = with_shown v (all_published v.shown)
 quiet_none : (v : DatabaseView) → NoneCalledBehind [] v.journal v.journal
 quiet_none v = record { none = λ is. refl; calls = refl }
 
--- nor behind an event
+-- nor after an event
 quiet_more : (u v w : DatabaseView) (e : Happened) (own : List Happened) → e.calls ≡ calls_of v.journal → NoneCalledBehind own v.journal w.journal
     → NoneCalledBehind (e ∷ own) u.journal w.journal
 quiet_more u v w e own told quiet =
@@ -189,7 +189,7 @@ module _ (caller moment : ℕ) where
         no_later = omega (arith, same, no_earlier);
       }
 
-  -- what is behind a settling, as told of both
+  -- what is after a settling, as reported of both
   behind : (ticked : Ticked) (u v w : DatabaseView) (e : Happened) (own : List Happened) → IsSettling e.event → e.outcome ≡ Done → e.calls ≡ calls_of v.journal → GoesOn u.journal v.journal
       → GoesOn v.journal w.journal → Leads u.state (e ∷ []) v.state → NoneCalledBehind own v.journal w.journal → ClearsBehind moment ticked own v w → Clears moment ticked (e ∷ own) u w
   behind Nothing u v w e own settles done told on more lead quiet clears = absurd clears
@@ -213,7 +213,7 @@ module _ (caller moment : ℕ) where
   behind DiskFault u v w e own settles done told on more lead quiet clears = (clears.0, rose_last u.journal v.journal w.journal on more clears.1)
   behind TickedNoMemory u v w e own settles done told on more lead quiet clears = quiet_more u v w e own told quiet
 
-  -- a settling, and what is needed behind it
+  -- a settling, and what is needed after it
   pub way_settled : (ticked : Ticked) (u v w : DatabaseView) → u.state.greatest ≤ moment → IsSome u.state.flight → Settles caller moment Done u v → CatchesUp caller moment ticked v w
       → MakesWay caller moment ticked u w
   way_settled ticked u v w no_earlier some (is_kept, reply, happens) up =
@@ -230,7 +230,7 @@ module _ (caller moment : ℕ) where
         no_later = up.no_later;
       }
 
-  -- the command behind events of this call
+  -- the command after events of this call
   behind_events : (command : Command) (place : ℕ) (reply : Reply) (why : Type 0) (u v w : DatabaseView) (own : List Happened) → Extends caller moment own u v → NoCommand own
       → u.state.greatest ≤ v.state.greatest → v.state.greatest ≤ moment
       → (why → FaultOnEither (disks_of u.journal) (disks_of v.journal) ⊎ FaultOnEither (disks_of v.journal) (disks_of w.journal)) → IsTaken caller moment command place reply why v w
@@ -268,13 +268,13 @@ module _ (caller moment : ℕ) where
     pub unanswered : Answers caller moment command NoMemory u v
     unanswered = record { own = up.own; extends = up.extends; answer = record { no_command = up.no_command; quiet = up.quiet } }
 
-    -- the command behind a deadline that was missed, or wasn't
+    -- the command after a deadline that was missed, or wasn't
     pub answers : (answered : Answered) (why : Type 0) → (why → FaultOnEither (disks_of u.journal) (disks_of v.journal) ⊎ FaultOnEither (disks_of v.journal) (disks_of w.journal)) → Takes caller moment command answered why v w
         → Answers caller moment command answered u w
     answers (Kept place reply) why rose taken = behind_events command place reply why u v w up.own up.extends up.no_command up.since up.no_later rose taken
     answers NoMemory why rose same = subst (λ x. Answers caller moment command NoMemory u x) (sym same) unanswered
 
-  -- the command behind a settling that failed
+  -- the command after a settling that failed
   pub answers_unsettled : (command : Command) (place : ℕ) (reply : Reply) (u v w : DatabaseView) → u.state.greatest ≤ moment → IsUnsettled u v → Happens caller moment (CommandOf command) Fault reply v w
       → place ≡ length u.events → Answers caller moment command (Kept place reply) u w
   answers_unsettled command place reply u v w no_earlier un happens at_end =
@@ -282,7 +282,7 @@ module _ (caller moment : ℕ) where
       behind_events command place reply (Unit {0}) u v w [] (extends_unsettled caller moment u v un) tt (omega (arith, same)) (omega (arith, same, no_earlier)) (λ why. inl un.rose)
       (record { outcome = Fault; happens = happens; at_end = at_end ∙ sym (ap length un.events); cause = λ is. tt })
 
-  -- and behind one that was done
+  -- and after one that was done
   module _ (command : Command) (u v w : DatabaseView) (no_earlier : u.state.greatest ≤ moment) (some : IsSome u.state.flight) (is_kept : Bool) (said : Reply)
       (happens : Happens caller moment (Settle is_kept) Done said u v) where
     settling : Happened

@@ -43,7 +43,7 @@ turn_leads s s' caller moment event outcome reply calls turns = (turns.fits, tur
 pub same_opened : (v v' : DatabaseView) → IsSameRun v v' → opened v' ≡ opened v
 same_opened v v' same = ap (λ k. opening_of k v'.users) same.opening ∙ ap (opening_of v.opening) same.users
 
--- behind a settling of a record that was in flight, or of an image
+-- after a settling of a record that was in flight, or of an image
 found_record : (j j' : JournalView) (kept : Kept) (m : Made) (is_kept : Bool) (rs : List Record) → AreOf kept rs → IsNext kept m.entry → Holds j rs (Some (entry_record m.entry))
     → IsFoundOut (Some is_kept) j j' → Stands j' (kept_settled kept m is_kept) None
 found_record j j' kept m true rs are next held found =
@@ -62,7 +62,7 @@ stands_found j j' kept m is_kept stands found follows =
     ⊎_elim (λ held. found_record j j' kept m is_kept stands.records stands.are (stands.entry, follows) held found)
     (λ image. found_image j j' kept m is_kept stands.records image.0 stands.are image.1 image.2 found) stands.holds
 
--- and behind one that failed
+-- and after one that failed
 pub stands_unfound : (j j' : JournalView) (kept : Kept) (m : Made) → Stands j kept (Some m.entry) → IsFoundOut None j j' → Stands j' kept (Some m.entry)
 stands_unfound j j' kept m stands found = record {
   records = stands.records;

@@ -1,4 +1,4 @@
--- Calls that the disks of a journal made, and the numbers that are told of them.
+-- Calls that the disks of a journal made, and the numbers that are reported of them.
 use Rattle.std.proofs.Common.{◌≡◌, ◌+◌, ℕ, Bool, true, false, List, [], ◌++◌, length, refl, sym, ap, subst, ◌∙◌, append_assoc, arith, length-append}
 use Rattle.std.proofs.lemmas.List.{append-nil}
 use Rattle.disk_model.specs.Disk.{Call, DiskView, History}
@@ -32,7 +32,7 @@ then_on h k l m n o (one, first, told) (two, next, more) = (
       omega (arith, here, there, length-append one two),
 )
 
--- calls of which the number is told
+-- calls of which the number is reported
 told_on : (h h' : History) (m m' : ℕ) (more : List Call) → h'.first ≡ h.first → h'.calls ≡ h.calls ++ more → CountsAgree h h' m m'
     → CallsOn h h' m m'
 told_on h h' m m' more first calls told =

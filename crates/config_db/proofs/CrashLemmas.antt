@@ -15,7 +15,7 @@ no_append : {A : Type 0} → (x : A) (xs ys : List A) → xs ++ ys ≡ [] → (x
 no_append x [] ys is = (refl, is)
 no_append x (y ∷ xs) ys is = absurd (let e = ap length is in omega (arith, e))
 
--- a cut of a list with one more at its end: behind that one, or before it
+-- a cut of a list with one more at its end: after that one, or before it
 snoc_split : {A : Type 0} → (events : List A) (e : A) (before after : List A) → events ++ e ∷ [] ≡ before ++ after
     → ((before ≡ events ++ e ∷ []) × (after ≡ [])) ⊎ ((rest : List A) × (after ≡ rest ++ e ∷ []) × (events ≡ before ++ rest))
 snoc_split events e [] after is = inr (events, sym is, refl)

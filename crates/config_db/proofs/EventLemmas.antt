@@ -1,4 +1,4 @@
--- One event of the database, put together: it stays a book, and the event is what is told.
+-- One event of the database, put together: it stays a book, and the event is what is reported.
 use Rattle.std.proofs.Common.{◌≡◌, ◌≤◌, ℕ, Bool, true, List, [], ◌∷◌, ◌++◌, refl, sym, ap, subst, ◌∙◌, inl, inr, ⊎_elim, Option, None, Some, is_some}
 use Rattle.std.specs.Prelude.{IfSome, IsSome}
 use Rattle.cfg_base.specs.declared.calls.Calls.{Calls}
@@ -40,7 +40,7 @@ use Rattle.config_db.proofs.ShownLemmas.{settled_on, shows_on, shows_settled, sh
 use Rattle.config_db.proofs.BookLemmas.{book_after, book_unsettled, stands_found, stands_unfound}
 use Rattle.config_db.proofs.WritingLemmas.{Wrote}
 
--- the database behind an event
+-- the database after an event
 abbrev pub next : DatabaseView → JournalView → List Happened → State → WriterState → DatabaseView
 next v j' events' s' w' = record { journal = j'; opening = v.opening; users = v.users; events = events'; state = s'; shown = w'; readers = v.readers }
 
@@ -58,20 +58,20 @@ some_failed None outcome calm is = absurd (let done = calm refl in cc)
 some_failed (Some made) Done calm is = absurd (cc)
 some_failed (Some made) Fault calm is = refl
 
--- what came of an event
+-- what resulted from an event
 pub record Comes (caller moment : ℕ) (event : Event) (outcome : Outcome) (reply : Reply) (v v' : DatabaseView) : Type 0 where
   pub book : IsBook v'
   pub happens : Happens caller moment event outcome reply v v'
 
 module _ (v : DatabaseView) (book : IsBook v)
     (one_state : (events : List Happened) (s t : State) → Leads (opened v) events s → Leads (opened v) events t → s ≡ t) where
-  -- the crash theorem behind an event, from what a crash may leave once it has come
+  -- the crash theorem after an event, from what a crash may leave once it has come
   abbrev Safe : JournalView → Happened → State → Type 0
   Safe j' e s' = Leads (opened v) (v.events ++ e ∷ []) s'
       → ((c d : List ℕ) → Tell j' → IsImage (state_of (a_of j')) c → IsImage (state_of (b_of j')) d → Spelt s' None c d)
       → Tell j' → IsSafeWhile (opened v) (v.events ++ e ∷ []) (calls_of j') (a_of j') (b_of j')
 
-  -- what readers are shown behind an event
+  -- what readers are shown after an event
   abbrev ShowsThen : JournalView → Happened → State → WriterState → Type 0
   ShowsThen j' e s' w' = Leads (opened v) (v.events ++ e ∷ []) s' → Shows (opened v) (v.events ++ e ∷ []) s' w'
 
@@ -83,7 +83,7 @@ module _ (v : DatabaseView) (book : IsBook v)
       settles_safe (opened v) one_state v.events (calls_of v.journal) (calls_of j') (a_of v.journal) (b_of v.journal) (a_of j') (b_of j') (counts.told_a t) (counts.told_b t)
       book.rising (book.safe t) (left t)
 
-  -- an event behind calls that only settled, or behind none
+  -- an event after calls that only settled, or after none
   notes : (j' : JournalView) (e : Happened) (s' : State) → AreAtMost (calls_of v.journal) (calls_of j') → e.calls ≡ calls_of j' → (Tell j' → IsSafeWhile (opened v) v.events (calls_of j') (a_of j') (b_of j'))
       → Safe j' e s'
   notes j' e s' later told so_far leads now t few_a few_b =

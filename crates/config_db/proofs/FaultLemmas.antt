@@ -1,4 +1,4 @@
--- Counts of events that failed, one call behind another, from the opening to the end.
+-- Counts of events that failed, one call after another, from the opening to the end.
 use Rattle.std.proofs.Common.{◌≡◌, ◌≤◌, ◌+◌, ◌&&◌, inl, inr, ⊎_elim, ℕ, Bool, true, false, cond, not, List, [], ◌∷◌, ◌++◌, refl, sym, ap, subst, ◌∙◌, arith}
 use Rattle.disk_model.specs.Pair.{FaultOnEither, DiskPair, NoneFell}
 use Rattle.std.specs.Prelude.{count_by}
@@ -101,7 +101,7 @@ counted_one j k e goes cause = record {
     by p rose = subst (λ n. RoseBy n (disks_of j) (disks_of k)) (sym (count-one p e))
         (rose_once (p e) (disks_of j) (disks_of k) (none_fell j k goes) rose)
 
--- a command behind events of which none is one: a fault before it may be its cause
+-- a command after events of which none is one: a fault before it may be its cause
 pub counted_command : (i j k : JournalView) (own : List Happened) (e : Happened) → GoesOn i j → GoesOn j k → NoCommand own
     → is_command e.event ≡ true → FaultsAreCounted own (disks_of i) (disks_of j)
     → (e.outcome ≡ Fault → FaultOnEither (disks_of i) (disks_of k)) → FaultsAreCounted (own ++ e ∷ []) (disks_of i) (disks_of k)

@@ -147,7 +147,7 @@ settling_turns s caller moment is_kept plan made is fits prepared =
     turns_by s caller moment (Settle is_kept) plan Done fits prepared
     (subst (λ w. CanEnd w (Settle is_kept) (made_in plan.effect) Done) (sym (waits s moment made is)) tt)
 
--- what is kept behind a settling
+-- what is kept after a settling
 abbrev pub kept_settled : Kept → Made → Bool → Kept
 kept_settled kept made true = append_entry kept made.entry
 kept_settled kept made false = kept
@@ -207,7 +207,7 @@ put_off_leaves s caller moment (Settle is_kept) turned made asks is steps = absu
 put_off_leaves s caller moment Revert turned made asks is steps = absurd (cc)
 put_off_leaves s caller moment (CommandOf command) turned made asks is steps = put_off_state s caller moment command turned made is steps
 
--- what stands before the next command, as it is told
+-- what stands before the next command, as it is reported
 settle_in : (w : Waiting) → need.Settle ≡ need_in w → (made : Made) × (w ≡ InFlight made)
 settle_in (InFlight made) is = (made, refl)
 settle_in Missed is = absurd (cc)

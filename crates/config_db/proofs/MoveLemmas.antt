@@ -1,4 +1,4 @@
--- Events of one caller at one moment, one behind another.
+-- Events of one caller at one moment, one after another.
 use Rattle.std.proofs.Common.{◌≡◌, ℕ, List, [], ◌∷◌, ◌++◌, refl, sym, ap, ◌∙◌, append_assoc, arith}
 use Rattle.session_history.specs.Events.{IsEventOf}
 use Rattle.commit_journal.specs.Journal.{disks_of}

@@ -21,6 +21,6 @@ pub rising_push : (from : Calls) (events : List Happened) (event : Happened) (ma
 rising_push from [] event made rising is = (subst (λ m. AreAtMost from m) (sym is) rising, subst (λ m. AreAtMost m made) (sym is) (at_most_same made))
 rising_push from (first ∷ events) event made rising is = (rising.0, rising_push first.calls events event made rising.1 is)
 
--- what the journal tells
+-- what the journal reports
 pub calls_is : (j : JournalView) (made : Calls) → made.a ≡ calls_a j → made.b ≡ calls_b j → made ≡ calls_of j
 calls_is j made p q = ap (λ (n : ℕ). record { a = n; b = made.b }) p ∙ ap (λ (n : ℕ). record { a = calls_a j; b = n }) q

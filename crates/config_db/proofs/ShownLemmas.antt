@@ -50,7 +50,7 @@ kept_none : (w : WriterState) → w.proposal ≡ None → with_kept w ≡ w
 kept_none w none =
     ap (λ (p : Option Kept). record w { list = with_proposal w.list p; proposal = None }) none ∙ ap (λ (p : Option Kept). record w { proposal = p }) (sym none)
 
--- a late writer published all, or memory was wanting for that
+-- a late writer published all, or memory ran out for that
 pub late_published : {E : Type 0} (result : Result (Unit {0}) E) (w w' : WriterState) → w.proposal ≡ None → OnOk result (w' ≡ all_published (with_kept w)) → OnOk result (w' ≡ all_published w)
 late_published (Ok done) w w' none is = is ∙ ap all_published (kept_none w none)
 late_published (Err fault) w w' none is = tt
@@ -205,14 +205,14 @@ module _ (first : State) where
           shows_same_list (events ++ more) s s' shows.more w w' shows.begins shows.last (ap (λ (x : WriterState). x.list) is) kept (all_more more)
           (waits ∙ (λ i. waiting_view (sym kept i) (sym flight i))) (λ late. absurd (cc (late, on_time)))
 
-      -- behind the writing of what an event makes
+      -- after the writing of what an event makes
       pub shows_written : (made : Option Made) (outcome : Outcome) (w' : WriterState) → s.flight ≡ None → IsShown made outcome w w' → s'.kept ≡ kept_after s.kept made outcome
           → s'.flight ≡ flight_after made outcome → Shows first (events ++ more) s' w'
       shows_written None outcome w' free shown kept flight = written_none w' free kept flight (shown.publishes ∙ shown.proposes)
       shows_written (Some made) Done w' free shown kept flight = written_done made shown.ready w' shown.proposes shown.publishes kept flight
       shows_written (Some made) Fault w' free shown kept flight = written_fault made shown.ready w' shown.proposes shown.publishes kept flight
 
-      -- behind a settling
+      -- after a settling
       pub shows_settled : (made : Made) (is_kept : Bool) (w' : WriterState) → s.flight ≡ Some made → ShowsSettled is_kept w w' → s'.kept ≡ kept_settled s.kept made is_kept → s'.flight ≡ None
           → Shows first (events ++ more) s' w'
       shows_settled made true w' flying keeps kept flight =

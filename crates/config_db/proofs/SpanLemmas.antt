@@ -6,7 +6,7 @@ use Rattle.disk_model.proofs.States.{after-append}
 use Rattle.disk_model.proofs.Images.{since_append}
 use Rattle.config_db.specs.Crash.{count_at, InSpan}
 
--- a history that goes on by these calls, and the number that was told of them
+-- a history that goes on by these calls, and the number that was reported of them
 pub record Grows (h h' : History) (made made' : ℕ) (more : List Call) : Type 0 where
   pub first : h'.first ≡ h.first
   pub calls : h'.calls ≡ h.calls ++ more

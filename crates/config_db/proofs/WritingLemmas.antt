@@ -106,7 +106,7 @@ module _ (j j' : JournalView) (failed : Type 0)
     crash = λ t. safe.crash t;
   }
 
--- behind an append to records of what is kept
+-- after an append to records of what is kept
 module _ (kept : Kept) (entry : Entry) (next : IsNext kept entry) (i j' : JournalView) (rs : List Record) (are : AreOf kept rs) (held : Holds i rs None) where
   after_append : (outcome : Outcome) → IsAppend (entry_record entry ∷ []) outcome i j' → Stands j' (kept_written kept entry outcome) (entry_left entry outcome)
   after_append Done append =
@@ -158,7 +158,7 @@ module _ (kept : Kept) (entry : Entry) (next : IsNext kept entry) (j : JournalVi
       stays = λ fits. absurd (omega (arith, fits, needs));
     }
 
-    -- a rotation, and the record behind the image
+    -- a rotation, and the record after the image
     module _ (rotated : IsRotated j image i) where
       held : Holds i image None
       held = (rotated.idle, λ now. let t = tell_back j i stays now in rotated.has stands.records t (stands.holds.1 t))

@@ -47,16 +47,16 @@ pub record IsOneSettling (own : List Happened) : Type 0 where
   pub settles : IsSettling one.event
   pub done : one.outcome ≡ Done
 
--- no disk was called behind these events, and none at all where there are none
+-- no disk was called after these events, and none at all where there are none
 pub record NoneCalledBehind (own : List Happened) (j j' : JournalView) : Type 0 where
   pub none : own ≡ [] → j' ≡ j
   pub calls : last_calls (calls_of j) own ≡ calls_of j'
 
--- all that was kept before is published now, or memory was wanting for that and nothing was done
+-- all that was kept before is published now, or memory ran out for that and nothing was done
 abbrev pub PublishesFirst : Type 0 → DatabaseView → DatabaseView → Type 0
 PublishesFirst wanting v v' = (length v.shown.list ≤ v'.shown.published) ⊎ (wanting × (v' ≡ v))
 
--- what was needed before a command, and what came of it
+-- what was needed before a command, and what resulted
 abbrev pub Clears : ℕ → Ticked → List Happened → DatabaseView → DatabaseView → Type 0
 Clears moment Nothing own v v' = (own ≡ []) × IsClear moment v'
 Clears moment Settled own v v' = IsOneSettling own × IsClear moment v'
@@ -74,7 +74,7 @@ pub record MakesWay (caller moment : ℕ) (ticked : Ticked) (v v' : DatabaseView
   pub since : v.state.greatest ≤ v'.state.greatest
   pub no_later : v'.state.greatest ≤ moment
 
--- what is told of a revert
+-- what is reported of a revert
 abbrev pub reverted_as : Outcome → Ticked
 reverted_as Done = Reverted
 reverted_as Fault = DiskFault
@@ -100,7 +100,7 @@ abbrev pub Takes : ℕ → ℕ → Command → Answered → Type 0 → DatabaseV
 Takes caller moment command (Kept place reply) why v v' = IsTaken caller moment command place reply why v v'
 Takes caller moment command NoMemory why v v' = v' ≡ v
 
--- what is needed behind a settling: a missed deadline is reverted, or nothing is
+-- what is needed after a settling: a missed deadline is reverted, or nothing is
 abbrev pub ClearsBehind : ℕ → Ticked → List Happened → DatabaseView → DatabaseView → Type 0
 ClearsBehind moment Nothing own v v' = ⊥
 ClearsBehind moment Settled own v v' = (own ≡ []) × IsClear moment v'
@@ -138,13 +138,13 @@ pub record IsAnswered (caller moment : ℕ) (command : Command) (place : ℕ) (r
   pub turned : Turned
   pub steps : Steps before caller moment (CommandOf command) last.outcome turned
   pub replied : reply ≡ turned.reply
-  -- it has the numbers of calls that the journal tells
+  -- it has the numbers of calls that the journal reports
   pub calls : last.calls ≡ calls_of v'.journal
   -- where it made an entry, and that is done, the file keeps to its limit, if a checkpoint and the entry fit in it
   pub trims : last.outcome ≡ Done → IfSome turned.made (λ made. KeepsLimit before.kept made.entry v'.journal)
 
--- a command for which memory was wanting is no event, and no disk was called since the last event of the call: what came of a
--- disk's call is told by an event
+-- a command for which memory ran out is no event, and no disk was called since the last event of the call: what resulted from a
+-- disk's call is reported by an event
 pub record IsUnasked (own : List Happened) (v v' : DatabaseView) : Type 0 where
   pub no_command : NoCommand own
   pub quiet : NoneCalledBehind own v.journal v'.journal

@@ -20,7 +20,7 @@ pub record IsBook (v : DatabaseView) : Type 0 where
   pub began : IsSoundKept v.opening
   -- each event fits the state before it, and all lead to the state
   pub leads : Leads (opened v) v.events v.state
-  -- the numbers of calls don't fall from event to event, and none passes what the journal tells
+  -- the numbers of calls don't fall from event to event, and none passes what the journal reports
   pub rising : AreRising none_called v.events (calls_of v.journal)
   -- with nothing in flight the last event is this very moment
   pub at_rest : v.state.flight ≡ None → last_calls none_called v.events ≡ calls_of v.journal

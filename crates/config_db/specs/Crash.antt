@@ -17,7 +17,7 @@ use Rattle.config_db.specs.Numbers.{AreRising, none_called}
 abbrev pub IsReckoned : History → Type 0
 IsReckoned h = length h.calls < 2 ^ 64 - 1
 
--- a disk's count of calls at a number that was told since the opening: its last count, less the last number, plus that number
+-- a disk's count of calls at a number that was reported since the opening: its last count, less the last number, plus that number
 abbrev pub count_at : History → ℕ → ℕ → ℕ
 count_at h made number = length h.calls - made + number
 
@@ -62,7 +62,7 @@ AreSpansSafe first events made a b =
     → InSpan b made.b (last_calls none_called before).b (next_calls made after).b d
     → Spelt s (next_event after) c d
 
--- a crash at any moment of a run leaves the list as it was told by then, with the entry of that moment or without
+-- a crash at any moment of a run leaves the list as it was reported by then, with the entry of that moment or without
 pub record IsCrashSafe (first : State) (events : List Happened) (made : Calls) (a b : History) : Type 0 where
   -- the numbers of calls don't fall
   pub rising : AreRising none_called events made
@@ -82,12 +82,12 @@ IsSafeWhile first events made a b = IsReckoned a → IsReckoned b → IsSafeNow 
 abbrev pub CountsAgree : History → History → ℕ → ℕ → Type 0
 CountsAgree h h' m m' = IsReckoned h' → m ≤ length h.calls → length h.calls ≤ length h'.calls → m' ≡ m + (length h'.calls - length h.calls)
 
--- the numbers that a journal tells went on so, where its disks tell what they hold
+-- the numbers that a journal reports went on so, where its disks tell what they hold
 pub record CountsOn (j j' : JournalView) : Type 0 where
   pub told_a : Tell j → CountsAgree (a_of j) (a_of j') (calls_a j) (calls_a j')
   pub told_b : Tell j → CountsAgree (b_of j) (b_of j') (calls_b j) (calls_b j')
 
--- a disk made more calls, and the number that is told of them went on with them
+-- a disk made more calls, and the number that is reported of them went on with them
 abbrev pub CallsOn : History → History → ℕ → ℕ → Type 0
 CallsOn h h' m m' = (more : List Call) × DiskGoesOn h more h' × (IsReckoned h' → m ≤ length h.calls → m' ≡ m + length more)
 

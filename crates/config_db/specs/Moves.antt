@@ -39,7 +39,7 @@ abbrev pub noted : ℕ → ℕ → Event → Outcome → Calls → Happened
 noted caller moment event outcome calls =
     record { caller = caller; moment = moment; event = event; outcome = outcome; calls = calls }
 
--- one event came, and was noted with the numbers of calls that the journal tells by then
+-- one event came, and was noted with the numbers of calls that the journal reports by then
 pub record Happens (caller moment : ℕ) (event : Event) (outcome : Outcome) (reply : Reply)
     (v v' : DatabaseView) : Type 0 where
   pub turns : Turns v.state caller moment event outcome reply v'.state
@@ -76,7 +76,7 @@ Settles caller moment Done v v' =
     (is_kept : Bool) × (reply : Reply) × Happens caller moment (Settle is_kept) Done reply v v'
 Settles caller moment Fault v v' = IsUnsettled v v'
 
--- what came of a settling before a command: it was settled, or a disk failed and the command, which is asked by that event, is put
+-- what resulted from a settling before a command: it was settled, or a disk failed and the command, which is asked by that event, is put
 -- off
 abbrev pub SettlesBefore : ℕ → ℕ → Event → Before → DatabaseView → DatabaseView → Type 0
 SettlesBefore caller moment event (Settled back) v v' = (back ≡ event) × Settles caller moment Done v v'
@@ -87,7 +87,7 @@ SettlesBefore caller moment event (PutOff reply) v v' =
 abbrev pub HasCause : JournalView → JournalView → Happened → Type 0
 HasCause j j' event = event.outcome ≡ Fault → FaultOnEither (disks_of j) (disks_of j')
 
--- events of a caller at a moment came behind those that were there, and lead on from the state
+-- events of a caller at a moment came after those that were there, and lead on from the state
 pub record Extends (caller moment : ℕ) (own : List Happened) (v v' : DatabaseView)
     : Type 0 where
   pub leads : Leads v.state own v'.state
@@ -98,6 +98,6 @@ pub record Extends (caller moment : ℕ) (own : List Happened) (v v' : DatabaseV
   pub counted : FaultsAreCounted own (disks_of v.journal) (disks_of v'.journal)
   pub same : IsSameRun v v'
   pub goes : GoesOn v.journal v'.journal
-  -- the disks made the calls that are told, where they tell what they hold
+  -- the disks made the calls that are reported, where they tell what they hold
   pub called : Tell v.journal → BothCalled v.journal v'.journal
   pub shown : ShowsOn v.shown v'.shown

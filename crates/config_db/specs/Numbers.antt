@@ -8,7 +8,7 @@ use Rattle.session_history.specs.declared.history.Happened.{Happened}
 abbrev pub none_called : Calls
 none_called = record { a = 0; b = 0 }
 
--- the numbers that the journal tells
+-- the numbers that the journal reports
 abbrev pub calls_of : JournalView → Calls
 calls_of j = record { a = calls_a j; b = calls_b j }
 

@@ -17,7 +17,7 @@ abbrev pub waiting_view : Kept → Option Made → Option Kept
 waiting_view kept None = None
 waiting_view kept (Some made) = Some (append_entry kept made.entry)
 
--- a writer shows a run that began in the first state, with these events and this state behind them
+-- a writer shows a run that began in the first state, with these events and this state after them
 pub record Shows (first : State) (events : List Happened) (s : State) (shown : WriterState) : Type 0 where
   -- its views begin with the opening's, and the last one is what is kept
   pub more : List Kept

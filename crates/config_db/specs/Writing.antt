@@ -32,7 +32,7 @@ abbrev pub IsWritable : Entry → Type 0
 IsWritable (CommitOf commit) = IsWritableCommit commit
 IsWritable (ConfirmOf confirm) = 1 ≤ confirm.number
 
--- what is kept behind the writing of an entry, and what is in flight
+-- what is kept after the writing of an entry, and what is in flight
 abbrev pub kept_written : Kept → Entry → Outcome → Kept
 kept_written kept entry Done = append_entry kept entry
 kept_written kept entry Fault = kept
@@ -41,7 +41,7 @@ abbrev pub entry_left : Entry → Outcome → Option Entry
 entry_left entry Done = None
 entry_left entry Fault = Some entry
 
--- what is kept behind an event that makes this entry or none, by its outcome
+-- what is kept after an event that makes this entry or none, by its outcome
 abbrev pub kept_after : Kept → Option Made → Outcome → Kept
 kept_after kept None outcome = kept
 kept_after kept (Some made) outcome = kept_written kept made.entry outcome
@@ -57,7 +57,7 @@ abbrev pub entry_in : Option Made → Option Entry
 entry_in None = None
 entry_in (Some made) = Some made.entry
 
--- the records behind an append, and the record in flight, by its outcome
+-- the records after an append, and the record in flight, by its outcome
 abbrev pub records_written : List Record → Record → Outcome → List Record
 records_written rs r Done = rs ++ r ∷ []
 records_written rs r Fault = rs
@@ -77,7 +77,7 @@ pub record IsAppend (body : List Record) (outcome : Outcome)
   -- a crash at any moment of the call leaves the records from before it, with this one or without
   pub crash : (rs : List Record) (r : Record) → body ≡ r ∷ [] → Holds j rs None → Tell j
       → LeavesBoth j j' (SpellsEither rs (rs ++ r ∷ []))
-  -- the same file counts, behind the record where that is done, and the other one isn't called
+  -- the same file counts, after the record where that is done, and the other one isn't called
   pub choice : j'.b_counts ≡ j.b_counts
   pub other_is : j'.other ≡ j.other
   pub limit_is : j'.limit ≡ j.limit
@@ -88,12 +88,12 @@ abbrev pub KeepsLimit : Kept → Entry → JournalView → Type 0
 KeepsLimit kept entry j =
     first_gate + 1 + length (bodies (checkpoint kept)) + length (body 0 (entry_record entry)) ≤ j.limit → j.gate + 1 ≤ j.limit
 
--- an entry was written behind what is kept, with this outcome
+-- an entry was written after what is kept, with this outcome
 pub record IsEntryWritten (kept : Kept) (entry : Entry) (outcome : Outcome) (j j' : JournalView) : Type 0 where
   pub stands : Stands j' (kept_written kept entry outcome) (entry_left entry outcome)
   pub goes : GoesOn j j'
   pub cause : outcome ≡ Fault → FaultOnEither (disks_of j) (disks_of j')
-  -- the disks made the calls that are told
+  -- the disks made the calls that are reported
   pub called : Tell j → BothCalled j j'
   -- a crash at any moment of the call leaves what was kept, or that with the entry
   pub crash : Tell j → LeavesBoth j j' (λ c d. SpellsWith c d kept (Some entry))
@@ -106,7 +106,7 @@ abbrev pub IsWritten : Kept → Option Made → Outcome → JournalView → Jour
 IsWritten kept None outcome j j' = (outcome ≡ Done) × (j' ≡ j)
 IsWritten kept (Some made) outcome j j' = IsEntryWritten kept made.entry outcome j j'
 
--- the records behind a settling, by its answer: whether the one in flight is kept, or a fault
+-- the records after a settling, by its answer: whether the one in flight is kept, or a fault
 abbrev pub records_found : List Record → Record → Option Bool → List Record
 records_found rs r None = rs
 records_found rs r (Some true) = rs ++ r ∷ []
@@ -116,7 +116,7 @@ abbrev pub flight_found : Record → Option Bool → Option Record
 flight_found r None = Some r
 flight_found r (Some is_kept) = None
 
--- the records behind the settling of an image, behind which nothing is kept
+-- the records after the settling of an image, after which nothing is kept
 abbrev pub IsImageFound : Option Bool → List Record → List Record → JournalView → Type 0
 IsImageFound None rs image j' = HoldsImage j' rs image
 IsImageFound (Some true) rs image j' = ⊥

@@ -10,7 +10,7 @@ pub enum Answered {
     NoMemory,
 }
 
-/// What came of a look at the time.
+/// What resulted from a look at the time.
 #[derive(Clone, Copy, Debug, PartialEq, Eq)]
 pub enum Ticked {
     /// Nothing was needed.
@@ -25,7 +25,7 @@ pub enum Ticked {
     NoMemory,
 }
 
-/// What came of a settling before a command is asked by that event.
+/// What resulted from a settling before a command is asked by that event.
 #[derive(Debug, Drop)]
 pub(crate) enum Before {
     /// Nothing is in flight, and the event is still to come.

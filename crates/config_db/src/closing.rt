@@ -13,7 +13,7 @@ use session_history::{History, histories_stay_accepted};
 use std::sync::Wait;
 
 impl<D: Disk, J: Naming> Database<D, J> {
-    /// Settles what is in flight, and tells whether an entry is in flight still.
+    /// Settles what is in flight, and reports whether an entry is in flight still.
     pub(crate) fn settle_last<R: Wait>(&mut self, rt: &R) -> bool
         ensures { SettlesLast result self.old self.new }
     {

@@ -58,7 +58,7 @@ impl<D: Disk, J: Naming> Model for Database<D, J> {
       readers = d.readers;
     } };
 
-    // Behind an entry in flight there is room for its settling.
+    // After an entry in flight there is room for its settling.
     ghost invariant = { λ d. IsBook (record {
       journal = d.journal;
       opening = d.opening;

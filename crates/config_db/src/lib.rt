@@ -2,7 +2,7 @@
 //!
 //! Guarantees: a database begins over the list of commits that two disks spell, or over one that is made of the factory commit
 //! (specs/Starting.antt). What happened is a legal history over that list, with one reply a command, the machine's; the journal
-//! holds what the state keeps, and the entry that is in flight; a disk's fault is told only where a disk's count of faults rose
+//! holds what the state keeps, and the entry that is in flight; a disk's fault is reported only where a disk's count of faults rose
 //! in the call (specs/Answers.antt, specs/Closing.antt). A crash at any moment since the opening leaves on the disks what was
 //! kept by then, or that with the entry of that moment (specs/Crash.antt). Readers are shown what was kept at some moment of the
 //! run, and never what is only in flight (specs/Shown.antt).
@@ -10,14 +10,14 @@
 //! (`active_snapshot`), what a session is, and who calls when.
 //!
 //! The order of a turn, each step in one method:
-//! 1. What was kept and couldn't be published is published (`publish_late`). Where that wants memory, nothing else is done.
+//! 1. What was kept and couldn't be published is published (`publish_late`). Where memory runs out for that, nothing else is done.
 //! 2. What is in flight is settled (`settle`). Where a disk fails, it stays in flight and the command is put off, which was made
 //!    ready before (`settle_or_put_off`).
 //! 3. A missed deadline is reverted (`revert`). Where a disk fails, the revert is in flight and the command is put off.
 //! 4. The command is prepared, the view after its entry is proposed, the entry is written, the view is kept and published, and the
 //!    command is carried out (`carry_out`). Where a disk fails the entry is in flight, its view waits, and the command is answered so.
 //!
-//! All memory of an event is taken before its first device call. Behind an entry in flight there is room for its settling, so that
+//! All memory of an event is taken before its first device call. After an entry in flight there is room for its settling, so that
 //! `close` takes none.
 #![tactic(auto)]
 

@@ -23,7 +23,7 @@ use disk_model::Disk;
 use session_history::{Happened, histories_have_one_outcome};
 use std::sync::Wait;
 
-/// What came of an event.
+/// What resulted from an event.
 #[derive(Debug, Drop)]
 pub(crate) struct Ended {
     pub(crate) outcome: Outcome,
@@ -114,7 +114,7 @@ impl<D: Disk, J: Naming> Database<D, J> {
         }
     }
 
-    // Behind a settling: a missed deadline is reverted.
+    // After a settling: a missed deadline is reverted.
     fn catch_up<R: Wait>(&mut self, rt: &R, caller: u32, moment: Moment) -> Ticked
         requires free { self.old.state.flight ≡ None }
         requires no_earlier { self.old.state.greatest ≤ moment }
@@ -326,7 +326,7 @@ impl<D: Disk, J: Naming> Database<D, J> {
         }
     }
 
-    // Answers a command, behind what comes before it.
+    // Answers a command, after what comes before it.
     fn answer<R: Wait>(&mut self, rt: &R, caller: u32, moment: Moment, command: Command) -> Answered
         requires caller { (0 < caller) × (caller ≤ length self.old.users) }
         requires sound { IsSound command }
@@ -360,7 +360,7 @@ impl<D: Disk, J: Naming> Database<D, J> {
     }
 }
 
-// What came of a revert.
+// What resulted from a revert.
 fn reverted(outcome: Outcome) -> Ticked
     ensures { result ≡ reverted_as outcome }
 {

@@ -3,7 +3,7 @@
 //! 1. The view after the entry is proposed before the entry is written. It takes all the memory that showing it needs.
 //! 2. It is kept once the entry is known to be on the disks, and withdrawn once it is known not to be. While the entry is in flight
 //!    it waits.
-//! 3. What is kept is published. Where memory is wanting for that the writer is late: the entry is answered all the same, and the
+//! 3. What is kept is published. Where memory runs out for that the writer is late: the entry is answered all the same, and the
 //!    next turn publishes first, or does nothing.
 
 ghost use Rattle.std.specs.Prelude.{◌≡◌, true, IfOk, IfSome, OnOk, OnErr, None};
@@ -97,7 +97,7 @@ fn view_after(
     view.then(alloc, entry, full)
 }
 
-/// Proposes the view after an entry. A writer that is late proposes nothing, as if memory were wanting.
+/// Proposes the view after an entry. A writer that is late proposes nothing, as if memory had run out.
 fn propose<J: Naming>(
     alloc: Global,
     shown: &mut SnapWriter<J>,
@@ -206,7 +206,7 @@ pub(crate) fn show_settled<J: Naming, R: Wait>(rt: &R, shown: &mut SnapWriter<J>
     }
 }
 
-/// Publishes what was kept while memory was wanting.
+/// Publishes what was kept while there was no memory.
 pub(crate) fn publish_late<J: Naming, R: Wait>(
     rt: &R,
     shown: &mut SnapWriter<J>,

@@ -91,7 +91,7 @@ impl<J: Naming> Over<J> {
         }) }
     {
         let (core, opening) = core_over(alloc, ledger, users)?;
-        // The writer comes last: it must be ended, and nothing may fail behind it.
+        // The writer comes last: it must be ended, and nothing may fail after it.
         let (shown, readers) = shown_over(alloc, shelf, front, &opening, users)?;
         Ok(Over {
             core,
@@ -132,7 +132,7 @@ impl<J: Naming> Over<J> {
     }
 }
 
-/// Gives the disks of a journal back behind which memory was wanting.
+/// Gives back the disks of a journal after which memory ran out.
 fn without_memory<D: Disk>(journal: Journal<D>) -> StartFault<D>
     ensures { (result.why ≡ MemoryWanting) × (D.view result.a ≡ disk_a journal) × (D.view result.b ≡ disk_b journal) }
 {

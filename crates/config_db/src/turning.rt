@@ -91,7 +91,7 @@ pub(crate) fn note_settling(
     let_go(note(core, events, prepared, happened));
 }
 
-/// Lets go of a command for whose answer memory was wanting.
+/// Lets go of a command for whose answer memory ran out.
 pub(crate) fn unasked(_command: Command) -> Answered
     ensures { result ≡ Answered.NoMemory }
 {
@@ -104,7 +104,7 @@ pub(crate) fn unneeded(_prepared: Prepared) {}
 /// Lets go of a reply that nobody hears.
 pub(crate) fn let_go(_reply: Reply) {}
 
-/// Lets go of an event for whose record memory was wanting.
+/// Lets go of an event for whose record memory ran out.
 pub(crate) fn unwritten(_event: Event, _prepared: Prepared) -> NoMemory {
     NoMemory
 }

@@ -1,7 +1,7 @@
 -- Confirmed commits. Junos OS CLI User Guide, on commits that require a confirmation.
 use Rattle.std.specs.Prelude.{ℕ, ◌+◌, ◌*◌, ◌≤◌}
 
--- the moment by which a commit confirmed wants its confirmation, that many minutes later
+-- the moment by which a commit confirmed needs its confirmation, that many minutes later
 abbrev pub after_minutes : ℕ → ℕ → ℕ
 after_minutes moment minutes = moment + 60 * minutes
 

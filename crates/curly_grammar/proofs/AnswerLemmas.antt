@@ -36,7 +36,7 @@ use Rattle.curly_grammar.proofs.GoesLemmas.{derived_goes}
 use Rattle.curly_grammar.proofs.LeftLemmas.{goes_derived}
 use Rattle.curly_grammar.proofs.EndLemmas.{are_lexed, all_front, begins_run, run_front, end_of_beginning, not_behind, place_once}
 
--- what is met before a token is met behind it too, and then perhaps more
+-- what is met before a token is met after it too, and then perhaps more
 abbrev MeetsMore : List (List Step) → List (List Step) → Type 0
 MeetsMore before met = (more : List (List Step)) × (met ≡ before ++ more)
 

@@ -78,7 +78,7 @@ module _ (here : Level) (outer : List Level) where
       in ends_by_word (state here outer (Valuing marks level)) value.bytes (whole marks level (value.word ∷ [])) record { word = value.word; spelled = value.spelled; makes = refl }
       (after_ends level)
 
--- a head that wants a name
+-- a head that needs a name
 pub record WantsName (at : Level) (head : List ℕ) : Type 0 where
   pub row : ℕ
   pub has_head : HasHead at.place.row at.place.in_group head row
@@ -183,14 +183,14 @@ module _ (here : Level) (outer : List Level) where
   shape_word_ends Flag at marks row e stood = record { word = head_of row; step = head_ends at marks (head_of row) row (stood, other_shape _ Flag Bare e (λ x. cc), refl) }
   shape_word_ends Many at marks row e stood = record { word = head_of row; step = head_ends at marks (head_of row) row (stood, other_shape _ Many Bare e (λ x. cc), refl) }
 
-  -- behind marks a statement begins, at a level that has rows
+  -- after marks a statement begins, at a level that has rows
   marked_ends : (marks : Marks) → HasRows here → Ending (state here outer (Marked marks))
   marked_ends marks rows =
       let there = row_there here rows
       in let found = shape_word_ends (row_of there.0).shape here marks there.0 refl there.1
       in ends_by_word (state here outer (Marked marks)) found.word found.step.turn found.step.begins found.step.ends
 
--- what is known of a state that a reader comes to: where it has read marks, the level has rows; where it has read a head, that wants a name
+-- what is known of a state that a reader comes to: where it has read marks, the level has rows; where it has read a head, that needs a name
 abbrev pub IsFair : Phase → Level → Type 0
 IsFair Between here = Unit {0}
 IsFair (Marked marks) here = HasRows here

@@ -110,7 +110,7 @@ begins_fewer tokens m n l h =
     subst (λ (ts : List Lexed). Begins ts) (take-take m n tokens l)
     (begins_front (take m (take n tokens)) (drop m (take n tokens)) (subst (λ (ts : List Lexed). Begins ts) (sym (take-append-drop m (take n tokens))) h))
 
--- no token behind the end of the beginning begins a text
+-- no token after the end of the beginning begins a text
 pub not_behind : (tokens : List Lexed) (one two : ℕ) → IsEndOfBeginning tokens one → two ≤ length tokens → Begins (take two tokens) → one < two → ⊥
 not_behind tokens one two end within begins l = end.no_more (omega (arith, within, l)) (begins_fewer tokens (one + 1) two (omega (arith, l)) begins)
 

@@ -26,7 +26,7 @@ use Rattle.curly_grammar.specs.Reading.{no_marks, with_mark, ReadState, state, R
 use Rattle.curly_grammar.proofs.RunLemmas.{run_of, goes_join, goes_one, goes_more}
 use Rattle.curly_grammar.proofs.HeadLemmas.{row_stands, row_head, row_alone, fixed_wants_name, rows_there}
 
--- marks behind marks
+-- marks after marks
 abbrev pub with_marks : Marks → List Lexed → Marks
 with_marks marks [] = marks
 with_marks marks (token ∷ tokens) = with_marks (with_mark marks token) tokens
@@ -173,7 +173,7 @@ module _ (here : Level) (outer : List Level) (at : Level) (marks : Marks) (phase
   begins_alone word other row between is not_bare not_fixed h =
       subst (λ (c : Child). BeginsStep c at marks word (quiet between)) (sym (row_alone at.place.row at.place.in_group word other row is not_bare not_fixed [])) h
 
-  -- a name behind its head
+  -- a name after its head
   read_name : (head name : Lexed) (row : ℕ) → IsWord head → IsWord name → Opens here phase at marks head
       → BeginsStep (child_at at head.word []) at marks head.word (quiet (Naming marks at head.word))
       → child_at at head.word name.word ≡ begun.Row row
@@ -185,7 +185,7 @@ module _ (here : Level) (outer : List Level) (at : Level) (marks : Marks) (phase
       (takes_word (state here outer (Naming marks at head.word)) name (whole marks next words) is_name
       (subst (λ (c : Child). NamesStep c at marks head.word name.word (whole marks next words)) (sym is) h)))
 
-  -- a value behind its head
+  -- a value after its head
   read_value : (head value : Lexed) (row : ℕ) (word : List ℕ) → IsWord head → IsWord value → Opens here phase at marks head
       → BeginsStep (child_at at head.word []) at marks head.word (quiet (Valuing marks (below at row (step_of head.word []))))
       → IsCanonicalOf (row_of row).value_kind value.word word
@@ -234,7 +234,7 @@ module _ (here : Level) (outer : List Level) (at : Level) (marks : Marks) (phase
   two_read Bare head word row step e opens is_head is_word is next_is h = absurd h
   two_read Flag head word row step e opens is_head is_word is next_is h = absurd h
 
-  -- a list of values behind its head
+  -- a list of values after its head
   read_list : (head : Lexed) (values : List Lexed) (row : ℕ) (all : List (List ℕ)) → (row_of row).shape ≡ Many → IsWord head → 0 < length values → AllByRecursion IsWord values
       → Opens here phase at marks head → child_at at head.word [] ≡ begun.Row row → AllSpelled (row_of row).value_kind (map word_of values) all
       → next ≡ below at row (step_of head.word []) → words ≡ joined [] all
@@ -303,7 +303,7 @@ lead_parts at marks part (next ∷ more) items last h = record {
   items_are = h.6;
 }
 
--- further steps behind a level
+-- further steps after a level
 pub goes_steps : (more : List Part) (here : Level) (outer : List Level) (level last : Level) (items : List (Pair Value)) → (0 < length more → is_open level ≡ true)
     → LeadTo level [] more items last → Goes (state here outer (After level)) (flat_map spell_part more) (run_of (state here outer (After last)) items [])
 goes_steps [] here outer level last items opens h =
@@ -320,7 +320,7 @@ goes_steps (part ∷ more) here outer level last items opens h =
     (goes_steps more here outer parts.level last parts.others parts.opens parts.rest))
 
 module _ (here : Level) (outer : List Level) (first : Part) (more : List Part) (items : List (Pair Value)) (last : Level) where
-  -- the steps of a statement behind its marks
+  -- the steps of a statement after its marks
   goes_first : (phase : Phase) (marks : List Lexed) → Opens here phase here (with_marks no_marks marks) (head_of first) → LeadTo here marks (first ∷ more) items last
       → Goes (state here outer phase) (flat_map spell_part (first ∷ more)) (run_of (state here outer (After last)) items (tagged marks items))
   goes_first phase marks opens h =
@@ -343,7 +343,7 @@ mark_taken phase here outer marks token rows h taken =
     takes_word (state here outer phase) token (quiet (Marked (with_mark marks token))) (mark_is_word token h)
     (taken (subst (λ (b : Bool). TakesFirst b here marks token (quiet (Marked (with_mark marks token)))) (sym h) (rows, refl)))
 
--- marks behind marks
+-- marks after marks
 pub goes_marks : (tokens : List Lexed) (here : Level) (outer : List Level) (marks : Marks) → HasRows here → AllByRecursion (λ token. is_mark token ≡ true) tokens
     → Goes (state here outer (Marked marks)) tokens (silent (state here outer (Marked (with_marks marks tokens))))
 goes_marks [] here outer marks rows are = refl

@@ -1,4 +1,4 @@
--- The row that a word begins, alone and with the word behind it.
+-- The row that a word begins, alone and with the word after it.
 use Rattle.std.proofs.Common.{◌≡◌, ◌≢◌, ℕ, zero, suc, ◌<◌, Bool, true, false, cond, List, [], ◌∷◌, length, filter, refl, sym, ap, subst, ◌∙◌, inl, inr, arith}
 use Rattle.std.proofs.lemmas.List.{length-map}
 use Rattle.cfg_base.specs.declared.kind.Kind.{Kind}
@@ -47,7 +47,7 @@ module _ (parent : ℕ) (in_group : Bool) (word next : List ℕ) (row : ℕ) (be
       by_case (inl h) = absurd (h.0.1 bare)
       by_case (inr h) = h.0
 
-  -- the name of a Fixed row is the word behind its head
+  -- the name of a Fixed row is the word after its head
   pub row_name : (row_of row).shape ≡ Fixed → name_of row ≡ next
   row_name fixed = by_case (begins_there (begun.Row row) parent in_group word next begun_is)
     where
@@ -55,7 +55,7 @@ module _ (parent : ℕ) (in_group : Bool) (word next : List ℕ) (row : ℕ) (be
       by_case (inl h) = h.1 fixed
       by_case (inr h) = let e : Fixed ≡ Bare = sym fixed ∙ h.2 in cc
 
-  -- a row that isn't Fixed is begun by its head, whatever stands behind it
+  -- a row that isn't Fixed is begun by its head, whatever stands after it
   pub row_alone : (row_of row).shape ≢ Bare → (row_of row).shape ≢ Fixed → (other : List ℕ) → child_of parent in_group word other ≡ begun.Row row
   row_alone not_bare not_fixed other = head_begins_row parent in_group word other row (row_head not_bare) (λ e. absurd (not_fixed e))
 
@@ -63,7 +63,7 @@ module _ (parent : ℕ) (in_group : Bool) (word next : List ℕ) (row : ℕ) (be
 pub fixed_begun : (parent : ℕ) (in_group : Bool) (word : List ℕ) (row : ℕ) → HasHead parent in_group word row → child_of parent in_group word (name_of row) ≡ begun.Row row
 fixed_begun parent in_group word row head = head_begins_row parent in_group word (name_of row) row head (λ e. refl)
 
--- a shape that is no other than Fixed wants a name
+-- a shape that is no other than Fixed needs a name
 naming_as : (shape : Shape) (kind : Kind) (row : ℕ) (at : Level) (marks : Marks) (word : List ℕ) → (shape ≢ Fixed → ⊥) → BeginsAs shape kind row at marks word (quiet (Naming marks at word))
 naming_as Fixed kind row at marks word h = refl
 naming_as Keyed kind row at marks word h = refl
@@ -73,7 +73,7 @@ naming_as Leaf kind row at marks word h = absurd (h (λ e. cc))
 naming_as Flag kind row at marks word h = absurd (h (λ e. cc))
 naming_as Many kind row at marks word h = absurd (h (λ e. cc))
 
--- the head of a Fixed row wants a name
+-- the head of a Fixed row needs a name
 pub fixed_wants_name : (at : Level) (marks : Marks) (word : List ℕ) (row : ℕ) → HasHead at.place.row at.place.in_group word row → (row_of row).shape ≡ Fixed
     → BeginsStep (child_at at word []) at marks word (quiet (Naming marks at word))
 fixed_wants_name at marks word row head fixed = by_child (child_at at word []) refl (child_begins at.place.row at.place.in_group word [])

@@ -25,7 +25,7 @@ use Rattle.curly_grammar.specs.Reading.{no_marks, with_mark, ReadState, state, s
 use Rattle.curly_grammar.proofs.HeadLemmas.{row_alone}
 use Rattle.curly_grammar.proofs.GoesLemmas.{with_marks, item_said, tag_said, other_shape}
 
--- a text of a level, and behind it what is so
+-- a text of a level, and after it what is so
 pub record TextThen (P : List Lexed → List (Pair Value) → List (List Step) → Type 0) (here : Level) (tokens : List Lexed) (items : List (Pair Value)) (tags : List (List Step)) : Type 0 where
   pub text : Text
   pub behind : List Lexed
@@ -48,7 +48,7 @@ Closes (up ∷ outer) tokens items tags = (behind : List Lexed) × (tokens ≡ s
 abbrev pub Finishes : Level → List Level → List Lexed → List (Pair Value) → List (List Step) → Type 0
 Finishes here outer tokens items tags = TextThen (Closes outer) here tokens items tags
 
--- the end of a statement, and what is left behind it
+-- the end of a statement, and what is left after it
 record EndsShort (here : Level) (outer : List Level) (tokens : List Lexed) (items : List (Pair Value)) (tags : List (List Step)) : Type 0 where
   behind : List Lexed
   spelled : tokens ≡ sign kind.Semicolon ∷ behind
@@ -63,7 +63,7 @@ record EndsInBraces (last here : Level) (outer : List Level) (tokens : List Lexe
 abbrev Ends : Level → Level → List Level → List Lexed → List (Pair Value) → List (List Step) → Type 0
 Ends last here outer tokens items tags = EndsShort here outer tokens items tags ⊎ EndsInBraces last here outer tokens items tags
 
--- what is left behind a whole step: further steps, and the end of the statement
+-- what is left after a whole step: further steps, and the end of the statement
 record Tail (at here : Level) (outer : List Level) (tokens : List Lexed) (items : List (Pair Value)) (tags : List (List Step)) : Type 0 where
   more : List Part
   last : Level
@@ -171,7 +171,7 @@ Left (After level) here outer tokens items tags = Tail level here outer tokens i
 abbrev LeftOf : ReadState → List Lexed → List (Pair Value) → List (List Step) → Type 0
 LeftOf s tokens items tags = Left s.phase s.here s.outer tokens items tags
 
--- a first step and those behind it
+-- a first step and those after it
 lead_whole : (more : List Part) (at : Level) (marks : List Lexed) (part : Part) (level : Level) (words : List (List ℕ)) (own : List (Pair Value)) (last : Level)
     → LeadsTo at part level words → (0 < length more → is_open level ≡ true) → LeadTo level [] more own last
     → LeadTo at marks (part ∷ more) (said marks level words ∷ own) last
@@ -182,7 +182,7 @@ lead_whole [] at marks part level words own last leads opens rest = (
 )
 lead_whole (next ∷ more) at marks part level words own last leads opens rest = (level, words, own, leads, opens (omega arith), rest, refl)
 
--- a statement with its marks, and what is left behind it
+-- a statement with its marks, and what is left after it
 finished : (marks : List Lexed) (first : Part) (level here : Level) (words : List (List ℕ)) (outer : List Level) (tokens : List Lexed) (items : List (Pair Value)) (tags : List (List Step))
     → AllByRecursion (λ token. is_mark token ≡ true) marks → is_mark (head_of first) ≡ false → LeadsTo here first level words
     → Tail level here outer tokens items tags
@@ -252,7 +252,7 @@ finished marks first level here words outer tokens items tags are none leads tai
         }
 
 module _ (here : Level) (outer : List Level) (tokens : List Lexed) (items : List (Pair Value)) (tags : List (List Step)) where
-  -- what is left behind a turn is what is left of a step
+  -- what is left after a turn is what is left of a step
   abbrev LeavesStep : Level → Marks → Lexed → Turn → Type 0
   LeavesStep at marks head turn = Left turn.phase here outer tokens items tags → StepLeft at marks head here outer tokens (turn.items ++ items) (turn.tags ++ tags)
 
@@ -378,7 +378,7 @@ module _ (here : Level) (outer : List Level) (tokens : List Lexed) (items : List
       by_child (begun.BadName row) is h = naming_left at marks head turn is_word h
       by_child (begun.Row row) is h = as_left (row_of row).shape at marks head row turn refl is_word is h
 
-  -- a name behind its head
+  -- a name after its head
   name_left : (marks : Marks) (at : Level) (head : List ℕ) (name : Lexed) (row : ℕ) (step : Step) (turn : Turn) → IsWord name → child_at at head name.word ≡ begun.Row row
       → ((first : Lexed) → first.word ≡ head → StandsFor (row_of row).shape (row_of row).name_kind (row_of row).value_kind at.place.in_group (Two first name) step [])
       → turn ≡ whole marks (below at row step) []
@@ -433,7 +433,7 @@ module _ (here : Level) (outer : List Level) (tokens : List Lexed) (items : List
       by_child (begun.BadName row) is h = absurd h
       by_child (begun.Row row) is h = names_as_left (row_of row).shape marks at head name row turn refl is_word is h
 
-  -- a value behind its head
+  -- a value after its head
   value_left : (marks : Marks) (level : Level) (value : Lexed) (turn : Turn) → IsWord value → IsValued level value.word (λ word. whole marks level (word ∷ [])) turn
       → Left turn.phase here outer tokens items tags → ValuingLeft marks level here outer (value ∷ tokens) (turn.items ++ items) (turn.tags ++ tags)
   value_left marks level value turn is_word h =
@@ -470,7 +470,7 @@ module _ (here : Level) (outer : List Level) (tokens : List Lexed) (items : List
         tags_are = left.tags_are;
       })
 
-  -- a first step without marks in front
+  -- a first step without marks before it
   step_finishes : (token : Lexed) (more_items : List (Pair Value)) (more_tags : List (List Step)) → is_mark token ≡ false → StepLeft here no_marks token here outer tokens more_items more_tags
       → Finishes here outer (token ∷ tokens) more_items more_tags
   step_finishes token more_items more_tags none left =
@@ -481,7 +481,7 @@ module _ (here : Level) (outer : List Level) (tokens : List Lexed) (items : List
       (subst (λ (ts : List (List Step)). Finishes here outer (spell_part left.part ++ left.behind) (item_of no_marks left.level left.words ∷ left.others) ts) (sym left.tags_are)
       whole_statement))
 
-  -- marks and what is left behind them
+  -- marks and what is left after them
   marks_finish : (token : Lexed) → is_mark token ≡ true → MarkedLeft (with_mark no_marks token) here outer tokens items tags → Finishes here outer (token ∷ tokens) items tags
   marks_finish token is left =
       let marks : List Lexed = token ∷ left.more
@@ -538,7 +538,7 @@ module _ (here : Level) (outer : List Level) (tokens : List Lexed) (items : List
         tags_are = left.tags_are;
       }
 
-  -- a further step behind a level
+  -- a further step after a level
   after_left : (level : Level) (token : Lexed) (turn : Turn) → IsWord token → is_open level ≡ true → BeginsStep (child_at level token.word []) level no_marks token.word turn
       → Left turn.phase here outer tokens items tags → Tail level here outer (token ∷ tokens) (turn.items ++ items) (turn.tags ++ tags)
   after_left level token turn is_word opens h more =
@@ -586,7 +586,7 @@ some_spelled kind [] [] h l = absurd (omega (arith, l))
 some_spelled kind [] (word ∷ all) h l = absurd h
 some_spelled kind (value ∷ values) all h l = omega arith
 
--- what is left behind a run is left behind its tokens
+-- what is left after a run is left after its tokens
 abbrev LeavesAll : ReadState → List Lexed → Run → List Lexed → List (Pair Value) → List (List Step) → Type 0
 LeavesAll s before run tokens items tags = LeftOf run.state tokens items tags → LeftOf s (before ++ tokens) (run.items ++ items) (run.tags ++ tags)
 
@@ -733,7 +733,7 @@ module _ (s : ReadState) (token : Lexed) (run : Run) (tokens : List Lexed) (item
   by_kind_left kind.Bare e h = word_to_left (ap is_word_kind e) h
   by_kind_left kind.Quoted e h = word_to_left (ap is_word_kind e) h
 
-  -- what is left behind a token
+  -- what is left after a token
   taken_left : Takes s token run → LeavesAll s (token ∷ []) run tokens items tags
   taken_left h = by_kind_left token.kind refl h
 

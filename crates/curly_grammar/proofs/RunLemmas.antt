@@ -1,4 +1,4 @@
--- Runs over tokens: one behind another, in parts, and at most one over the same tokens.
+-- Runs over tokens: one after another, in parts, and at most one over the same tokens.
 use Rattle.std.proofs.Common.{◌≡◌, ℕ, List, [], ◌∷◌, ◌++◌, Bool, true, false, refl, sym, ap, subst, ◌∙◌, append-nil, append_assoc}
 use Rattle.cfg_base.specs.declared.kind.Kind.{Kind}
 use Rattle.cfg_base.specs.declared.kind.Shape.{Shape}
@@ -34,7 +34,7 @@ then-silent a =
     ap (λ (xs : List (Pair Value)). run_of a.state xs (a.tags ++ [])) (append-nil a.items)
     ∙ ap (λ (xs : List (List Step)). run_of a.state a.items xs) (append-nil a.tags)
 
--- one run behind another
+-- one run after another
 pub goes_join : (xs ys : List Lexed) (s : ReadState) (one two : Run) → Goes s xs one → Goes one.state ys two → Goes s (xs ++ ys) (and_then one two)
 goes_join [] ys s one two a b =
     subst (λ (r : Run). Goes r.state ys two → Goes s ys (and_then r two)) (sym a) (λ g. g) b

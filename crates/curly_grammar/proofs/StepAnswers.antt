@@ -32,7 +32,7 @@ module _ (at : Level) (marks : Marks) (row : ℕ) (name_kind : Kind) (answer : R
       subst (λ (s : Shape). Answers (BeginsAs s name_kind row at marks word) BadValue answer) (sym e)
       (subst (λ (bytes : List ℕ). Answers (IsNamed at.place.in_group name_kind word marks (λ name. below at row (step_of bytes name))) BadValue answer) f h)
 
-  -- a name behind its head
+  -- a name after its head
   pub keyed_answers : (shape : Shape) (own head word : List ℕ) → shape ≡ Keyed → own ≡ head
       → Answers (IsNamed at.place.in_group name_kind word marks (λ name. below at row (step_of own name))) BadValue answer
       → Answers (NamesAs shape name_kind row at marks head word) BadValue answer
@@ -41,7 +41,7 @@ module _ (at : Level) (marks : Marks) (row : ℕ) (name_kind : Kind) (answer : R
       (subst (λ (bytes : List ℕ). Answers (IsNamed at.place.in_group name_kind word marks (λ name. below at row (step_of bytes name))) BadValue answer) f h)
 
 module _ (at : Level) (marks : Marks) (head word : List ℕ) where
-  -- a name behind the head of a row
+  -- a name after the head of a row
   pub name_answers : (child : Child) (id : ℕ) (row : Row) (answer : Result Effect Stop) → child ≡ begun.Row id → row ≡ row_of id
       → Answers (NamesAs row.shape row.name_kind row.id at marks head word) BadValue answer
       → Answers (NamesStep child at marks head word) BadValue answer

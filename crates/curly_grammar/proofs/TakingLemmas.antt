@@ -69,7 +69,7 @@ value_listed old marks level words new token (Err (Refused reason)) h = record {
 }
 value_listed old marks level words new token (Err NoMemory) h = tt
 
--- `;` behind a step
+-- `;` after a step
 pub semicolon_taken : (old : Reader) (level : Level) → old.phase ≡ After level → IsTaken old (lexed kind.Semicolon []) (in_phase old Between)
 semicolon_taken old level e = record {
   one = turned (state_in old) (quiet Between);
@@ -82,7 +82,7 @@ silent_said : (run : Run) (s : ReadState) → record { state = s; items = run.it
 silent_said run s =
     ap (λ (xs : List (Pair Value)). run_of s xs run.tags) (sym (append-nil run.items)) ∙ ap (λ (ts : List (List Step)). run_of s (run.items ++ []) ts) (sym (append-nil run.tags))
 
--- `{` behind a level
+-- `{` after a level
 pub open_taken : (old new : Reader) (level inside : Level) → old.phase ≡ After level → true ≡ is_open level → inside ≡ level → HasEntered old inside new
     → IsTaken old (lexed kind.OpenBrace []) new
 open_taken old new level inside e opens same h =
@@ -134,7 +134,7 @@ no_brace (After level) s run h t = t
 pub brace_refused : (old : Reader) → (old.phase ≡ Between → ⊥) → IsNotTaken old (lexed kind.CloseBrace []) Unexpected old
 brace_refused old h = record { why = refl; never = λ one taken. no_brace old.phase (state_in old) one h taken; same = refl }
 
--- `[` behind the head of a statement with a list
+-- `[` after the head of a statement with a list
 pub list_taken : (old : Reader) (marks : Marks) (level copy : Level) (words : List (List ℕ)) → old.phase ≡ Valuing marks level → true ≡ is_many (row_of level.place.row).shape
     → copy ≡ level → words ≡ [] → IsTaken old (lexed kind.OpenBracket []) (in_phase old (Listing marks copy words))
 list_taken old marks level copy words e many same none = record {
@@ -146,7 +146,7 @@ list_taken old marks level copy words e many same none = record {
       ∙ nothing_said old (Listing marks level []);
 }
 
--- `]` behind the values of a list
+-- `]` after the values of a list
 pub list_ended : (old new : Reader) (marks : Marks) (level : Level) (words : List (List ℕ)) (answer : Result Effect Stop) (result : Result (Unit {0}) Stop)
     → old.phase ≡ Listing marks level words → Answers (IsListEnd marks level words) Unexpected answer → Follows old answer new result
     → HasTaken old (lexed kind.CloseBracket []) new result

@@ -41,7 +41,7 @@ use Rattle.curly_grammar.proofs.GoesLemmas.{goes_marks, goes_statement, goes_tex
 use Rattle.curly_grammar.proofs.LeftLemmas.{IsLexed, shape_many, sign_is, some_spelled}
 use Rattle.curly_grammar.proofs.EndLemmas.{are_lexed, all_front, end_of_beginning}
 
--- one text behind another
+-- one text after another
 abbrev append_text : Text → Text → Text
 append_text End other = other
 append_text (Short marks first more rest) other = Short marks first more (append_text rest other)
@@ -84,7 +84,7 @@ tells_append (Block marks first more body rest) other here items others tags oth
   ap (λ (ts : List (List Step)). ts ++ other_tags) h.11 ∙ simp append_assoc,
 )
 
--- statements behind statements
+-- statements after statements
 append_statements : (here : Level) (xs ys : List Lexed) → AreStatements here xs → AreStatements here ys → AreStatements here (xs ++ ys)
 append_statements here xs ys a b = record {
   text = append_text a.text b.text;
@@ -164,7 +164,7 @@ record Led (outer : List Level) (here : Level) (tokens : List Lexed) (level : Le
   in_text : InText outer here tokens own
   statement : IsStatement here own level
 
--- a statement whose head stands behind a step's beginning, and which wants its name
+-- a statement whose head stands after a step's beginning, and which needs its name
 record NamingAt (outer : List Level) (here at : Level) (head : List ℕ) (tokens : List Lexed) : Type 0 where
   before : List Lexed
   first : Lexed
@@ -173,7 +173,7 @@ record NamingAt (outer : List Level) (here at : Level) (head : List ℕ) (tokens
   begins : BeginsStepAt outer here before first at
   joined_are : tokens ≡ before ++ first ∷ []
 
--- a head that wants its values
+-- a head that needs its values
 record ValuingAt (outer : List Level) (here level : Level) (tokens : List Lexed) : Type 0 where
   before : List Lexed
   first : Lexed
@@ -255,7 +255,7 @@ module _ (outer : List Level) (here : Level) where
         };
       }
 
-  -- the same, behind tokens that are these
+  -- the same, after tokens that are these
   step_led_by : (tokens before : List Lexed) (at level : Level) (part : Part) (words : List (List ℕ)) → tokens ≡ before ++ spell_part part
       → BeginsStepAt outer here before (head_of part) at → LeadsTo at part level words → Led outer here tokens level
   step_led_by tokens before at level part words e begins leads = subst (λ (ts : List Lexed). Led outer here ts level) (sym e) (step_led before at level part words begins leads)
@@ -359,7 +359,7 @@ module _ (outer : List Level) (here : Level) where
       by_child (begun.BadName row) is h = absurd h
       by_child (begun.Row row) is h = names_as_come (row_of row).shape marks at head tokens name row turn refl n is_word is h
 
-  -- a value behind its head
+  -- a value after its head
   module _ (level : Level) (tokens : List Lexed) (v : ValuingAt outer here level tokens) where
     not_bare : ((row_of v.row).shape ≡ Leaf) ⊎ ((row_of v.row).shape ≡ Many) → (row_of v.row).shape ≡ Bare → ⊥
     not_bare (inl e) = other_shape (row_of v.row).shape Leaf Bare e (λ x. cc)
@@ -419,7 +419,7 @@ module _ (outer : List Level) (here : Level) where
   word_comes (Listing marks level words) tokens token turn r is_word h = listed_comes marks level words tokens token turn r is_word h
   word_comes (After level) tokens token turn r is_word h = further_comes (is_open level) level tokens token turn refl r is_word h
 
--- how a text stands behind a run
+-- how a text stands after a run
 abbrev ReachedBy : Run → List Lexed → Type 0
 ReachedBy run tokens = Reached run.state.phase run.state.here run.state.outer tokens
 
@@ -536,7 +536,7 @@ module _ (s : ReadState) (token : Lexed) (run : Run) (tokens : List Lexed) (lexe
   by_kind_comes kind.Bare e h = word_to_comes (ap is_word_kind e) h
   by_kind_comes kind.Quoted e h = word_to_comes (ap is_word_kind e) h
 
--- how a text stands behind tokens that are taken one after another
+-- how a text stands after tokens that are taken one after another
 goes_reached : (tokens : List Lexed) (s : ReadState) (run : Run) (before : List Lexed) → AllByRecursion IsLexed tokens → Reached s.phase s.here s.outer before → Goes s tokens run
     → ReachedBy run (before ++ tokens)
 goes_reached [] s run before are r h =

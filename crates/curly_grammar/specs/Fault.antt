@@ -1,4 +1,4 @@
--- The leftmost fault of a text that isn't read. Its place is told by the grammar alone. Which faults there are is this project's own.
+-- The leftmost fault of a text that isn't read. Its place is determined by the grammar alone. Which faults there are is this project's own.
 use Rattle.std.specs.Prelude.{◌≡◌, ◌≤◌, ◌<◌, ◌+◌, ℕ, List, [], ◌++◌, length, map, take, min, slice_get}
 use Rattle.std.specs.Prelude.{Bool, true, false, Option, Some, None}
 use Rattle.cfg_base.specs.declared.path.Step.{Step}
@@ -36,7 +36,7 @@ abbrev pub why_no_statement : Bool → Level → Lexed → Why
 why_no_statement true here token = Unexpected
 why_no_statement false here token = why_no_step (child_at here token.word [])
 
--- a word behind a step: a level may have a further one, and any other statement has to end
+-- a word after a step: a level may have a further one, and any other statement has to end
 abbrev pub why_no_more : Bool → Level → List ℕ → Why
 why_no_more true level word = why_no_step (child_at level word [])
 why_no_more false level word = Unexpected

@@ -39,7 +39,7 @@ sign kind = lexed kind []
 abbrev pub IsWord : Lexed → Type 0
 IsWord token = is_word_kind token.kind ≡ true
 
--- the marks that a statement may have in front; the same words in quotes are none
+-- the marks that a statement may have before it; the same words in quotes are none
 abbrev pub is_inactive : Lexed → Bool
 is_inactive token = is_bare_word (mark_word Inactive) token
 
@@ -78,7 +78,7 @@ spell (Short marks first more rest) = marks ++ (flat_map spell_part (first ∷ m
 spell (Block marks first more body rest) =
     marks ++ (flat_map spell_part (first ∷ more) ++ sign kind.OpenBrace ∷ (spell body ++ sign kind.CloseBrace ∷ spell rest))
 
--- the first word of a step, and the word behind it, if there is one alone
+-- the first word of a step, and the word after it, if there is one alone
 abbrev pub head_of : Part → Lexed
 head_of (One word) = word
 head_of (Two head word) = head
@@ -200,7 +200,7 @@ pub record Reads (text : List ℕ) (m : Statements) (tags : List (List Step)) : 
   pub derives : Derives (map (lexed_in text) tokens) items tags
   pub joins : m ≡ stated_from_none items
 
--- tokens begin a text: with some others behind them they are derived by the grammar
+-- tokens begin a text: with some others after them they are derived by the grammar
 pub record Begins (tokens : List Lexed) : Type 0 where
   pub more : List Lexed
   pub items : List (Pair Value)

@@ -23,7 +23,7 @@ state_in reader = record { here = reader.here; outer = reverse reader.outer.item
 abbrev pub run_in : Reader → Run
 run_in reader = record { state = state_in reader; items = reader.items.items; tags = reader.tags.items }
 
--- a reader behind a turn
+-- a reader after a turn
 abbrev pub IsTurned : Reader → Turn → Reader → Type 0
 IsTurned old turn new = run_in new ≡ and_then (run_in old) (turned (state_in old) turn)
 
@@ -38,7 +38,7 @@ Follows old (Err (Refused reason)) new (Err (Refused told)) = (told ≡ reason) 
 Follows old answer new (Err NoMemory) = Unit {0}
 Follows old answer new result = ⊥
 
--- a token is taken, or refused with its reason, or memory was wanting
+-- a token is taken, or refused with its reason, or memory ran out
 pub record IsTaken (old : Reader) (token : Lexed) (new : Reader) : Type 0 where
   pub one : Run
   pub takes : Takes (state_in old) token one

@@ -1,4 +1,4 @@
--- What the functions behind `parse` answer.
+-- What the functions below `parse` answer.
 use Rattle.std.specs.Prelude.{◌≡◌, ◌≢◌, ◌⊎◌, ◌≤◌, ◌<◌, ℕ, List, length, take, min, Option, Some, None, Result, Ok, Err, slice_get}
 use Rattle.cfg_base.specs.declared.path.Step.{Step}
 use Rattle.cfg_lex.specs.Lexed.{Lexed}

@@ -127,7 +127,7 @@ BeginsStep begun.Unknown at marks word turn = ⊥
 BeginsStep (begun.BadName row) at marks word turn = turn ≡ quiet (Naming marks at word)
 BeginsStep (begun.Row row) at marks word turn = BeginsAs (row_of row).shape (row_of row).name_kind row at marks word turn
 
--- the name behind a head
+-- the name after a head
 abbrev pub NamesAs : Shape → Kind → ℕ → Level → Marks → List ℕ → List ℕ → Turn → Type 0
 NamesAs Keyed name_kind row at marks head word turn =
     IsNamed at.place.in_group name_kind word marks (λ name. below at row (step_of head name)) turn
@@ -143,7 +143,7 @@ abbrev pub TakesFirst : Bool → Level → Marks → Lexed → Turn → Type 0
 TakesFirst true here marks token turn = HasRows here × (turn ≡ quiet (Marked (with_mark marks token)))
 TakesFirst false here marks token turn = BeginsStep (child_at here token.word []) here marks token.word turn
 
--- a word behind a whole step; the test says whether that is a level
+-- a word after a whole step; the test says whether that is a level
 abbrev pub TakesAfter : Bool → Level → List ℕ → Turn → Type 0
 TakesAfter true level word turn = BeginsStep (child_at level word []) level no_marks word turn
 TakesAfter false level word turn = ⊥

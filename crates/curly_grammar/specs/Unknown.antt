@@ -1,4 +1,4 @@
--- Where a word begins a step, told by the grammar alone: how a text stands up to there. This is this project's own.
+-- Where a word begins a step, determined by the grammar alone: how a text stands up to there. This is this project's own.
 use Rattle.std.specs.Prelude.{◌≡◌, ◌⊎◌, ◌<◌, ℕ, List, [], ◌∷◌, ◌++◌, length, map, take, min, slice_get, true, false, Some}
 use Rattle.std.specs.List.{flat_map, AllByRecursion}
 use Rattle.cfg_base.specs.declared.path.Step.{Step}
@@ -31,7 +31,7 @@ pub record IsStatement (here : Level) (tokens : List Lexed) (last : Level) : Typ
   pub says : Says here marks first more own last
   pub spelled : tokens ≡ marks ++ flat_map spell_part (first ∷ more)
 
--- tokens up to where the text of a level begins, at the top or behind the brace of a statement; the levels around it, from the inside
+-- tokens up to where the text of a level begins, at the top or after the brace of a statement; the levels around it, from the inside
 abbrev pub Enters : List Level → Level → List Lexed → Type 0
 Enters [] here tokens = (here ≡ top_level) × (tokens ≡ [])
 Enters (up ∷ outer) here tokens =
@@ -47,7 +47,7 @@ pub record InText (outer : List Level) (here : Level) (tokens own : List Lexed) 
   pub whole : AreStatements here before
   pub joined : tokens ≡ around ++ (before ++ own)
 
--- behind these tokens a statement of the level begins with this word, which isn't a mark; other marks may stand in front of it
+-- after these tokens a statement of the level begins with this word, which isn't a mark; other marks may stand before it
 pub record BeginsStatement (outer : List Level) (here : Level) (tokens : List Lexed) (word : Lexed) : Type 0 where
   pub marks : List Lexed
   pub in_text : InText outer here tokens marks
@@ -55,14 +55,14 @@ pub record BeginsStatement (outer : List Level) (here : Level) (tokens : List Le
   pub some_rows : 0 < length marks → HasRows here
   pub no_mark : is_mark word ≡ false
 
--- behind these tokens a statement, whose steps lead to this level, may have a further step
+-- after these tokens a statement, whose steps lead to this level, may have a further step
 pub record GoesOn (outer : List Level) (here : Level) (tokens : List Lexed) (level : Level) : Type 0 where
   pub own : List Lexed
   pub in_text : InText outer here tokens own
   pub statement : IsStatement here own level
   pub opens : is_open level ≡ true
 
--- behind these tokens this word begins a step at this level
+-- after these tokens this word begins a step at this level
 abbrev pub BeginsStepAt : List Level → Level → List Lexed → Lexed → Level → Type 0
 BeginsStepAt outer here tokens word level =
     ((level ≡ here) × BeginsStatement outer here tokens word) ⊎ GoesOn outer here tokens level

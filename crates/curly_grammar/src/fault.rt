@@ -4,7 +4,7 @@ ghost use Rattle.curly_grammar.specs.declared.fault.TextFault.TheVariants.{NoMem
 use std::alloc::{AllocError, AllocFailed};
 use thiserror::Error;
 
-/// Why a text isn't read: its leftmost fault, at that byte. A place past 2^32 - 1 is told as 2^32 - 1.
+/// Why a text isn't read: its leftmost fault, at that byte. A place past 2^32 - 1 is reported as 2^32 - 1.
 #[derive(Clone, Copy, Debug, PartialEq, Eq, Error)]
 pub enum TextFault {
     #[error("bad byte at byte {0}")]

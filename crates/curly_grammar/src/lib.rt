@@ -1,7 +1,7 @@
 //! What a curly text says: its grammar, and the reader of such texts.
 //!
 //! Guarantees: a text that the grammar derives is read as the statements that it says; any other has its
-//! leftmost fault, whose place the grammar tells; each text has one reading or one fault.
+//! leftmost fault, whose place the grammar determines; each text has one reading or one fault.
 //! Leaves to others: the tokens (`cfg_lex`), how statements are printed (`curly_print`), and what a load
 //! makes of them.
 #![tactic(auto)]

@@ -73,7 +73,7 @@ fn has_rows(alloc: Global, here: &Level) -> Result<bool, NoMemory>
     Ok(!rows.is_empty())
 }
 
-/// A word where a statement begins, behind its marks.
+/// A word where a statement begins, after its marks.
 pub(crate) fn first_word(
     alloc: Global,
     here: &Level,
@@ -94,7 +94,7 @@ pub(crate) fn first_word(
     Ok(Effect::Phase(Phase::Marked(both(marks, mark))))
 }
 
-/// A word behind a whole step.
+/// A word after a whole step.
 pub(crate) fn further_word(alloc: Global, level: &Level, word: &[u8]) -> Result<Effect, Stop>
     requires { IsPlaced level.now }
     ensures { Answers (TakesAfter (is_open level.now) level.now word.now) (why_no_more (is_open level.now) level.now word.now) result }

@@ -1,7 +1,7 @@
 use crate::level::Level;
 use cfg_base::{Word, Words};
 
-/// Which marks stand in front of a statement.
+/// Which marks stand before a statement.
 #[derive(Clone, Copy, Debug, PartialEq, Eq)]
 pub(crate) struct Marks {
     pub(crate) inactive: bool,
@@ -14,7 +14,7 @@ pub(crate) struct Marks {
 pub(crate) enum Phase {
     /// A statement may begin, or the text of the level end.
     Between,
-    /// Marks stand in front of a statement.
+    /// Marks stand before a statement.
     Marked(Marks),
     /// A head stands at a level, and its name has to come.
     Naming {

@@ -73,7 +73,7 @@ fn naming(alloc: Global, at: &Level, marks: Marks, word: &[u8]) -> Result<Effect
     Ok(Effect::Phase(Phase::Naming { marks, at, head }))
 }
 
-/// A name behind a head, or a bare name.
+/// A name after a head, or a bare name.
 fn named(
     alloc: Global,
     at: &Level,
@@ -136,7 +136,7 @@ pub(crate) fn begin_step(
     }
 }
 
-/// The name behind the head of a row.
+/// The name after the head of a row.
 fn name_row(
     alloc: Global,
     at: &Level,
@@ -162,7 +162,7 @@ fn name_row(
     }
 }
 
-/// The name behind a head.
+/// The name after a head.
 pub(crate) fn name_step(
     alloc: Global,
     at: &Level,

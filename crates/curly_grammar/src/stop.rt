@@ -5,7 +5,7 @@ use crate::fault::Why;
 use cfg_base::NoMemory;
 use std::alloc::{AllocError, AllocFailed};
 
-/// Why a token isn't taken: no text of the grammar goes on so, or memory was wanting.
+/// Why a token isn't taken: no text of the grammar goes on so, or memory ran out.
 #[derive(Clone, Copy, Debug, PartialEq, Eq)]
 pub(crate) enum Stop {
     Refused(Why),

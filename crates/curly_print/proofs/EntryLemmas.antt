@@ -59,7 +59,7 @@ few_sorted zero es h = tt
 few_sorted (suc n) [] h = tt
 few_sorted (suc n) (e ∷ es) h = both_t _ _ (few_after e.0 n es (head_of _ _ h)) (few_sorted n es (tail_of _ _ h))
 
--- of entries in order behind a path those inside it are among the front ones
+-- of entries in order after a path those inside it are among the front ones
 longer_are : (p : List Step) (rest : List FullEntry) → T (is_sorted path_cmp rest) → AllByRecursion (λ j. path_cmp p j ≡ Less) (keys_of rest)
     → filter (λ x. is_inside p x.0) rest ≡ filter (λ x. is_inside p x.0) (front_longer p rest)
 longer_are p [] sorted behind = refl
@@ -90,7 +90,7 @@ longer_are p (x ∷ rest) sorted behind =
         ∙ none_passes p (is_inside p) (inside_part p) rest
         (none_later p x.0 (keys_of rest) (ap is_le behind.0) other (later x.0 rest (head_of _ _ sorted)))
 
--- so those behind an entry right below a path, up to the first that isn't longer, have all that is given below it
+-- so those after an entry right below a path, up to the first that isn't longer, have all that is given below it
 pub at_place : (full : Expansion) (path : List Step) (inside behind : List FullEntry) (at : ℕ) (e : FullEntry) → HasInside full path inside
     → at < length inside → e ≡ get_or inside at e → behind ≡ drop (at + 1) inside → is_child path e.0 ≡ true
     → HasInside full e.0 (front_longer e.0 behind)

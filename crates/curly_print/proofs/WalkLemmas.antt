@@ -41,7 +41,7 @@ walk_begins m new next e = record {
   are = sym (pending_is _ new next e);
 }
 
--- whether the next statement has more steps than one tells whether this one holds others
+-- whether the next statement has more steps than one shows whether this one holds others
 pub held : (m : Statements) → IsTree m → (front old new : List (Pair Value)) (e : Pair Value) (next : Option (Bor (List Step) × Bor Value)) (b : Bool)
     → map.entries m ≡ front ++ e ∷ old → IsNextOf old new next → MatchOption next (b ≡ false) (λ found. b ≡ nat_lt (length e.0) (length found.0.now)) → b ≡ holds m e.0
 held m tree front old new e None b are is told =

@@ -19,7 +19,7 @@ use Rattle.curly_print.specs.Printed.{ended, spaces, value_text, words_line}
 abbrev pub noted_word : Step → List ℕ
 noted_word step = (if length step.name == 0 then step.head else step.name)
 
--- the first and the last line of a note, behind so many spaces
+-- the first and the last line of a note, after so many spaces
 abbrev pub note_edge : ℕ → List ℕ
 note_edge indent = spaces indent ++ codes "##\n"
 
@@ -32,7 +32,7 @@ note_line indent word group =
 abbrev pub note_lines : ℕ → List ℕ → List ℕ → List ℕ
 note_lines indent word group = note_edge indent ++ (note_line indent word group ++ note_edge indent)
 
--- the note before a statement, behind so many spaces: from which group it was inherited; none where it is the configuration's own
+-- the note before a statement, after so many spaces: from which group it was inherited; none where it is the configuration's own
 abbrev pub note_of : ℕ → Step → List ℕ → List ℕ
 note_of indent step [] = []
 note_of indent step (byte ∷ group) = note_lines indent (noted_word step) (byte ∷ group)
@@ -41,7 +41,7 @@ note_of indent step (byte ∷ group) = note_lines indent (noted_word step) (byte
 abbrev pub unmarked_line : Step → List (List ℕ) → List ℕ
 unmarked_line step words = words_line (own_words (step ∷ [])) ++ value_text words
 
--- what is given at a path, behind so many spaces: its note, its line, and what stands in it
+-- what is given at a path, after so many spaces: its note, its line, and what stands in it
 abbrev pub given_text : ℕ → Step → Option Given → List ℕ → List ℕ
 given_text indent step None body = []
 given_text indent step (Some given) body =

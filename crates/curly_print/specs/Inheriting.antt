@@ -24,7 +24,7 @@ given_entries full path = filter (λ e. is_child path e.0) (finite.entries full)
 abbrev pub given_inside : Expansion → List Step → List FullEntry
 given_inside full path = filter (λ e. is_inside path e.0) (finite.entries full)
 
--- of those behind a path the ones up to the first that isn't longer
+-- of those after a path the ones up to the first that isn't longer
 abbrev pub front_longer : List Step → List FullEntry → List FullEntry
 front_longer path behind = take (prefix_len (λ e. nat_lt (length path) (length e.0)) behind) behind
 
@@ -33,7 +33,7 @@ pub record HasInside (full : Expansion) (path : List Step) (entries : List FullE
   pub all : filter (λ e. is_inside path e.0) entries ≡ given_inside full path
   pub sorted : T (is_sorted path_cmp entries)
 
--- what is given at a path, behind so many spaces, with so many levels below it
+-- what is given at a path, after so many spaces, with so many levels below it
 abbrev pub entry_text : ℕ → Expansion → ℕ → FullEntry → List ℕ
 entry_text levels full indent e = given_text indent (last_of e.0) (Some e.1) (given_below levels full e.0 (indent + 4))
 

@@ -11,7 +11,7 @@ use Rattle.curly_print.specs.Printed.{line_of}
 abbrev pub holds : Statements → List Step → Bool
 holds m path = nat_lt 0 (length (children_of m path))
 
--- the spaces in front of a statement
+-- the spaces before a statement
 abbrev pub indent_of : List Step → ℕ
 indent_of path = 4 * (length path - 1)
 

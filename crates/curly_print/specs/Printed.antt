@@ -17,19 +17,19 @@ use Rattle.cfg_tree.specs.Statements.{Statements, last_of}
 use Rattle.cfg_tree.specs.Children.{children_of}
 use Rattle.cfg_tree.specs.OwnWords.{own_words}
 
--- a mark with a blank behind it
+-- a mark with a blank after it
 abbrev pub mark_text : Mark → List ℕ
 mark_text mark = mark_word mark ++ 32 ∷ []
 
--- the marks of a statement, each with a blank behind it
+-- the marks of a statement, each with a blank after it
 abbrev pub marks_of : Value → List ℕ
 marks_of value = (if value.inactive then mark_text Inactive else []) ++ (if value.protected then mark_text Protect else [])
 
--- words behind one another, a blank between two of them
+-- words after one another, a blank between two of them
 abbrev pub words_line : List (List ℕ) → List ℕ
 words_line words = join_by printed_word (32 ∷ []) words
 
--- the words of a value behind a step: one word as it is, and more in brackets
+-- the words of a value after a step: one word as it is, and more in brackets
 abbrev pub value_text : List (List ℕ) → List ℕ
 value_text [] = []
 value_text (word ∷ []) = 32 ∷ printed_word word
@@ -43,12 +43,12 @@ line_of step value = marks_of value ++ (words_line (own_words (step ∷ [])) ++ 
 abbrev pub spaces : ℕ → List ℕ
 spaces count = replicate count 32
 
--- a statement behind so many spaces ends in `;` where nothing stands in it, and else holds that in braces
+-- a statement after so many spaces ends in `;` where nothing stands in it, and else holds that in braces
 abbrev pub ended : ℕ → List ℕ → List ℕ
 ended indent [] = codes ";\n"
 ended indent (byte ∷ body) = codes " {\n" ++ (byte ∷ body ++ (spaces indent ++ codes "}\n"))
 
--- a statement behind so many spaces, with what stands in it
+-- a statement after so many spaces, with what stands in it
 abbrev pub statement_text : ℕ → Step → Option Value → List ℕ → List ℕ
 statement_text indent step None body = []
 statement_text indent step (Some value) body = spaces indent ++ (line_of step value ++ ended indent body)

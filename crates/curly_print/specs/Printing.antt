@@ -11,16 +11,16 @@ use Rattle.cfg_tree.specs.Statements.{Statements, last_of}
 use Rattle.cfg_tree.specs.Children.{order_in, row_steps, steps_below}
 use Rattle.curly_print.specs.Printed.{statement_text, text_below}
 
--- words, each behind a blank
+-- words, each after a blank
 abbrev pub blank_words : List (List ℕ) → List ℕ
 blank_words words = flat_map (λ word. 32 ∷ printed_word word) words
 
--- a child of a path behind so many spaces, with so many levels below it
+-- a child of a path after so many spaces, with so many levels below it
 abbrev pub child_text : ℕ → Statements → List Step → ℕ → Step → List ℕ
 child_text levels m path indent step =
     statement_text indent step (map.get m (path ++ step ∷ [])) (text_below levels m (path ++ step ∷ []) (indent + 4))
 
--- a statement behind so many spaces, with so many levels below it
+-- a statement after so many spaces, with so many levels below it
 abbrev pub own_text : ℕ → Statements → ℕ → Pair Value → List ℕ
 own_text levels m indent e = statement_text indent (last_of e.0) (Some e.1) (text_below levels m e.0 (indent + 4))
 

@@ -91,7 +91,7 @@ fn count_longer(above: &Entry<'_>, behind: &[Entry<'_>]) -> usize
         .count()
 }
 
-/// Of the entries behind one those up to the first whose path hasn't more steps. All below it are among these.
+/// Of the entries after one those up to the first whose path hasn't more steps. All below it are among these.
 pub(crate) fn front_longer<'a, 'b>(above: &Entry<'_>, behind: &'b [Entry<'a>]) -> &'b [Entry<'a>]
     ensures { result.now ≡ front_longer above.now.0 behind.now }
 {

@@ -1,4 +1,4 @@
-//! How long the whole printed text is, told without memory.
+//! How long the whole printed text is, computed without memory.
 
 ghost use Rattle.std.specs.Prelude.{◌≡◌, ◌≤◌, ◌+◌, [], ◌∷◌, length, min, nat_lt, false, MatchOption};
 ghost use Rattle.cfg_tree.specs.OwnWords.{own_words, word_if_any};

@@ -2,7 +2,7 @@
 //!
 //! Guarantees: `print` gives the text of the statements below a path, in printing order (specs/Printed.antt), and
 //! `print_inherited` that of an expansion, which says of each inherited statement from which group it comes
-//! (specs/Inherited.antt). What inherits nothing and has no marks is printed alike by both. `text_len` tells how long the
+//! (specs/Inherited.antt). What inherits nothing and has no marks is printed alike by both. `text_len` reports how long the
 //! whole text is, without memory.
 //! Leaves to others: how a word is printed (`cfg_lex`), what a text says (`curly_grammar`), and that what is printed is read
 //! as what was printed (`curly_text`).

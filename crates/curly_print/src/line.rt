@@ -29,7 +29,7 @@ pub(crate) fn push_spaces(text: &mut Vec<u8>, count: usize) -> Result<(), NoMemo
     Ok(())
 }
 
-/// Puts a mark at the end of a text, with a blank behind it, where it is set.
+/// Puts a mark at the end of a text, with a blank after it, where it is set.
 fn push_mark(text: &mut Vec<u8>, there: bool, mark: Mark) -> Result<(), NoMemory>
     ensures { OnOk result (text.new.items ≡ text.old.items ++ (if there then mark_text mark else [])) }
 {

@@ -268,7 +268,7 @@ impl<'a> Printer<'a> {
         push_bytes(text, b" {\n".as_slice())?;
         let within = text.len();
         self.push_below(text, path, inside, levels, indent + INDENT)?;
-        // What its order names may not be there, so that only the text tells whether something stands in it.
+        // What its order names may not be there, so that only the text shows whether something stands in it.
         if text.len() == within {
             text.truncate(end);
             return push_bytes(text, b";\n".as_slice());

@@ -15,7 +15,7 @@ use cfg_tree::Tree;
 use printing_order::statements_below;
 use std::alloc::Global;
 
-/// How many spaces a level stands behind the one above it.
+/// How many more spaces a level has than the one above it.
 pub(crate) const INDENT: usize = 4;
 
 pub(crate) fn is_level(shape: Shape) -> bool

@@ -37,7 +37,7 @@ protect_made false = nothing_made
 marks_made : (value : Value) → Closed (marks_of value) (mark_tokens value)
 marks_made value = closed_closed (inactive_made value.inactive) (protect_made value.protected)
 
--- words behind one another
+-- words after one another
 abbrev pub word_tokens : List (List ℕ) → List Lexed
 word_tokens words = each lexed_word words
 

@@ -1,4 +1,4 @@
--- Bytes and the tokens that they are read as, in front of what follows.
+-- Bytes and the tokens that they are read as, before what follows.
 use Rattle.std.proofs.Common.{◌≡◌, ℕ, zero, suc, ◌+◌, ◌<◌, ◌≤◌, true, false, List, [], ◌∷◌, ◌++◌, length, map as each, replicate, refl, sym, ap, subst, ◌∙◌, Option, Some, None, arith, append-nil}
 use Rattle.std.proofs.lemmas.List.{append_assoc}
 use Rattle.cfg_lex.specs.declared.token.Token.{Token}
@@ -32,7 +32,7 @@ begins_more : (xs ys : List Lexeme) (a b c : List ℕ) → BeginsWith xs a b →
 begins_more [] ys a b c h k = subst (λ (text : List ℕ). BeginsWith ys text c) (sym h) k
 begins_more (x ∷ xs) ys a b c h k = (h.0, h.1, h.2, begins_more xs ys h.0 b c h.3 k)
 
--- bytes are read as these tokens in front of what follows
+-- bytes are read as these tokens before what follows
 pub record Makes (bytes : List ℕ) (tokens : List Lexed) (rest : List ℕ) : Type 0 where
   pub lexemes : List Lexeme
   pub begins : BeginsWith lexemes (bytes ++ rest) rest
@@ -49,7 +49,7 @@ makes_both a b rest t u one two = record {
       ∙ ap (λ (ts : List Lexed). t ++ ts) two.lexed_is;
 }
 
--- whatever follows; or in front of what doesn't go on with a bare word
+-- whatever follows; or before what doesn't go on with a bare word
 abbrev pub Closed : List ℕ → List Lexed → Type 0
 Closed bytes tokens = (rest : List ℕ) → Makes bytes tokens rest
 

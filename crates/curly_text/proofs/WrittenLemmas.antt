@@ -169,7 +169,7 @@ module _ (here next : Place) (step : Step) (led : place_after here step ≡ Some
   written_level Flag e level named = cc
   written_level Many e level named = cc
 
-  -- a statement of one word, behind its head
+  -- a statement of one word, after its head
   written_value : (shape : Shape) (word : List ℕ) → (row_of next.row).shape ≡ shape → is_bare shape ≡ false → shape ≢ Fixed → words_of_step step ≡ step.head ∷ []
       → Stands shape (Two (lexed_word step.head) (lexed_word word)) (word ∷ []) → IsWritten here step next (word ∷ [])
   written_value shape word e unbare unfixed own stands =

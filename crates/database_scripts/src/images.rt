@@ -26,7 +26,7 @@ pub(crate) fn left_of(word: &[u8]) -> Result<Left, Fault> {
     }
 }
 
-/// The image after a call behind which nothing is pending.
+/// The image after a call that leaves nothing pending.
 fn plain_image(alloc: Global, disk: &MemDisk, call: u64) -> Result<MemDisk, Fault> {
     torn_image(alloc, disk, call, 0, Bytes::empty(alloc))
 }

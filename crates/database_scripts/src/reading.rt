@@ -9,7 +9,7 @@ use script_lines::{Fault, Text, say_counted, say_flag, say_text};
 use std::alloc::Global;
 use std::sync::Arc;
 
-/// The active configuration of a view, behind its count of entries.
+/// The active configuration of a view, after its count of entries.
 fn say_view(alloc: Global, out: &mut Text, front: u64, view: &Shown) {
     say_counted(out, "front", front);
     match print(alloc, view.active(), &Path::top(alloc)) {
@@ -18,7 +18,7 @@ fn say_view(alloc: Global, out: &mut Text, front: u64, view: &Shown) {
     }
 }
 
-/// A deadline that was missed, behind the count of entries.
+/// A deadline that was missed, after the count of entries.
 fn say_due(out: &mut Text, front: u64, deadline: u64) {
     say_counted(out, "front", front);
     say_counted(out, "due at", deadline);

@@ -193,7 +193,7 @@ impl Resting {
         Resting::of(alloc, a, b)
     }
 
-    /// What is left of a database that was closed, of which it is told whether an entry is in flight still, how many events there
+    /// What is left of a database that was closed, of which it is reported whether an entry is in flight still, how many events there
     /// are and how many calls were made.
     pub(crate) fn closed(book: ClosedBook<MemDisk>, out: &mut Text) -> Resting {
         let ClosedBook {
@@ -286,7 +286,7 @@ impl Resting {
         calls
     }
 
-    /// What a start finds after a crash behind so many calls.
+    /// What a start finds after a crash that follows so many calls.
     fn say_found_behind<R: Wait>(
         &self,
         rt: &R,
@@ -300,7 +300,7 @@ impl Resting {
         Ok(())
     }
 
-    /// found a|b CALL old|new|BYTE: what a start finds after a crash behind that call
+    /// found a|b CALL old|new|BYTE: what a start finds after a crash that follows that call
     pub(crate) fn say_found_after<R: Wait>(
         &self,
         rt: &R,

@@ -88,7 +88,7 @@ fn look<R: Wait, J: Naming>(rt: &R, book: &mut Database<MemDisk, J>, moment: Mom
 }
 
 impl<J: Naming> Running<J> {
-    /// A database that was opened, of whose users this tells that each is in operational mode. No reader is taken.
+    /// A database that was opened, of whose users this says that each is in operational mode. No reader is taken.
     pub(crate) fn of(
         alloc: Global,
         book: Database<MemDisk, J>,

@@ -12,7 +12,7 @@ pub data Call : Type 0 where
   Write : (at : ℕ) (bytes : List ℕ) → Call
   -- a write of so many bytes at a place, which failed and left the contents as they were
   Missed : (at count : ℕ) → Call
-  -- a sync; `cleared` tells whether nothing is pending after it
+  -- a sync; `cleared` says whether nothing is pending after it
   Sync : (cleared : Bool) → Call
   -- a failed call of which nothing but the count is told: it changed nothing
   Refused : Call
@@ -182,7 +182,7 @@ pub record HasCause (before now : ℕ) (failed : Type 0) : Type 0 where
   pub later : before ≤ now
   pub rose : failed → Rose before now
 
--- a fact of the length that was told
+-- a fact of the length that was reported
 abbrev pub IfLen : DiskLen → (ℕ → Type 0) → Type 0
 IfLen (Len n) P = P n
 IfLen LenFailed P = Unit {0}

@@ -1,7 +1,7 @@
 ghost use Rattle.std.specs.Prelude.{◌≡◌, ◌≤◌, ◌<◌, ◌+◌, ◌^◌, ℕ, Bool, length, IsTrue};
 ghost use Rattle.disk_model.specs.Disk.{DiskView, contents_of, TookNoEffect, Wrote, Synced, Gives, HasCause, IfLen, IfRead};
 
-/// A length, if it could be told.
+/// A length, if it could be read.
 #[derive(Clone, Copy, Debug, PartialEq, Eq)]
 pub enum DiskLen {
     Len(u64),

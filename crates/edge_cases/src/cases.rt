@@ -79,7 +79,7 @@ where
     say_text(rt, "edge/dave.out")
 }
 
-/// A commit the last of whose syncs fails, and all syncs behind it: its entry stays in flight, and stands in the file.
+/// A commit the last of whose syncs fails, and all syncs after it: its entry stays in flight, and stands in the file.
 fn say_fault<R>(rt: &R, standard: Standard) -> io::Result<()>
 where
     R: Threads

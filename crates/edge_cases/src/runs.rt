@@ -49,7 +49,7 @@ where
     }
 }
 
-/// Does what the words of a text ask, and says what came of it.
+/// Does what the words of a text ask, and says what resulted.
 pub(crate) fn say_run<R>(rt: &R, text: &str, standard: Standard) -> io::Result<()>
 where
     R: Threads
@@ -93,7 +93,7 @@ where
     }
 }
 
-/// Does what the words of a text ask, over disks that fail, and says what came of it.
+/// Does what the words of a text ask, over disks that fail, and says what resulted.
 pub(crate) fn say_failing<R>(rt: &R, text: &str, standard: Standard) -> io::Result<()>
 where
     R: Threads

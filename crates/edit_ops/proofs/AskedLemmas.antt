@@ -26,7 +26,7 @@ no_words : (ws : List (List ℕ)) → true ≡ (length ws == 0) → ws ≡ []
 no_words [] h = refl
 no_words (w ∷ ws) h = let z = eqb-true (length (w ∷ ws)) 0 (sym h) in absurd (omega (arith, z))
 
--- what words name from the parent, without words behind it
+-- what words name from the parent, without words after it
 pub names_alone : (parent path : List Step) (given slice : List (List ℕ)) (found : Target) → parent ≡ parent_of path → slice ≡ found.words
     → true ≡ (length slice == 0) → ResolvesTo parent given (Ok found) → ResolvesTo (parent_of path) given (Ok (target found.path []))
 names_alone parent path given slice found is_parent is_words empty names =

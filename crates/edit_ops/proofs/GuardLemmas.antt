@@ -92,7 +92,7 @@ less p k (x ∷ ks) e h = by_test _ refl h (less p k ks e)
     by_test false same there go =
         less_by (is_after p x) (is_after k x) x (filter (is_after p) ks) (filter (is_after k) ks) (after_both p k x e) (go there)
 
--- the next statement leaves fewer behind it
+-- the next statement leaves fewer after it
 pub fewer_after : (m : Statements) (before next : List Step) (value : Value) → IsNext m before next value → count_after m next < count_after m before
 fewer_after m before next value n =
     less before next (map.keys m) n.after (sym (map.contains_key-keys m next) ∙ ap is_some n.found)

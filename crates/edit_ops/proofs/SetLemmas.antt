@@ -29,7 +29,7 @@ use Rattle.edit_ops.proofs.WayLemmas.{below_take, below_short, way_whole}
 use Rattle.edit_ops.proofs.NearLemmas.{IsNear, put_near, put_here, put_by_other, put_same, size_new, put_grows, levels-more, levels_near, levels_grow, take_take, front_parent}
 use Rattle.edit_ops.proofs.BlockLemmas.{near_on_way, near_free, near_blocked}
 
--- a put is refused only for want of room, where the value fits
+-- a put is refused only for lack of room, where the value fits
 pub put_fault : (m : Statements) (path : List Step) (value : Value) (fault : TreeFault) → FitsProfile path value → IsPutFault m path value fault
     → IsRoomFault m path (fault_of_put fault)
 put_fault m path value (tree_fault.Unknown refused) fits (is, none) =

@@ -32,7 +32,7 @@ IsEnough target = has_words_at target.path ≡ true → 0 < length target.words
 abbrev pub HasNoWords : Target → Type 0
 HasNoWords target = target.words ≡ []
 
--- what more a change asks of the words: one at least to set of a Leaf or Many; none behind any other statement but one to be deleted
+-- what more a change asks of the words: one at least to set of a Leaf or Many; none after any other statement but one to be deleted
 abbrev pub IsWhole : Op → Target → Type 0
 IsWhole (Set _) target = IsEnough target
 IsWhole (Delete _) target = Unit {0}
@@ -122,7 +122,7 @@ pub record Makes (m n : Statements) (op : Op) (subject : Subject) : Type 0 where
   pub free : IsFree m n (IsSpared op subject.target.path)
   pub few : size_of n ≤ MAX_STATEMENTS
 
--- a change: it is made of what its words name, and tells whether the map changed; or it is refused
+-- a change: it is made of what its words name, and reports whether the map changed; or it is refused
 pub record IsChange (m n : Statements) (level : List Step) (op : Op) (told : Bool) : Type 0 where
   pub subject : Subject
   pub asks : NamesSubject level op subject

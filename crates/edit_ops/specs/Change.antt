@@ -126,7 +126,7 @@ insert_causes m path anchor =
     ∷ (is_none (map.get m anchor), NotThere anchor)
     ∷ []
 
--- a name before or behind another one
+-- a name before or after another one
 abbrev pub beside : Bool → List ℕ → List ℕ → List (List ℕ)
 beside true name anchor = name ∷ anchor ∷ []
 beside false name anchor = anchor ∷ name ∷ []

@@ -40,7 +40,7 @@ fn made(alloc: Global, tree: &Tree, op: &Op, subject: &Subject) -> Result<Option
     }
 }
 
-/// Makes one change of the statements, its words read from a level, and tells whether anything changed.
+/// Makes one change of the statements, its words read from a level, and reports whether anything changed.
 /// Junos OS CLI User Guide, on set, delete, activate, deactivate, protect, unprotect, rename, copy and insert.
 pub fn apply(alloc: Global, tree: &mut Tree, level: &Path, op: &Op) -> Result<bool, EditFault>
     requires { IsLevelPath level.now }

@@ -80,7 +80,7 @@ fn unwhole(op: &Op, path: Path) -> EditFault
     }
 }
 
-/// The statement that a change is of, with the words behind it.
+/// The statement that a change is of, with the words after it.
 fn first(alloc: Global, level: &Path, op: &Op) -> Result<Target, EditFault>
     requires { IsLevelPath level.now }
     ensures names { IfOk result (λ found. ResolvesTo level.now (words_of op.now) (Ok found)) }

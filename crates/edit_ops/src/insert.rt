@@ -131,7 +131,7 @@ fn with_moved(
     })
 }
 
-/// The statements with one before or behind another in the user's order.
+/// The statements with one before or after another in the user's order.
 pub fn insert(
     alloc: Global,
     tree: &Tree,

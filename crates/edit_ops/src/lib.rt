@@ -1,7 +1,7 @@
 //! Changes of a configuration: set, delete, the marks, rename, copy and insert.
 //!
 //! Guarantees: a change is exactly the one that its words ask for, or the statements stay as they are and the
-//! first cause is told; a statement that is protected, and all below it, stays as it is.
+//! first cause is reported; a statement that is protected, and all below it, stays as it is.
 //! Leaves to others: what a candidate is (`config_core`), and how a line becomes a change (`shell_words`).
 #![tactic(auto)]
 

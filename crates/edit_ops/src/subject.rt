@@ -6,7 +6,7 @@ ghost use Rattle.edit_ops.specs.Change.{other_of};
 use cfg_base::Path;
 use cfg_resolve::Target;
 
-/// What the words of a change name: a statement with words behind it, and a second statement where the change has words
+/// What the words of a change name: a statement with words after it, and a second statement where the change has words
 /// for one.
 #[derive(Debug, Drop)]
 pub struct Subject {

@@ -11,7 +11,7 @@ use Rattle.glob_name.specs.Glob.Item.{Star, AnyByte, Class, Byte}
 use Rattle.glob_name.proofs.MatchLemmas.{one_gives, one_takes}
 use Rattle.glob_name.proofs.ItemLemmas.{items_passed}
 
--- an item and the bytes behind it: as they are written, and that the item may stand there
+-- an item and the bytes after it: as they are written, and that the item may stand there
 record IsWritten (x : Item × ℕ) (rest whole : List ℕ) : Type 0 where
   text : whole ≡ spelled x.0 ++ drop x.1 rest
   stands : StandsBefore (drop x.1 rest) x.0
@@ -64,7 +64,7 @@ none_no_end xs e = by_len (nat_lt (position_or_len (λ b. b == 93) xs) (length x
         let most = ltb-false (position_or_len (λ b. b == 93) xs) (length xs) k
         in no_end_by xs (λ k less. fails_before_first (λ b. b == 93) xs k 0 (omega (arith, most, less)))
 
--- the place of the first `]`, behind bytes of which none is one
+-- the place of the first `]`, after bytes of which none is one
 end_place : (inner rest : List ℕ) → HasNoEnd inner → position (λ b. b == 93) (inner ++ 93 ∷ rest) ≡ Some (length inner)
 end_place inner rest t =
     let all = inner ++ 93 ∷ rest
@@ -163,7 +163,7 @@ not_equal b c ne = by_test (b == c) refl
     by_test true e = absurd (ne (eqb-true b c e))
     by_test false e = refl
 
--- the item that stands in front is the first one
+-- the class that stands first is the first item
 class_first : (complement : Bool) (inner rest : List ℕ) → HasNoEnd inner → class_of complement (inner ++ 93 ∷ rest) ≡ (Class complement inner, cond complement (length inner + 2) (length inner + 1))
 class_first complement inner rest t =
     ap (λ (o : Option ℕ). class_item complement (inner ++ 93 ∷ rest) o) (end_place inner rest t)

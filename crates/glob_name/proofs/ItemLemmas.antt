@@ -111,7 +111,7 @@ front_differs (x ∷ rest) b left s e m = by_kind (item_kind x rest)
             in let some : fits_item (item_at x rest) b ≡ Some ((item_at x rest).1 + 1) = ap (λ (t : Bool). cond t (Some ((item_at x rest).1 + 1)) None) is
             in cc
 
--- a star in front is one byte of the pattern
+-- a star that comes first is one byte of the pattern
 pub star_front : (rest : List ℕ) → begins_with_star rest ≡ true → (items rest ≡ Star ∷ items (drop 1 rest)) × (0 < length rest)
 star_front [] e = cc
 star_front (b ∷ rest) e = (by_test (b == 42) e, omega arith)

@@ -8,7 +8,7 @@ abbrev pub FitsLater : List Item → List ℕ → Type 0
 FitsLater more [] = ⊥
 FitsLater more (b ∷ name) = Matches more name ⊎ FitsLater more name
 
--- what is behind a star fits the name or a later part of it
+-- what is after a star fits the name or a later part of it
 pub star_splits : (more : List Item) (name : List ℕ) → Matches (Star ∷ more) name → Matches more name ⊎ FitsLater more name
 star_splits more name (piece, back, e, fits, rest) = by_piece piece name e
   where
@@ -25,13 +25,13 @@ star_takes more name h = ([], name, refl, tt, h)
 pub star_takes_more : (more : List Item) (b : ℕ) (name : List ℕ) → Matches (Star ∷ more) name → Matches (Star ∷ more) (b ∷ name)
 star_takes_more more b name (piece, back, e, fits, rest) = (b ∷ piece, back, ap (λ (n : List ℕ). b ∷ n) e, tt, rest)
 
--- a star may take what is in front of a later part
+-- a star may take what is before a later part
 pub star_takes_later : (more : List Item) (name : List ℕ) → FitsLater more name → Matches (Star ∷ more) name
 star_takes_later more [] h = absurd h
 star_takes_later more (b ∷ name) (inl h) = star_takes_more more b name (star_takes more name h)
 star_takes_later more (b ∷ name) (inr h) = star_takes_more more b name (star_takes_later more name h)
 
--- a star may take what is in front of a later star
+-- a star may take what is before a later star
 pub star_takes_star : (more : List Item) (name : List ℕ) → FitsLater (Star ∷ more) name → Matches (Star ∷ more) name
 star_takes_star more [] h = absurd h
 star_takes_star more (b ∷ name) (inl h) = star_takes_more more b name h
@@ -59,7 +59,7 @@ one_byte AnyByte piece h (b, e, t) = record { byte = b; alone = e; fits = t }
 one_byte (Class complement inner) piece h (b, e, t) = record { byte = b; alone = e; fits = t }
 one_byte (Byte x) piece h (b, e, t) = record { byte = b; alone = e; fits = t }
 
--- where such an item is in front, the name has a byte that fits it, and the rest fits the other items
+-- where such an item comes first, the name has a byte that fits it, and the rest fits the other items
 pub one_gives : (item : Item) (more : List Item) (name : List ℕ) → IsOne item → Matches (item ∷ more) name
     → (b : ℕ) × (back : List ℕ) × (name ≡ b ∷ back) × (fits_byte item b ≡ true) × Matches more back
 one_gives item more name h (piece, back, e, fits, rest) =

@@ -9,7 +9,7 @@ use Rattle.glob_name.proofs.MatchLemmas.{FitsLater, star_splits, star_takes, sta
 use Rattle.glob_name.proofs.TailLemmas.{tail_drop}
 use Rattle.glob_name.proofs.ItemLemmas.{OneFront, front_fits, front_differs, star_front, all_stars}
 
--- the last star passed, if any, takes more than it did: what is behind it fits a later part of what was left at it
+-- the last star passed, if any, takes more than it did: what is after it fits a later part of what was left at it
 abbrev pub FitsFromStar : Bool → List ℕ → List ℕ → Type 0
 FitsFromStar false after tried = ⊥
 FitsFromStar true after tried = FitsLater (items after) tried
@@ -91,13 +91,13 @@ scan_back tail pattern name rest left after x tried s none = record {
   after_tail = s.after_tail;
 }
 
--- a star in front: from now on it is the last
+-- a star comes first: from now on it is the last
 pub scan_star_by : (tail : ℕ) (pattern name rest left after_rest : List ℕ) (star : Bool) (after tried : List ℕ) → Scans tail pattern name rest left star after tried
     → begins_with_star rest ≡ true → after_rest ≡ drop 1 rest → Scans tail pattern name after_rest left true after_rest left
 scan_star_by tail pattern name rest left after_rest star after tried s e d =
     subst (λ (r : List ℕ). Scans tail pattern name r left true r left) (sym d) (scan_star tail pattern name rest left star after tried s e)
 
--- another item in front, that fits
+-- another item comes first, and fits
 pub scan_item_by : (tail : ℕ) (pattern name rest left after_rest after_left : List ℕ) (star : Bool) (after tried : List ℕ) (n : ℕ) → Scans tail pattern name rest left star after tried
     → 0 < length left → fits_front rest (get_or left 0 0) ≡ Some n → after_rest ≡ drop n rest → after_left ≡ drop 1 left
     → Scans tail pattern name after_rest after_left star after tried
@@ -106,7 +106,7 @@ scan_item_by tail pattern name rest (b ∷ left) after_rest after_left star afte
     subst (λ (r : List ℕ). Scans tail pattern name r after_left star after tried) (sym d)
     (subst (λ (r : List ℕ). Scans tail pattern name (drop n rest) r star after tried) (sym f) (scan_item tail pattern name rest b left star after tried n s (front_fits rest b n e)))
 
--- neither a star in front nor an item that fits
+-- neither a star comes first nor an item that fits
 pub nothing_fits : (rest left : List ℕ) → 0 < length left → begins_with_star rest ≡ false → fits_front rest (get_or left 0 0) ≡ None → Matches (items rest) left → ⊥
 nothing_fits rest [] some s e m = absurd (omega arith)
 nothing_fits rest (b ∷ left) some s e m = front_differs rest b left s e m

@@ -1,4 +1,4 @@
--- The bytes behind the last `]` of a pattern.
+-- The bytes after the last `]` of a pattern.
 use Rattle.std.proofs.Common.{◌≡◌, ◌≢◌, ◌-◌, ◌⊎◌, inl, inr, ap, ℕ, suc, zero, ◌+◌, ◌<◌, ◌≤◌, ◌==◌, List, [], ◌∷◌, ◌++◌, length, drop, take, get_or, length-append, refl, sym, subst, ◌∙◌, Option, Some, None, arith}
 use Rattle.std.specs.List.{position}
 use Rattle.std.proofs.lemmas.Bool.{eqb-true}
@@ -6,7 +6,7 @@ use Rattle.std.proofs.lemmas.List.{take_more}
 use Rattle.std.proofs.lemmas.List.Quantifiers.{position-Some}
 use Rattle.glob_name.specs.Front.{IsTail}
 
--- the same bytes stand at the end of what is behind the first bytes
+-- the same bytes stand at the end of what is after the first bytes
 pub tail_drop : (tail n : ℕ) (xs : List ℕ) → IsTail tail xs → IsTail tail (drop n xs)
 tail_drop tail zero xs t = t
 tail_drop tail (suc n) [] t = t
@@ -27,7 +27,7 @@ tail_none tail xs t h = by_place (position (λ b. b == 93) xs) refl
         let k = position-Some (λ b. b == 93) xs n 0 e
         in absurd (tail_byte tail xs t h n k.0 (eqb-true (get_or xs n 0) 93 k.1))
 
--- right behind `]` nothing is known of what comes
+-- right after `]` nothing is known of what comes
 pub tail_zero : (xs : List ℕ) → IsTail 0 xs
 tail_zero [] = tt
 tail_zero (x ∷ xs) = (λ less. absurd (omega arith), tail_zero xs)

@@ -1,4 +1,4 @@
--- The test of a pattern tells the match.
+-- The test of a pattern decides the match.
 use Rattle.std.proofs.Common.{◌≡◌, ◌⊎◌, inl, inr, ℕ, Bool, true, false, List, [], ◌∷◌, refl, ap, ◌∙◌, IsTrue}
 use Rattle.std.specs.Prelude.{◌||◌, ◌&&◌, ◌↔◌}
 use Rattle.glob_name.specs.Glob.{Item, items, fits_byte, Matches, some_rest, one_then, is_empty, fits_all, glob}
@@ -63,7 +63,7 @@ fits_all_tells (Byte x ∷ w) = one_tells (Byte x) tt w (fits_all w) (fits_all_t
 pub glob_tells : (pattern name : List ℕ) → IsTrue (glob pattern name) ↔ Matches (items pattern) name
 glob_tells pattern name = fits_all_tells (items pattern) name
 
--- an answer that tells the match is the test's
+-- an answer that decides the match is the test's
 pub answer_is_glob : (answer : Bool) (pattern name : List ℕ) → IsTrue answer ↔ Matches (items pattern) name → answer ≡ glob pattern name
 answer_is_glob true pattern name h = let k = (glob_tells pattern name).1 (h.0 refl) in cc
 answer_is_glob false pattern name h = by_test (glob pattern name) refl

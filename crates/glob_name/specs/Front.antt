@@ -3,7 +3,7 @@ use Rattle.std.specs.Prelude.{◌≡◌, ◌≢◌, ◌<◌, ℕ, ◌+◌, ◌�
 use Rattle.std.specs.List.{position}
 use Rattle.glob_name.specs.Glob.{Item, in_class, ranges_from, class_size, item_at, fits_byte}
 
--- the first range of a class has these ends and takes so many bytes; the other ranges stand behind it
+-- the first range of a class has these ends and takes so many bytes; the other ranges stand after it
 pub record IsFirstRange (inner : List ℕ) (low high size : ℕ) : Type 0 where
   pub ranges : ranges_from inner 0 ≡ (low, high) ∷ ranges_from (drop size inner) 0
   pub some : 1 ≤ size
@@ -28,13 +28,13 @@ abbrev pub fits_inner : Bool → List ℕ → ℕ → Bool
 fits_inner complement inner b = (if complement then not (in_class inner b) else in_class inner b)
 
 -- how many bytes of the pattern the item takes that `[` begins, where it fits the byte, by the place of its `]` among
--- the bytes behind `[` and `!`
+-- the bytes after `[` and `!`
 abbrev pub fits_class_to : Bool → List ℕ → ℕ → Option ℕ → Option ℕ
 fits_class_to complement rest b None = (if b == 91 then Some 1 else None)
 fits_class_to complement rest b (Some n) =
     (if fits_inner complement (take n rest) b then Some (class_size complement n + 1) else None)
 
--- the same, of the bytes behind `[` and `!`
+-- the same, of the bytes after `[` and `!`
 abbrev pub fits_class : Bool → List ℕ → ℕ → Option ℕ
 fits_class complement rest b = fits_class_to complement rest b (position (λ c. c == 93) rest)
 

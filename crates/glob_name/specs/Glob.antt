@@ -12,7 +12,7 @@ pub data Item : Type 0 where
   Class : Bool → List ℕ → Item
   Byte : ℕ → Item
 
--- a byte with these behind it begins a range: `-` and one byte more
+-- a byte with these after it begins a range: `-` and one byte more
 abbrev pub begins_range : List ℕ → Bool
 begins_range [] = false
 begins_range (b ∷ []) = false
@@ -34,25 +34,25 @@ in_range b range = nat_le range.0 b && nat_le b range.1
 abbrev pub in_class : List ℕ → ℕ → Bool
 in_class inner b = list_any (in_range b) (ranges_from inner 0)
 
--- how many bytes behind its `[` a class takes: the inner bytes, so many, `]`, and the `!` of a complement
+-- how many bytes after its `[` a class takes: the inner bytes, so many, `]`, and the `!` of a complement
 abbrev pub class_size : Bool → ℕ → ℕ
 class_size complement inner = (if complement then inner + 2 else inner + 1)
 
--- the item that `[` begins, and its bytes behind `[`: a class up to the first `]`, or without one `[` itself
+-- the item that `[` begins, and its bytes after `[`: a class up to the first `]`, or without one `[` itself
 abbrev pub class_item : Bool → List ℕ → Option ℕ → Item × ℕ
 class_item complement rest None = (Byte 91, 0)
 class_item complement rest (Some n) = (Class complement (take n rest), class_size complement n)
 
--- the same, of the bytes behind `[` and `!`
+-- the same, of the bytes after `[` and `!`
 abbrev pub class_of : Bool → List ℕ → Item × ℕ
 class_of complement rest = class_item complement rest (position (λ b. b == 93) rest)
 
--- `!` right behind `[` makes the class a complement
+-- `!` right after `[` makes the class a complement
 abbrev pub bracket : List ℕ → Item × ℕ
 bracket [] = (Byte 91, 0)
 bracket (b ∷ rest) = (if b == 33 then class_of true rest else class_of false (b ∷ rest))
 
--- the item that begins with a byte, and how many bytes behind it belong to the item
+-- the item that begins with a byte, and how many bytes after it belong to the item
 abbrev pub item_at : ℕ → List ℕ → Item × ℕ
 item_at b rest =
     (if b == 42 then (Star, 0) else (if b == 63 then (AnyByte, 0) else (if b == 91 then bracket rest else (Byte b, 0))))
@@ -90,7 +90,7 @@ abbrev pub some_rest : (List ℕ → Bool) → List ℕ → Bool
 some_rest passes [] = passes []
 some_rest passes (b ∷ name) = passes (b ∷ name) || some_rest passes name
 
--- of another item: the first byte fits, and what is behind it passes
+-- of another item: the first byte fits, and what is after it passes
 abbrev pub one_then : (ℕ → Bool) → (List ℕ → Bool) → List ℕ → Bool
 one_then fits passes [] = false
 one_then fits passes (b ∷ name) = fits b && passes name
@@ -100,7 +100,7 @@ abbrev pub is_empty : List ℕ → Bool
 is_empty [] = true
 is_empty (b ∷ name) = false
 
--- of an item, and behind it what passes
+-- of an item, and after it what passes
 abbrev pub item_then : Item → (List ℕ → Bool) → List ℕ → Bool
 item_then Star passes = some_rest passes
 item_then AnyByte passes = one_then (fits_byte AnyByte) passes
@@ -127,7 +127,7 @@ spelled (Byte b) = b ∷ []
 abbrev pub HasNoEnd : List ℕ → Type 0
 HasNoEnd bytes = AllByRecursion (λ b. b ≢ 93) bytes
 
--- an item as it may stand in front of bytes: a class has no `]` between its brackets, and `!` right behind `[` makes it
+-- an item as it may stand before bytes: a class has no `]` between its brackets, and `!` right after `[` makes it
 -- a complement; a byte for itself is no `*` and no `?`, and `[` only where no `]` follows
 abbrev pub StandsBefore : List ℕ → Item → Type 0
 StandsBefore rest Star = Unit {0}
@@ -135,7 +135,7 @@ StandsBefore rest AnyByte = Unit {0}
 StandsBefore rest (Class complement inner) = HasNoEnd inner × (complement ≡ false → take 1 inner ≢ 33 ∷ [])
 StandsBefore rest (Byte b) = (b ≢ 42) × (b ≢ 63) × (b ≡ 91 → HasNoEnd rest)
 
--- the pattern is the items, written one after another, each as it may stand in front of those behind it
+-- the pattern is the items, written one after another, each as it may stand before those after it
 abbrev pub IsCut : List Item → List ℕ → Type 0
 IsCut [] pattern = pattern ≡ []
 IsCut (item ∷ more) pattern =

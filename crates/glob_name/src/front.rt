@@ -6,7 +6,7 @@ ghost use Rattle.glob_name.specs.Front.{begins_with_star, fits_front, fits_class
 
 use crate::class::fits_inner;
 
-/// What stands behind the first bytes.
+/// What stands after the first bytes.
 pub fn behind(bytes: &[u8], count: usize) -> &[u8]
     requires { count ≤ length bytes.now }
     ensures { result.now ≡ drop count bytes.now }
@@ -23,7 +23,7 @@ pub fn begins_with_star(pattern: &[u8]) -> bool
     }
 }
 
-/// How many bytes of the pattern stand behind its last `]`.
+/// How many bytes of the pattern stand after its last `]`.
 pub fn tail_of(pattern: &[u8]) -> usize
     ensures none { IsTail result pattern.now }
     ensures most { result < length pattern.now

@@ -9,6 +9,6 @@ pub fn patterns_are_sound()
     // without a star, a question mark and an opening bracket a pattern is the one name that it matches
     ensures plain { (pattern name : List ℕ) → AllByRecursion IsPlain pattern
         → Matches (items pattern) name ↔ (name ≡ pattern) }
-    // the test that definitions cite tells the match
+    // the test that definitions cite decides the match
     ensures test { (pattern name : List ℕ) → IsTrue (glob pattern name) ↔ Matches (items pattern) name }
 {}

@@ -10,7 +10,7 @@ fn try_rows(rt: &impl Abort, rows: &[Row]) {
     }
 }
 
-// The clauses say what a pattern means; these are the meanings that were wanted.
+// The clauses say what a pattern means; these are the meanings that were intended.
 #[test]
 fn patterns_match_these_names(rt: HostRuntime) {
     let rows = [

@@ -95,7 +95,7 @@ module _ (above : List Step) (bound : Step) where
       → is_before above bound y ≡ true → is_before above bound x ≡ true
   earlier_too x y h k less e = steps_rise above x.path y.path (both _ _ h).0 (both _ _ k).0 (inside_longer above x.path h) less bound e
 
-  -- the statements before a step stand in front of the others
+  -- the statements before a step stand before the others
   pub is_parted : (xs : List Stated) → Ordered xs → AreInside above xs → IsPartitionedBy (is_before above bound) xs
   is_parted [] o h i j d le l e = absurd (omega (arith, l))
   is_parted (x ∷ xs) o h zero zero d le l e = e

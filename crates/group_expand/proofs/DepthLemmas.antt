@@ -1,4 +1,4 @@
--- Since above each statement stand statements, what is below one is told by the depths of those behind it.
+-- Since above each statement stand statements, what is below one is known by the depths of those after it.
 use Rattle.std.proofs.Common.{◌≡◌, ◌≢◌, ◌⊎◌, inl, inr, ℕ, zero, suc, ◌+◌, ◌<◌, ◌≤◌, Bool, true, false, cond, nat_lt, List, [], ◌∷◌, ◌++◌, length, take, drop, filter, get_or, refl, sym, ap, subst, ◌∙◌, arith, append_assoc, length-append, Option, Some, None, is_some}
 use Rattle.std.specs.Prelude.{IsSome, ◌&&◌}
 use Rattle.std.specs.FinMap as finite
@@ -35,7 +35,7 @@ found_has Q (x ∷ xs) h q e = by_test (eq_by_cmp path_cmp q x.path) refl e (fou
     by_test true k f go = subst (λ (r : List Step). Q r) (sym ((same_path q x.path).0 k)) h.0
     by_test false k f go = go f
 
--- a path that is found is the first one, or is found behind it
+-- a path that is found is the first one, or is found after it
 first_or_later : (x : Stated) (xs : List Stated) (q : List Step) → IsSome (find path_cmp q (pairs_of (x ∷ xs))) → (q ≡ x.path) ⊎ IsSome (find path_cmp q (pairs_of xs))
 first_or_later x xs q e = by_test (eq_by_cmp path_cmp q x.path) refl e
   where
@@ -75,7 +75,7 @@ abbrev AreHeld : (List Step → Type 0) → List Stated → Type 0
 AreHeld There xs = AllByRecursion (λ y. (q : List Step) → is_below q y.path ≡ true → 0 < length q → There q) xs
 
 module _ (There : List Step → Type 0) where
-  -- what is there and as long as a path isn't behind it, or is among these
+  -- what is there and as long as a path isn't after it, or is among these
   abbrev IsSought : List Step → List Stated → Type 0
   IsSought p ys = (q : List Step) → length q ≡ length p → There q → (is_le (path_cmp q p) ≡ true) ⊎ IsSome (find path_cmp q (pairs_of ys))
 
@@ -169,7 +169,7 @@ module _ (m : Statements) (tree : IsTree m) where
       by_value None e = absurd (none_some (finite.get m (p ++ r)) (none_below p r some e) k)
       by_value (Some v) e = refl
 
--- of a row of a tree, what is below each statement is told by depth
+-- of a row of a tree, what is below each statement is known by depth
 pub row_told : (row : List Stated) → IsTree (map_of row) → Ordered row → AreToldByDepth row
 row_told row tree order =
     all_told (λ q. IsSome (finite.get (map_of row) q)) row order (each_long row (row_there row order)) (each_held row (row_there row order))
@@ -191,7 +191,7 @@ row_told row tree order =
       each_held xs h.1,
     )
 
--- what is told is told of the rest
+-- what is known so is known of the rest
 told_drop : (p : List Step) (xs : List Stated) (n : ℕ) → AllByRecursion (λ x. is_below p x.path ≡ true) (take n xs) → IsToldByDepth p xs → IsToldByDepth p (drop n xs)
 told_drop p xs zero h t = t
 told_drop p [] (suc n) h t = tt
@@ -217,7 +217,7 @@ told_next p (x ∷ xs) next some e o t is =
         by_test true k go = (below_trans p x.path y.path e k, go)
         by_test false k go = go
 
--- it is told by the paths alone
+-- it is known by the paths alone
 told_by : (p : List Step) (xs ys : List Stated) → pairs_of xs ≡ pairs_of ys → IsToldByDepth p xs → IsToldByDepth p ys
 told_by p xs [] e t = tt
 told_by p [] (y ∷ ys) e t = cc

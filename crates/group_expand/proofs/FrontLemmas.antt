@@ -1,4 +1,4 @@
--- The sources of a child, from what stands in front of it at its parent.
+-- The sources of a child, from what stands before it at its parent.
 use Rattle.std.proofs.Common.{◌≡◌, ℕ, Bool, true, false, not, cond, List, [], ◌∷◌, ◌++◌, map, filter, refl, sym, ap, ◌∙◌, append_assoc}
 use Rattle.std.specs.Prelude.{◌||◌}
 use Rattle.std.specs.List.{flat_map}

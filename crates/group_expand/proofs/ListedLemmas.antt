@@ -11,7 +11,7 @@ use Rattle.cfg_base.specs.declared.path.Step.{Step}
 use Rattle.group_expand.specs.Listed.{entry_and, listed}
 use Rattle.cfg_tree.proofs.MapLemmas.{same_path, same_step}
 
--- one list in front of two
+-- one list before two
 cancel : (p a b : List Step) → p ++ a ≡ p ++ b → a ≡ b
 cancel [] a b e = e
 cancel (x ∷ p) a b e = let k : p ++ a ≡ p ++ b = cc in cancel p a b k

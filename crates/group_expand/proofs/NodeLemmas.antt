@@ -80,7 +80,7 @@ under_longer p q less h = by_order (nat_lt (length p) (length q)) refl
         let same : p ≡ q = below_same p q h (grind arith)
         in absurd (less_apart p q less (subst (λ (r : List Step). is_below r p ≡ true) same (below_self p)))
 
--- behind a path, what is below it is inside it
+-- after a path, what is below it is inside it
 pub inside_behind : (p : List Step) (xs : List Stated) → AreBehind p xs → inside_of p xs ≡ filter (is_under p) xs
 inside_behind p [] h = refl
 inside_behind p (x ∷ xs) h = by_test (is_below p x.path) refl (inside_behind p xs h.1)

@@ -131,7 +131,7 @@ row_there row h = each row (found_all row h)
     each [] k = tt
     each (x ∷ xs) k = (finite.get-from_entries paths_total (pairs_of row) x.path ∙ k.0, each xs k.1)
 
--- the live children, told by nodes of the whole row
+-- the live children, stated by nodes of the whole row
 module _ (look : Look) (row : List Stated) (q : List Step) (live : is_live look q ≡ true) where
   child_live : (x : Stated) → IsThere look x → is_child q x.path ≡ true → is_live look (q ++ last_of x.path ∷ []) ≡ not x.value.inactive
   child_live x there child =

@@ -17,7 +17,7 @@ all_kept P t (x ∷ xs) h = by_test (t x) (all_kept P t xs h.1)
     by_test true k = (h.0, k)
     by_test false k = k
 
--- all have a rank behind one
+-- all have a rank after one
 abbrev AreBehind : ℕ → List Ranked → Type 0
 AreBehind rank rs = AllByRecursion (λ r. rank < r.rank) rs
 

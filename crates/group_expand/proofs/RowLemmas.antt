@@ -1,4 +1,4 @@
--- What stands below a statement stands together, right behind it.
+-- What stands below a statement stands together, right after it.
 use Rattle.std.proofs.Common.{◌≡◌, ℕ, zero, suc, ◌+◌, ◌-◌, ◌<◌, ◌≤◌, Bool, true, false, not, cond, T, List, [], ◌∷◌, length, take, drop, set, filter, get_or, refl, sym, ap, subst, ◌∙◌, arith, length-drop}
 use Rattle.std.specs.Prelude.{◌&&◌}
 use Rattle.std.specs.FinMap as finite
@@ -18,7 +18,7 @@ use Rattle.cfg_base.specs.declared.value.Value.{Value}
 use Rattle.group_expand.specs.Row.{Stated}
 use Rattle.group_expand.specs.Row.{is_under, Counted, AreBehind, Ordered, below_of, beside_of, size_in, path_in, pairs_of}
 
--- where one isn't below a path, none behind it is
+-- where one isn't below a path, none after it is
 none_behind : (p : List Step) (x : Stated) (xs : List Stated) → path_cmp p x.path ≡ Less → is_under p x ≡ false → AreBehind x.path xs → filter (is_under p) xs ≡ []
 none_behind p x [] less no_ h = refl
 none_behind p x (y ∷ xs) less no_ h = ap (λ (b : Bool). cond b (y ∷ filter (is_under p) xs) (filter (is_under p) xs)) (apart _ refl) ∙ none_behind p x xs less no_ h.1
@@ -242,7 +242,7 @@ same_there [] at d e l = absurd (omega (arith, l))
 same_there (x ∷ xs) zero d e l = refl
 same_there (x ∷ xs) (suc at) d e l = same_there xs at d e (omega (arith, l))
 
--- what the code's steps tell of one size
+-- what the code's steps say of one size
 module _ (xs rest : List Stated) (at : ℕ) (p : List Step) (d : Stated) (l : at < length xs) (is : d ≡ get_or xs at d) (path : p ≡ d.path) (cut : rest ≡ drop (at + 1) xs) where
   pub path_behind : Ordered xs → AreBehind p rest
   path_behind o =

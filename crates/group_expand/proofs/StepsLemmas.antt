@@ -51,7 +51,7 @@ all_other s (o ∷ os) h =
     ap (λ (b : Bool). cond (not b) (o ∷ filter (λ x. not (is_at s x)) os) (filter (λ x. not (is_at s x)) os)) (less_not_equal _ h.0)
     ∙ ap (λ (xs : List Ranked). o ∷ xs) (all_other s os h.1)
 
--- the offers for the first step stand together in front
+-- the offers for the first step stand together, before the others
 module _ (s : Step) where
   abbrev NotBefore : List Ranked → Type 0
   NotBefore os = AllByRecursion (λ x. is_le (step_cmp s x.offer.step) ≡ true) os
@@ -250,7 +250,7 @@ all_others s t apart (o ∷ os) = by_tests (is_at s o) (is_at t o) refl refl (al
         ap (λ (c : Bool). cond c (o ∷ filter (is_at t) (filter (λ x. not (is_at s x)) os)) (filter (is_at t) (filter (λ x. not (is_at s x)) os))) f
         ∙ ap (λ (xs : List Ranked). cond b (o ∷ xs) xs) go
 
--- one run more: it is all that the level has for its step, and what stands behind goes on
+-- one run more: it is all that the level has for its step, and what stands after it goes on
 pub record IsRunStep (level left run rest : List Ranked) : Type 0 where
   pub step : Step
   pub first : (d : Step) → first_step run d ≡ step

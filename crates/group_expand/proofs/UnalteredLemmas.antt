@@ -42,7 +42,7 @@ use Rattle.group_expand.proofs.FullLemmas.{entries_kept, listed_short, find_shor
 use Rattle.group_expand.proofs.InOrderLemmas.{AreInside}
 use Rattle.group_expand.proofs.TreeLemmas.{few_steps, tree_listed, tree_both}
 
--- the last step of a path tells whether it is that of an apply statement
+-- the last step of a path shows whether it is that of an apply statement
 pub apply_last : (path : List Step) → 0 < length path → is_apply path ≡ (alike apply_step (last_of path) || alike except_step (last_of path))
 apply_last [] some = absurd (omega (arith, some))
 apply_last (step ∷ rest) some = refl
@@ -442,7 +442,7 @@ module _ (row : List Stated) (h : IsRow row) where
             ∙ ap (λ (es : List (List Step × Given)). (p ++ s ∷ [], own_given v) ∷ es) (sym (below_is (p ++ s ∷ []) (longer p s) a.live a.none parts.0 stands n long_enough))
             ∙ ap (λ (o : Option Given). entry_and (p ++ s ∷ []) o (given_below row n (p ++ s ∷ []))) (sym there)
 
--- a node and what stands below it are put behind others
+-- a node and what stands below it are put after others
 pub node_more : (node : Node) (made more new : List (List Step × Given)) (path : List Step) (value : Value) (below : List Stated)
     → path ≡ node.path → value ≡ node.value → below ≡ node.below → more ≡ made ++ (path, own_given value) ∷ [] → new ≡ more ++ map own_entry below → new ≡ made ++ own_entries node
 node_more node made more new path value below a b c e f =

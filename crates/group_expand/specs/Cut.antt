@@ -18,7 +18,7 @@ is_earlier bound (Some step) = comes_before bound step
 abbrev pub is_before : List Step → Step → Stated → Bool
 is_before above bound x = is_earlier bound (slice_get x.path (length above))
 
--- the statements at and below the steps before one, and those at and below that one and the steps behind it
+-- the statements at and below the steps before one, and those at and below that one and the steps after it
 abbrev pub before_of : List Step → Step → List Stated → List Stated
 before_of above bound xs = filter (is_before above bound) xs
 

@@ -22,7 +22,7 @@ abbrev pub Counted : List Stated → Type 0
 Counted [] = Unit {0}
 Counted (x ∷ xs) = (x.size ≡ length (filter (is_under x.path) xs) + 1) × Counted xs
 
--- all stand behind a path
+-- all stand after a path
 abbrev pub AreBehind : List Step → List Stated → Type 0
 AreBehind path xs = AllByRecursion (λ x. path_cmp path x.path ≡ Less) xs
 
@@ -31,13 +31,13 @@ abbrev pub Ordered : List Stated → Type 0
 Ordered [] = Unit {0}
 Ordered (x ∷ xs) = AreBehind x.path xs × Ordered xs
 
--- what of a row behind a path is below it is told by its depth, up to the first statement that isn't below
+-- what of a row after a path is below it is known by its depth, up to the first statement that isn't below
 abbrev pub IsToldByDepth : List Step → List Stated → Type 0
 IsToldByDepth path [] = Unit {0}
 IsToldByDepth path (x ∷ xs) =
     (is_below path x.path ≡ nat_lt (length path) (length x.path)) × (is_below path x.path ≡ true → IsToldByDepth path xs)
 
--- the same of each statement and those behind it
+-- the same of each statement and those after it
 abbrev pub AreToldByDepth : List Stated → Type 0
 AreToldByDepth [] = Unit {0}
 AreToldByDepth (x ∷ xs) = IsToldByDepth x.path xs × AreToldByDepth xs

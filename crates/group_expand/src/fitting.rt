@@ -11,7 +11,7 @@ use crate::step::fits_wildcard;
 use cfg_base::{NoMemory, Step, Word};
 use std::alloc::Global;
 
-/// Puts the node right below another one that has a step behind others.
+/// Puts the node right below another one that has a step after others.
 fn push_child<'a>(found: &mut Vec<Node<'a>>, step: &Step, node: &Node<'a>) -> Result<(), NoMemory>
     ensures { OnOk result (found.new.items ≡ found.old.items ++ exact step.now (children_of node.now)) }
 {
@@ -21,7 +21,7 @@ fn push_child<'a>(found: &mut Vec<Node<'a>>, step: &Step, node: &Node<'a>) -> Re
     Ok(())
 }
 
-/// Puts the nodes whose wildcards match a step behind others.
+/// Puts the nodes whose wildcards match a step after others.
 fn push_wild<'a>(found: &mut Vec<Node<'a>>, step: &Step, nodes: &[Node<'a>]) -> Result<(), NoMemory>
     ensures { OnOk result (found.new.items ≡ found.old.items ++ wild step.now nodes.now) }
 {
@@ -33,7 +33,7 @@ fn push_wild<'a>(found: &mut Vec<Node<'a>>, step: &Step, nodes: &[Node<'a>]) -> 
     Ok(())
 }
 
-/// Puts what fits a step right below a node behind others.
+/// Puts what fits a step right below a node after others.
 fn push_fits<'a>(
     alloc: Global,
     found: &mut Vec<Node<'a>>,

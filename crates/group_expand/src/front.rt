@@ -72,7 +72,7 @@ fn push_sources<'a>(
     Ok(())
 }
 
-/// Puts what of a group fits a path behind others.
+/// Puts what of a group fits a path after others.
 fn push_group<'a>(
     alloc: Global,
     front: &mut Vec<Source<'a>>,
@@ -103,7 +103,7 @@ fn push_unless<'a>(
     push_group(alloc, front, groups, path, group)
 }
 
-/// Puts what the groups of a list bring behind others, but for those that are excepted.
+/// Puts what the groups of a list bring after others, but for those that are excepted.
 fn push_applied<'a>(
     alloc: Global,
     front: &mut Vec<Source<'a>>,
@@ -139,7 +139,7 @@ fn push_listed<'a>(
     }
 }
 
-/// Puts what an offer brings to the level below behind others, where its group isn't excepted.
+/// Puts what an offer brings to the level below after others, where its group isn't excepted.
 fn push_kept<'a>(
     front: &mut Vec<Source<'a>>,
     gone: &BTreeSet<Word>,

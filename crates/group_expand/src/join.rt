@@ -46,7 +46,7 @@ fn before<'s, 'a>(part: &'s [Ranked<'a>], count: usize) -> &'s [Ranked<'a>]
     part.split_at(count).0
 }
 
-/// What stands behind the first offers of a part of a level.
+/// What stands after the first offers of a part of a level.
 fn behind<'s, 'a>(part: &'s [Ranked<'a>], count: usize) -> &'s [Ranked<'a>]
     requires { count ≤ length part.now }
     ensures { result.now ≡ drop count part.now }
@@ -54,7 +54,7 @@ fn behind<'s, 'a>(part: &'s [Ranked<'a>], count: usize) -> &'s [Ranked<'a>]
     part.split_at(count).1
 }
 
-/// Puts the offers of a part of a level behind others.
+/// Puts the offers of a part of a level after others.
 fn push_part<'a>(made: &mut Vec<Offer<'a>>, part: &[Ranked<'a>]) -> Result<(), NoMemory>
     ensures { OnOk result (made.new.items ≡ made.old.items ++ map (λ r. r.offer) part.now) }
 {
@@ -72,7 +72,7 @@ fn count_if(fits: bool, rank: usize, left: &[Ranked<'_>]) -> usize
     if fits { count_before(rank, left) } else { 0 }
 }
 
-/// Puts what a wildcard offers for a step behind others, where it matches.
+/// Puts what a wildcard offers for a step after others, where it matches.
 fn push_if<'a>(
     made: &mut Vec<Offer<'a>>,
     fits: bool,

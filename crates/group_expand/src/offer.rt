@@ -142,7 +142,7 @@ fn push_own<'a>(offers: &mut Vec<Offer<'a>>, own: &[Node<'a>]) -> Result<(), NoM
     Ok(())
 }
 
-/// Puts what a group offers for the steps that its nodes have themselves behind others.
+/// Puts what a group offers for the steps that its nodes have themselves after others.
 fn push_plain<'a>(
     offers: &mut Vec<Offer<'a>>,
     group: &'a Word,
@@ -158,7 +158,7 @@ fn push_plain<'a>(
     Ok(())
 }
 
-/// Puts a group's wildcards behind others.
+/// Puts a group's wildcards after others.
 fn push_wild<'a>(
     offers: &mut Vec<Offer<'a>>,
     group: &'a Word,
@@ -174,7 +174,7 @@ fn push_wild<'a>(
     Ok(())
 }
 
-/// Puts all that a source offers right below it behind others.
+/// Puts all that a source offers right below it after others.
 fn push_offers<'a>(
     alloc: Global,
     offers: &mut Vec<Offer<'a>>,

@@ -46,7 +46,7 @@ fn names_with(alloc: Global, head: &[u8], nodes: &[Node<'_>]) -> Result<BTreeSet
     Ok(names)
 }
 
-/// Puts those of some names that are among others behind these.
+/// Puts those of some names that are among others after these.
 fn push_known(
     order: &mut WordList,
     names: &WordList,
@@ -95,7 +95,7 @@ fn is_inherited(
     Ok(has_source(&made))
 }
 
-/// Puts the name of a run behind others, where it is inherited.
+/// Puts the name of a run after others, where it is inherited.
 fn push_name(
     alloc: Global,
     order: &mut WordList,
@@ -114,7 +114,7 @@ fn push_name(
     Ok(())
 }
 
-/// Puts the inherited names of a level behind others.
+/// Puts the inherited names of a level after others.
 fn push_inherited(
     alloc: Global,
     order: &mut WordList,
@@ -132,7 +132,7 @@ fn push_inherited(
     Ok(())
 }
 
-/// Puts the configuration's own live names with a head behind others, in the user's order.
+/// Puts the configuration's own live names with a head after others, in the user's order.
 fn push_own(
     alloc: Global,
     order: &mut WordList,

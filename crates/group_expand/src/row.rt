@@ -88,7 +88,7 @@ pub fn path_of<'a>(part: &[Statement<'a>]) -> &'a Path
     part[0].path()
 }
 
-/// What stands behind a statement and all below it.
+/// What stands after a statement and all below it.
 pub fn beside<'s, 'a>(part: &'s [Statement<'a>]) -> &'s [Statement<'a>]
     requires some { 0 < length part.now }
     requires counted { Counted part.now }
@@ -136,7 +136,7 @@ fn count_below(above: &Statement<'_>, rest: &[Statement<'_>]) -> usize
     all
 }
 
-/// Gives a statement its size, where those behind it have theirs.
+/// Gives a statement its size, where those after it have theirs.
 fn size_at(row: &mut Vec<Statement<'_>>, at: usize)
     requires within { at < length row.old.items }
     requires ordered { Ordered row.old.items }

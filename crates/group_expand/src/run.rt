@@ -57,7 +57,7 @@ pub fn first_run<'s, 'a>(level: &'s [Ranked<'a>]) -> &'s [Ranked<'a>]
     level.split_at(run_length(level)).0
 }
 
-/// What stands behind the first run of a level.
+/// What stands after the first run of a level.
 pub fn behind_run<'s, 'a>(level: &'s [Ranked<'a>]) -> &'s [Ranked<'a>]
     requires { 0 < length level.now }
     ensures { result.now ≡ drop (run_length level.now) level.now }

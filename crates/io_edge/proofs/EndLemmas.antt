@@ -1,4 +1,4 @@
--- Bytes before and behind what is told, once and twice.
+-- Bytes before and after what is told, once and twice.
 use Rattle.std.proofs.Common.{◌≡◌, ℕ, List, [], ◌++◌, refl, ap, sym, append_assoc, Option, None}
 use Rattle.std.proofs.Common.{Some}
 use Rattle.std.proofs.lemmas.List.{append-nil}
@@ -14,12 +14,12 @@ pub onto-onto : (a b : List ℕ) (told : Option (List ℕ)) → onto a (onto b t
 onto-onto a b None = refl
 onto-onto a b (Some left) = ap Some (sym (append_assoc a b left))
 
--- no bytes behind what is told
+-- no bytes after what is told
 pub behind-nothing : (told : Option (List ℕ)) → held_after told [] ≡ told
 behind-nothing None = refl
 behind-nothing (Some held) = ap Some (append-nil held)
 
--- bytes behind bytes behind what is told
+-- bytes after bytes after what is told
 pub behind-behind : (told : Option (List ℕ)) (a b : List ℕ) → held_after (held_after told a) b ≡ held_after told (a ++ b)
 behind-behind None a b = refl
 behind-behind (Some held) a b = ap Some (append_assoc held a b)

@@ -47,7 +47,7 @@ last_by : (long : Bool) (text old now : List ℕ) (old_room now_room : ℕ) →
 last_by true text old now old_room now_room is = inr is
 last_by false text old now old_room now_room is = inr is
 
--- the kept bytes of a line tell whether it is too long, and are the line where it isn't
+-- the kept bytes of a line show whether it is too long, and are the line where it isn't
 kept_line : (most : ℕ) (long : Line) (answer : List ℕ → Line) (part : List ℕ) →
     (if nat_lt most (length (take (most + 1) part)) then long else answer (take (most + 1) part))
     ≡ (if nat_lt most (length part) then long else answer part)

@@ -13,7 +13,7 @@ use Rattle.io_edge.specs.Feed.{Feed, feed_of}
 use Rattle.io_edge.specs.Reader.{TakesByte, Takes, IsTakenAs, Gathered}
 use Rattle.io_edge.proofs.EndLemmas.{onto-onto}
 
--- a byte is put behind fewer than are kept
+-- a byte is put after fewer than are kept
 pub kept_more : (n : ℕ) (xs : List ℕ) (x : ℕ) → length xs < n → xs ++ x ∷ [] ≡ take n (xs ++ x ∷ [])
 kept_more n xs x few =
     let e : length (xs ++ x ∷ []) ≡ length xs + length (x ∷ []) = length-append xs (x ∷ []) in

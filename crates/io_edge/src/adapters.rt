@@ -78,7 +78,7 @@ impl<W: Write + Drop> StdSink<W> {
         0
     }
 
-    /// Flushes what was written, and tells whether that succeeds.
+    /// Flushes what was written, and reports whether that succeeds.
     fn flush(&mut self) -> bool
         ensures { self.new.faults ≡ self.old.faults }
     {

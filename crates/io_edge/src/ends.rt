@@ -64,7 +64,7 @@ pub trait Clock {
         ensures { TakesAnswer (coming self.old) (coming self.new) result };
 }
 
-/// What tells whether another tick is due.
+/// What says whether another tick is due.
 pub trait Beat {
     // the answers to come, by their number from 0, where they are told
     ghost coming: { Self → Option (ℕ → Bool) };

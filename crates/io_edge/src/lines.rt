@@ -21,7 +21,7 @@ pub fn limits_are_stated()
     ensures lines { MAX_LINE ≡ 4096 }
 {}
 
-/// How many bytes of a line are kept: as many as it may have, and one that tells that it is too long.
+/// How many bytes of a line are kept: as many as it may have, and one that shows that it is too long.
 const KEPT: usize = MAX_LINE + 1;
 
 const LF: u8 = b'\n';
@@ -62,7 +62,7 @@ enum Stop {
     Failed,
 }
 
-/// What came of taking a byte.
+/// What resulted from taking a byte.
 enum Taken {
     /// A byte of the line.
     Byte(u8),
@@ -111,7 +111,7 @@ fn ask_size(room: u64) -> usize
     (room.min(256) as usize).max(1)
 }
 
-/// Puts a byte behind those that are kept, where there is room for it.
+/// Puts a byte after those that are kept, where there is room for it.
 fn keep(kept: &mut Vec<u8>, byte: u8)
     requires within { vec_len kept.old ≤ KEPT }
     requires room { KEPT ≤ vec_capacity kept.old }

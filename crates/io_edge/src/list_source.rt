@@ -71,7 +71,7 @@ fn first_byte(pieces: &[Bytes], from: Place) -> Place
     Place { piece, at }
 }
 
-/// Copies the first bytes, as many as there are and fit, and tells how many.
+/// Copies the first bytes, as many as there are and fit, and reports how many.
 fn copy_front(from: &[u8], into: &mut [u8]) -> usize
     ensures count { result ≡ min (length from.now) (length into.old) }
     ensures bytes { take result into.new ≡ take result from.now }

@@ -36,7 +36,7 @@ RowLoaded form = (items : List Item) (words : List (List ℕ)) (change : Op) →
 same_change : (one other : Op) → Whole (command.Change one) ≡ Whole (command.Change other) → one ≡ other
 same_change one other e = cc
 
--- a keyword, and what stands behind it
+-- a keyword, and what stands after it
 spelled_by : (form : LineForm) (bytes : List ℕ) (first : Item) (behind : List Item) (change : Op) → form_of bytes ≡ Some form → (is_word_kind first.token.kind && same_word bytes first.token.word) ≡ true → AsksBehind form (tokens_of behind) change → Spells (tokens_of (first ∷ behind)) change
 spelled_by form bytes first behind change begun is asked =
     let both = and_parts (is_word_kind first.token.kind) (same_word bytes first.token.word) is in

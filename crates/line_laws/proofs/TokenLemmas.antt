@@ -35,7 +35,7 @@ pub kinds_join : (front back : List Item) → kinds_in (front ++ back) ≡ kinds
 kinds_join [] back = refl
 kinds_join (item ∷ front) back = ap (λ kinds. item.token.kind ∷ kinds) (kinds_join front back)
 
--- a list of tokens is parted as what is told of each of them
+-- a list of tokens is parted as what is said of each of them
 pub record Split {X : Type 0} (told : Item → X) (items : List Item) (front back : List X) : Type 0 where
   pub ahead : List Item
   pub behind : List Item

@@ -173,7 +173,7 @@ without verb served first behind change word same asked = words_typed verb serve
 kinds_words : (items : List Item) (kinds : List TokenKind) → map (λ (item : Item). item.token.kind) items ≡ kinds → list_all is_word_kind kinds ≡ true → AreWords items
 kinds_words items kinds e all = sym (words_by_kind items) ∙ ap (list_all is_word_kind) (kinds_told items ∙ e) ∙ all
 
--- with the tokens of brackets among those behind the keyword
+-- with the tokens of brackets among those after the keyword
 record IsSplit (behind : List Item) (front inside : List TokenKind) : Type 0 where
   ahead : List Item
   opening : Item

@@ -33,7 +33,7 @@ same_some v w e = cc
 some_none : (v : Value) → Some v ≡ None → ⊥
 some_none v e = cc
 
--- a path that passes a test, at which two lists of entries tell different things
+-- a path that passes a test, at which two lists of entries give different things
 record Apart (t : List Step → Bool) (xs ys : List (Pair Value)) : Type 0 where
   place : List Step
   passes : t place ≡ true
@@ -127,7 +127,7 @@ module _ (m n : Statements) (path : List Step) where
   sorted_part : (x : Statements) → T (is_sorted path_cmp (own_part x))
   sorted_part x = is_sorted-where_key path_cmp (is_below path) (map.entries x) (map.entries_sorted x)
 
-  -- tells what the map does
+  -- gives what the map does
   found_part : (x : Statements) (q : List Step) → is_below path q ≡ true → find path_cmp q (own_part x) ≡ map.get x q
   found_part x q h =
       find-where_key path_cmp (is_below path) q (λ k tie. ap (is_below path) (sym (path_same q k tie))) (map.entries x)

@@ -113,7 +113,7 @@ there_rest q e es h = by_tie (eq_by_cmp path_cmp q e.0)
 there_first : (e : Pair Value) (es : List (Pair Value)) → is_there e.0 (e ∷ es) ≡ true
 there_first e es = ap (λ (b : Bool). is_some (cond b (Some e.1) (find path_cmp e.0 es))) ((same_path e.0 e.0).1 refl)
 
--- what is among entries that stand behind a path is behind it
+-- what is among entries that stand after a path is after it
 there_behind : (k q : List Step) (es : List (Pair Value)) → T (below_all path_cmp k es) → is_there q es ≡ true → path_cmp k q ≡ Less
 there_behind k q es h there = by_value (find path_cmp q es) refl there
   where
@@ -130,7 +130,7 @@ all_behind : (k : List Step) (es : List (Pair Value)) → T (below_all path_cmp 
 all_behind k [] h = tt
 all_behind k (e ∷ es) h = (le_less _ (is_less _ (first _ _ h)), all_behind k es (second _ _ h))
 
--- a walk stands behind a path that goes; what is tagged above what is left is that path, or above it, or is left too
+-- a walk stands after a path that goes; what is tagged above what is left is that path, or above it, or is left too
 pub record Passed (tags : List (List Step)) (gone : Option (List Step)) (left : List (Pair Value)) : Type 0 where
   pub sorted : T (is_sorted path_cmp left)
   pub goes : (g : List Step) → gone ≡ Some g → (is_replaced tags g ≡ true) × AllByRecursion (λ e. is_le (path_cmp g e.0) ≡ true) left
@@ -202,7 +202,7 @@ module _ (tags : List (List Step)) (gone : Option (List Step)) (left rest : List
         (here.above t q tagged below (there_rest q (path, value) rest there));
   }
 
-  -- nothing behind a path that isn't below what went is
+  -- nothing after a path that isn't below what went is
   covers_less : (q : List Step) → is_covered gone path ≡ false → is_there q rest ≡ true → is_covered gone q ≡ true → ⊥
   covers_less q f there h = by_gone gone refl f h
     where

@@ -46,7 +46,7 @@ below_more p q (d ∷ es) e h = both (sym (ap is_lt (paths_total.trans p q d.0 e
 clash : (c : Bool) → c ≡ true → c ≡ false → ⊥
 clash c t f = cc
 
--- of paths in order, none below a path stands behind one that is past it
+-- of paths in order, none below a path stands after one that is past it
 none_later : (p k : List Step) (es : List (Pair Value)) → is_le (path_cmp p k) ≡ true → is_below p k ≡ false → T (below_all path_cmp k es)
     → filter (λ e. is_below p e.0) es ≡ []
 none_later p k [] a b h = refl
@@ -83,7 +83,7 @@ found_all P q v (d ∷ es) e h = by_tie (eq_by_cmp path_cmp q d.0) refl e (λ f.
     by_tie true t f go = subst P (sym (path_same q d.0 (is_tied _ t))) h.0
     by_tie false t f go = go f
 
--- an entry in the middle is behind those before it
+-- an entry in the middle is after those before it
 middle : (k : List Step) (seen : List (Pair Value)) (e : Pair Value) (rest : List (Pair Value))
     → T (below_all path_cmp k (seen ++ e ∷ rest)) → path_cmp k e.0 ≡ Less
 middle k [] e rest h = is_less _ (first _ _ h)

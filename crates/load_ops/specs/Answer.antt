@@ -14,7 +14,7 @@ IsLoaded Override old text new = IsTextLoad Override old text new
 IsLoaded Replace old text new = IsTextLoad Replace old text new
 IsLoaded SetLines old text new = IsLineLoad old text new
 
--- a load is made, and tells whether the statements changed
+-- a load is made, and reports whether the statements changed
 pub record IsLoad (way : LoadWay) (old : Statements) (text : List ℕ) (new : Statements) (told : Bool) : Type 0 where
   pub loaded : IsLoaded way old text new
   pub tells : Decides told (new ≢ old)

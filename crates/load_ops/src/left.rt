@@ -127,7 +127,7 @@ fn statements_left(
 {
     let mut items = Vec::with_capacity(alloc, tree.count() as usize)?;
     let top = Path::top(alloc);
-    // What stands below a tagged path stands right behind it.
+    // What stands below a tagged path stands right after it.
     let mut gone = top_if_tagged(tags, &top);
     let mut left = tree.walk();
     while let Some((path, value)) = left.next() {

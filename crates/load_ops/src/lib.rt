@@ -1,7 +1,7 @@
 //! Whole configurations that come in at once: load merge, load override, load replace, and load set.
 //!
 //! Guarantees: a load is all that its text says or nothing: the statements after it are those that the way of loading
-//! makes of the old ones and of the text, and of several causes of refusal the first is told; nothing at or below a
+//! makes of the old ones and of the text, and of several causes of refusal the first is reported; nothing at or below a
 //! protected statement changes, but by a line that takes the mark away.
 //! Leaves to others: what a text says (`curly_grammar`, `set_text`), what one line changes (`edit_ops`), and what a
 //! candidate is (`config_core`).

@@ -23,7 +23,7 @@ fn loaded(alloc: Global, tree: &Tree, way: LoadWay, text: &[u8]) -> Result<Tree,
     }
 }
 
-/// Loads a text, and tells whether anything changed. Junos OS CLI User Guide, on load merge, load override, load replace
+/// Loads a text, and reports whether anything changed. Junos OS CLI User Guide, on load merge, load override, load replace
 /// and load set.
 pub fn load(alloc: Global, tree: &mut Tree, way: LoadWay, text: &[u8]) -> Result<bool, LoadFault>
     ensures ok { IfOk result (IsLoad way tree.old text.now tree.new) }

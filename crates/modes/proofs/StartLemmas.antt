@@ -1,4 +1,4 @@
--- What comes of a list that was found.
+-- What results from a list that was found.
 use Rattle.std.proofs.Common.{◌≡◌, inl, inr, ℕ, List, refl, sym, subst, rules}
 use Rattle.disk_model.specs.Pair.{DiskPair}
 use Rattle.io_edge.specs.Ends.{SinkView}
@@ -14,7 +14,7 @@ module _ (Untouched : Type 0) (old new : SinkView) (before found after : DiskPai
   here : IsFound before after kept
   here = subst (λ (d : DiskPair). IsFound before d kept) (sym back) is_found
 
-  -- the list is told, or what there is room for
+  -- the list is reported, or what there is room for
   pub check_told : (status given : ℕ) (text : List ℕ) → status ≡ given → text ≡ check_text kept → IsTold text old new given
       → IsCheck Untouched old new before after status why
   check_told status given text is said told =
@@ -26,6 +26,6 @@ module _ (Untouched : Type 0) (old new : SinkView) (before found after : DiskPai
             (subst (λ (t : List ℕ). IsTold t old new given) said told)),
       )
 
-  -- memory is wanting for the text
+  -- memory runs out for the text
   pub check_untold : (status : ℕ) → status ≡ 9 → Untouched → IsCheck Untouched old new before after status why
   check_untold status is same = inr (no_why, kept, here, inr (is, same))

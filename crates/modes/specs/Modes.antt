@@ -1,4 +1,4 @@
--- What comes of a mode that serves no session: its status, what it writes, and the disks. This project's own.
+-- What results from a mode that serves no session: its status, what it writes, and the disks. This project's own.
 use Rattle.std.specs.Prelude.{◌≡◌, ◌⊎◌, ℕ, List}
 use Rattle.cfg_base.specs.Counts.{Rose}
 use Rattle.io_edge.specs.Ends.{SinkView, held_after}
@@ -37,13 +37,13 @@ pub record IsRefusedFor (Untouched : Type 0) (cause : StartWhy) (status : ℕ) (
   pub told : why ≡ Why cause
   pub status_is : status ≡ start_status cause
 
--- mode init: no list could be made; or one was, and that is told
+-- mode init: no list could be made; or one was, and that is reported
 abbrev pub IsInit : Type 0 → SinkView → SinkView → DiskPair → DiskPair → ℕ → StartWhy0 → Type 0
 IsInit Untouched old new before after status why =
     ((cause : StartWhy) × IsRefusedFor Untouched cause status why × IsNotMade before cause after)
     ⊎ ((why ≡ NoWhy) × IsTold init_text old new status × IsMade before after)
 
--- mode check: no list was found; or one was, and is told, unless memory was wanting for the text
+-- mode check: no list was found; or one was, and is reported, unless memory ran out for the text
 abbrev pub IsCheck : Type 0 → SinkView → SinkView → DiskPair → DiskPair → ℕ → StartWhy0 → Type 0
 IsCheck Untouched old new before after status why =
     ((cause : StartWhy) × IsRefusedFor Untouched cause status why × IsNotFound before cause after)

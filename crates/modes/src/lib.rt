@@ -1,4 +1,4 @@
-//! The modes that serve no session: a journal that is made, a journal that is checked, and what is told of a configuration
+//! The modes that serve no session: a journal that is made, a journal that is checked, and what is reported of a configuration
 //! that was generated.
 //!
 //! Guarantees: what a mode writes is a function of what the disks hold, or of a number; it is cut only where the sink's count

@@ -58,7 +58,7 @@ fn ended<D: Disk>(status: u8, stored: Stored<D>) -> Did<D>
     }
 }
 
-/// Makes a list of the factory commit alone on two disks, and tells it.
+/// Makes a list of the factory commit alone on two disks, and reports it.
 pub fn init<K: Sink, D: Disk>(alloc: Global, sink: &mut K, a: D, b: D, limits: Limits) -> Did<D>
     ensures { IsInit (sink.new ≡ sink.old) (K.view sink.old) (K.view sink.new) (pair_of D.view a b)
         (pair_of D.view result.a result.b) result.status result.why }
@@ -69,7 +69,7 @@ pub fn init<K: Sink, D: Disk>(alloc: Global, sink: &mut K, a: D, b: D, limits: L
     }
 }
 
-/// Tells what the list on two disks has, and leaves their contents as they were.
+/// Reports what the list on two disks has, and leaves their contents as they were.
 pub fn check<K: Sink, D: Disk>(alloc: Global, sink: &mut K, a: D, b: D, limits: Limits) -> Did<D>
     ensures { IsCheck (sink.new ≡ sink.old) (K.view sink.old) (K.view sink.new) (pair_of D.view a b)
         (pair_of D.view result.a result.b) result.status result.why }

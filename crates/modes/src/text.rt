@@ -26,7 +26,7 @@ pub(crate) fn push_number(text: &mut Vec<u8>, number: u64) -> Result<(), NoMemor
     push_bytes(text, digits.format(number).as_bytes())
 }
 
-/// Puts a name and a number behind it at the end of a text.
+/// Puts a name and a number after it at the end of a text.
 pub(crate) fn push_named(text: &mut Vec<u8>, name: &[u8], number: u64) -> Result<(), NoMemory>
     ensures { OnOk result (text.new.items ≡ text.old.items ++ (name.now ++ decimal number)) }
 {
@@ -50,7 +50,7 @@ fn push_deadline(text: &mut Vec<u8>, ledger: &Ledger) -> Result<(), NoMemory>
     }
 }
 
-/// What is told of a list: how many entries it has, how many commits are kept, and the deadline of an unconfirmed run.
+/// What is reported of a list: how many entries it has, how many commits are kept, and the deadline of an unconfirmed run.
 pub(crate) fn check_text(alloc: Global, ledger: &Ledger) -> Result<Bytes, NoMemory>
     ensures { IfOk result (λ text. text ≡ check_text ledger.now) }
 {
@@ -61,7 +61,7 @@ pub(crate) fn check_text(alloc: Global, ledger: &Ledger) -> Result<Bytes, NoMemo
     Ok(Bytes::from(text))
 }
 
-/// What is told of a configuration that was made: the number of its statements, of the paths of its expansion and of the bytes
+/// What is reported of a configuration that was made: the number of its statements, of the paths of its expansion and of the bytes
 /// of its text, and how many commits are kept.
 pub fn gen_text(
     alloc: Global,

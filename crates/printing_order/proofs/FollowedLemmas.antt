@@ -64,7 +64,7 @@ pub all_in : {V : Type 0} (a : List Step) (front back : List (Pair V)) (e : Pair
 all_in a [] back e all = less _ (front_of _ _ all)
 all_in a (g ∷ front) back e all = all_in a front back e (back_of _ _ all)
 
--- among entries in order, what is after one of them stands behind it
+-- among entries in order, what is after one of them stands after it
 pub found_behind : (front back : List (Pair Value)) (e : Pair Value) (q : List Step) → T (is_sorted path_cmp (front ++ e ∷ back)) → IsSome (find path_cmp q (front ++ e ∷ back))
     → path_cmp e.0 q ≡ Less → IsSome (find path_cmp q back)
 found_behind [] back e q sorted there after =
@@ -95,7 +95,7 @@ module _ (m : Statements) where
   found_as : (es : List (Pair Value)) (q : List Step) → map.entries m ≡ es → map.get m q ≡ find path_cmp q es
   found_as es q are = map.get-entries m q ∙ ap (λ (xs : List (Pair Value)). find path_cmp q xs) are
 
-  -- the entry behind another one is the next statement
+  -- the entry after another one is the next statement
   pub followed : (front rest : List (Pair Value)) (e f : Pair Value) → map.entries m ≡ front ++ e ∷ f ∷ rest → IsNext m e.0 f.0 f.1
   followed front rest e f are = record {
     found = found_as _ f.0 are ∙ ap (λ (xs : List (Pair Value)). find path_cmp f.0 xs) (sym (append_assoc front (e ∷ []) (f ∷ rest)))
@@ -110,7 +110,7 @@ module _ (m : Statements) where
       here : T (is_sorted path_cmp (e ∷ f ∷ rest))
       here = back_sorted front (e ∷ f ∷ rest) (sorted_as _ are)
 
-  -- behind the last entry there is no statement
+  -- after the last entry there is no statement
   pub unfollowed : (front : List (Pair Value)) (e : Pair Value) → map.entries m ≡ front ++ e ∷ [] → IsLast m e.0
   unfollowed front e are q there after =
       let back = found_behind front [] e q (sorted_as _ are) (subst IsSome (found_as _ q are) there) after in cc

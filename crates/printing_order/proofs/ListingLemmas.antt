@@ -63,7 +63,7 @@ row_unordered levels m path id inside e unordered =
     ∙ ap (λ (k : List Step). item_with k (map.get m k) (items_below levels m k)) at)
     id inside e unordered
 
--- an item, once those that stand in it are put behind it, is told how many they are
+-- an item, once those that stand in it are put after it, is told how many they are
 pub told_behind : (old new below : List Item) (one held other : Item) (at : ℕ) → at ≡ length old → new ≡ (old ++ one ∷ []) ++ below → held ≡ get_or new at held
     → other ≡ record { path = held.path; value = held.value; inside = length new - at - 1 }
     → set new at other ≡ old ++ record { path = one.path; value = one.value; inside = length below } ∷ below

@@ -73,7 +73,7 @@ self_apart e = both_false (is_below e e) (nat_lt (length e) (length e)) (lt_not 
     both_false true b f = f
     both_false false b f = refl
 
--- what is below a path and behind it is inside
+-- what is below a path and after it is inside
 pub behind_inside : (e x : List Step) → path_cmp e x ≡ Less → is_below e x ≡ true → is_inside e x ≡ true
 behind_inside e x behind below = let rest = below_rest e x below in by_rest rest.0 rest.1
   where
@@ -83,11 +83,11 @@ behind_inside e x behind below = let rest = below_rest e x below in by_rest rest
         let long = ap (λ (ss : List Step). length ss) f
         in both_true _ _ below (lt_is (length e) (length x) (omega (arith, long, length-append e (s ∷ rest))))
 
--- of the statements behind a path those up to the first that isn't below it
+-- of the statements after a path those up to the first that isn't below it
 abbrev front_below : List Step → List (Pair Value) → List (Pair Value)
 front_below path behind = take (prefix_len (λ e. is_below path e.0) behind) behind
 
--- of statements in order behind a path those inside it are the front
+-- of statements in order after a path those inside it are the front
 behind_is : (e : List Step) (rest : List (Pair Value)) → T (is_sorted path_cmp rest) → AllByRecursion (λ j. path_cmp e j ≡ Less) (keys_of rest)
     → filter (λ x. is_inside e x.0) rest ≡ front_below e rest
 behind_is e [] sorted behind = refl
@@ -115,7 +115,7 @@ behind_is e (x ∷ rest) sorted behind = by_test (is_below e x.0) refl (behind_i
         (none_later e x.0 (keys_of rest) (ap is_le behind.0) f (later x.0 rest (head_of _ _ sorted)))
         ∙ ap (λ (c : Bool). take (cond c (1 + count) 0) (x ∷ rest)) (sym f)
 
--- of entries in order those inside one of them stand behind it
+-- of entries in order those inside one of them stand after it
 pub only_behind : {V : Type 0} (front rest : List (Pair V)) (e : Pair V) → T (is_sorted path_cmp (front ++ e ∷ rest))
     → filter (λ x. is_inside e.0 x.0) (front ++ e ∷ rest) ≡ filter (λ x. is_inside e.0 x.0) rest
 only_behind {V} [] rest e sorted =
@@ -126,7 +126,7 @@ only_behind {V} (g ∷ front) rest e sorted =
     (before_apart e.0 g.0 (all_in g.0 front rest e (head_of _ _ sorted)))
     ∙ only_behind front rest e (tail_of _ _ sorted)
 
--- of statements in order those inside one of them stand right behind it
+-- of statements in order those inside one of them stand right after it
 right_behind : (front rest : List (Pair Value)) (e : Pair Value) → T (is_sorted path_cmp (front ++ e ∷ rest))
     → filter (λ x. is_inside e.0 x.0) (front ++ e ∷ rest) ≡ front_below e.0 rest
 right_behind front rest e sorted =
@@ -164,7 +164,7 @@ module _ (m : Statements) (tree : IsTree m) (path : List Step) (front behind : L
       ∙ sym (map.get-entries m q)))
       there)
 
-  -- what stands behind the statement and is there, inside the path, is below it or is left
+  -- what stands after the statement and is there, inside the path, is below it or is left
   abbrev IsKnown : List (Pair Value) → Type 0
   IsKnown rest =
       (q : List Step) → is_inside path q ≡ true → IsSome (map.get m q) → path_cmp e.0 q ≡ Less
@@ -262,7 +262,7 @@ module _ (m : Statements) (tree : IsTree m) (path : List Step) (front behind : L
           let below = longer_below x rest known in_order after.0 inside_e each.0.0 each.0.1 (lt_told (length e.0) (length x.0) h) in cc
       by_tests false true h k go = let parts = both (is_below e.0 x.0) _ (behind_inside e.0 x.0 after.0 k) in cc
 
-  -- of the statements inside a path those inside one of them stand right behind it
+  -- of the statements inside a path those inside one of them stand right after it
   pub inside_each : front_inside e.0 behind ≡ statements_inside m e.0
   inside_each =
       same_front behind known_all (tail_of _ _ here) (later e.0 behind (head_of _ _ here)) inside_e each
@@ -289,7 +289,7 @@ module _ (m : Statements) (tree : IsTree m) (path : List Step) (front behind : L
       known_all : IsKnown behind
       known_all q inside there after = inr (found_behind front behind e q sorted (found_in q inside there) after)
 
--- the same of the one at a place, and what stands behind it
+-- the same of the one at a place, and what stands after it
 pub inside_at : (m : Statements) → IsTree m → (path : List Step) (inside behind : List (Pair Value)) (at : ℕ) (e : Pair Value) → inside ≡ statements_inside m path
     → at < length inside → e ≡ get_or inside at e → behind ≡ drop (at + 1) inside → front_inside e.0 behind ≡ statements_inside m e.0
 inside_at m tree path inside behind at e are within is rest =

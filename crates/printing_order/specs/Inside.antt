@@ -12,6 +12,6 @@ use Rattle.cfg_tree.specs.Children.{is_inside}
 abbrev pub statements_inside : Statements → List Step → List (Pair Value)
 statements_inside m path = filter (λ e. is_inside path e.0) (map.entries m)
 
--- of the statements behind a path those up to the first that isn't longer
+-- of the statements after a path those up to the first that isn't longer
 abbrev pub front_inside : List Step → List (Pair Value) → List (Pair Value)
 front_inside path behind = take (prefix_len (λ e. nat_lt (length path) (length e.0)) behind) behind

@@ -8,13 +8,13 @@ use Rattle.cfg_base.specs.declared.value.Value.{Value}
 use Rattle.cfg_tree.specs.Statements.{Statements}
 use Rattle.cfg_tree.specs.Children.{children_of}
 
--- a statement in a list, and how many of those right behind it stand in it
+-- a statement in a list, and how many of those right after it stand in it
 pub record Item : Type 0 where
   pub path : List Step
   pub value : Value
   pub inside : ℕ
 
--- a statement, where it is there, and behind it those that stand in it
+-- a statement, where it is there, and after it those that stand in it
 abbrev pub item_with : List Step → Option Value → List Item → List Item
 item_with path None inside = []
 item_with path (Some value) inside = record { path = path; value = value; inside = length inside } ∷ inside

@@ -5,7 +5,7 @@ ghost use Rattle.std.specs.Prelude.{◌≡◌};
 use cfg_base::{Path, Value};
 use std::marker::Model;
 
-/// A statement, and how many of those right behind it stand in it.
+/// A statement, and how many of those right after it stand in it.
 #[derive(Debug, Drop)]
 pub struct Item<'a> {
     path: &'a Path,
@@ -47,7 +47,7 @@ impl<'a> Item<'a> {
         self.value
     }
 
-    /// How many of the statements right behind it stand in it.
+    /// How many of the statements right after it stand in it.
     pub fn inside(&self) -> usize
         ensures { result ≡ self.now.inside }
     {

@@ -1,8 +1,8 @@
 //! In which order statements are printed.
 //!
-//! Guarantees: `items_below` lists the statements below a path in printing order, each with how many of those right behind
+//! Guarantees: `items_below` lists the statements below a path in printing order, each with how many of those right after
 //! it stand in it (specs/Listed.antt); `statements_below` gives them in the order of paths, of which those inside one of
-//! them stand right behind it (`front_inside`, specs/Inside.antt).
+//! them stand right after it (`front_inside`, specs/Inside.antt).
 //! Leaves to others: which order the children of a path have (`cfg_tree`), and what is printed of each
 //! (`curly_print`, `set_text`).
 #![tactic(auto)]

@@ -188,7 +188,7 @@ impl<'a> Lister<'a> {
         self.push_statement(items, statement, front_inside(statement, behind), levels)
     }
 
-    /// Puts a statement at the end of a list, and behind it those that stand in it.
+    /// Puts a statement at the end of a list, and after it those that stand in it.
     #[cycle(listing)]
     fn push_statement(
         &self,
@@ -210,7 +210,7 @@ impl<'a> Lister<'a> {
     }
 }
 
-/// The statements below a path in printing order, so many levels deep, each with how many of those right behind it stand
+/// The statements below a path in printing order, so many levels deep, each with how many of those right after it stand
 /// in it.
 pub fn items_below<'a>(
     alloc: Global,

@@ -82,7 +82,7 @@ impl<'a> Statement<'a> {
     }
 }
 
-/// How many of the statements behind one come before the first that isn't longer.
+/// How many of the statements after one come before the first that isn't longer.
 fn count_inside(above: &Statement<'_>, behind: &[Statement<'_>]) -> usize
     ensures count { result ≡ prefix_len (λ e. nat_lt (length above.now.0) (length e.0)) behind.now }
     ensures within { result ≤ length behind.now }
@@ -93,7 +93,7 @@ fn count_inside(above: &Statement<'_>, behind: &[Statement<'_>]) -> usize
         .count()
 }
 
-/// Of the statements behind one those below it.
+/// Of the statements after one those below it.
 pub fn front_inside<'a, 'b>(
     above: &Statement<'_>,
     behind: &'b [Statement<'a>],

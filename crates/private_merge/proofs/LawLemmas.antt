@@ -23,7 +23,7 @@ made_once base active mine one other a b =
 pub merge_once : (base active mine one other : Statements) → IsMerge base active mine one → IsMerge base active mine other → one ≡ other
 merge_once base active mine one other a b = made_once base active mine one other a.made b.made
 
--- two paths of which neither is behind the other are one
+-- two paths of which neither is after the other are one
 neither_behind : (p q : List Step) → path_cmp p q ≢ Greater → path_cmp q p ≢ Greater → p ≡ q
 neither_behind p q a b = by_order (path_cmp p q) refl
   where

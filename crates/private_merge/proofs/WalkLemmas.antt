@@ -1,4 +1,4 @@
--- Entries in the order of paths, up to the path that comes next and behind it.
+-- Entries in the order of paths, up to the path that comes next and after it.
 use Rattle.std.proofs.Common.{◌≡◌, ◌≢◌, ◌⊎◌, inl, inr, ◌<◌, ◌≤◌, Bool, T, true, false, cond, ◌&&◌, List, [], ◌∷◌, length, refl, sym, ap, subst, ◌∙◌, Option, Some, None, Ordering, Less, Equal, Greater, is_lt, is_le, is_eq, arith}
 use Rattle.std.specs.Ordering.{eq_by_cmp, ordering_reverse}
 use Rattle.std.specs.FinMap.Entries.{find, is_sorted, below_all}
@@ -34,7 +34,7 @@ le_of_less o e = ap is_le e
 clash : (b : Bool) → b ≡ true → b ≡ false → ⊥
 clash b t f = cc
 
--- from one that isn't behind another to one behind that
+-- from one that isn't after another to one after that
 le_less : (p q r : List Step) → is_le (path_cmp p q) ≡ true → path_cmp q r ≡ Less → path_cmp p r ≡ Less
 le_less p q r h less = by_order (path_cmp p q) refl h
   where
@@ -80,12 +80,12 @@ found_behind k q v (d ∷ es) h e = by_tie (eq_by_cmp path_cmp q d.0) refl e (λ
     by_tie true t f go = ap (λ (x : List Step). path_cmp k x) ((same_path q d.0).0 t) ∙ is_less _ (first _ _ h)
     by_tie false t f go = go f
 
--- a path isn't behind another one, where there is one
+-- a path isn't after another one, where there is one
 abbrev pub IsUpToPath : List Step → Option (List Step) → Type 0
 IsUpToPath p None = Unit {0}
 IsUpToPath p (Some q) = is_le (path_cmp p q) ≡ true
 
--- nor behind what comes next
+-- nor after what comes next
 abbrev pub IsUpTo : List Step → List (Pair Value) → Type 0
 IsUpTo p es = IsUpToPath p (path_ahead es)
 
@@ -102,7 +102,7 @@ find_ahead p (e ∷ es) h up = by_tie (eq_by_cmp path_cmp p e.0) refl
     by_tie true t = refl
     by_tie false t = sym (find_none p es (less_there p e es h up t))
 
--- behind it nothing is found there
+-- after it nothing is found there
 pub none_behind : (p : List Step) (es : List (Pair Value)) → T (is_sorted path_cmp es) → IsUpTo p es → find path_cmp p (rest_behind p es) ≡ None
 none_behind p [] h up = refl
 none_behind p (e ∷ es) h up = by_tie (eq_by_cmp path_cmp p e.0) refl
@@ -195,7 +195,7 @@ found_ahead p (d ∷ es) h e =
     never : Some d.1 ≡ None → ⊥
     never f = cc
 
--- what is behind is no longer
+-- what is after a path is no longer
 pub behind_length : (p : List Step) (es : List (Pair Value)) → length (rest_behind p es) ≤ length es
 behind_length p [] = omega arith
 behind_length p (e ∷ es) = by_tie (eq_by_cmp path_cmp p e.0)

@@ -1,5 +1,5 @@
 -- Three configurations put together, path by path: the base that a private candidate began with, the active one, and the
--- candidate's own. Junos OS CLI User Guide, on configure private and on update; that it is told by paths, and what
+-- candidate's own. Junos OS CLI User Guide, on configure private and on update; that it is stated by paths, and what
 -- conflicts, is this project's own.
 use Rattle.std.specs.Prelude.{◌≡◌, ◌≢◌, ◌⊎◌, ◌≤◌, ◌<◌, List, length, Option, Some, None}
 use Rattle.std.specs.FinMap as map

@@ -12,7 +12,7 @@ use Rattle.private_merge.specs.declared.fault.MergeFault.{MergeFault}
 use Rattle.private_merge.specs.declared.fault.MergeFault.TheVariants.{Conflict, TooMany, NoMemory}
 use Rattle.private_merge.specs.Merge.{IsMergedAt, IsMergeOf, Agree, IsLeastConflict}
 
--- an entry, where there is one, in front of others; without one there are none
+-- an entry, where there is one, before others; without one there are none
 abbrev pub in_front : Option (Pair Value) → List (Pair Value) → List (Pair Value)
 in_front None rest = []
 in_front (Some e) rest = e ∷ rest
@@ -27,7 +27,7 @@ abbrev pub value_ahead : List Step → List (Pair Value) → Option Value
 value_ahead path [] = None
 value_ahead path (e ∷ es) = cond (eq_by_cmp path_cmp path e.0) (Some e.1) None
 
--- what comes behind a path
+-- what comes after a path
 abbrev pub rest_behind : List Step → List (Pair Value) → List (Pair Value)
 rest_behind path [] = []
 rest_behind path (e ∷ es) = cond (eq_by_cmp path_cmp path e.0) es (e ∷ es)
@@ -52,7 +52,7 @@ all_ahead base active mine = record { base = map.entries base; active = map.entr
 abbrev pub next_path : Ahead → Option (List Step)
 next_path ahead = first_of (first_of (path_ahead ahead.base) (path_ahead ahead.active)) (path_ahead ahead.mine)
 
--- the same behind a path
+-- the same after a path
 abbrev pub all_behind : List Step → Ahead → Ahead
 all_behind path ahead = record {
   base = rest_behind path ahead.base;
@@ -76,7 +76,7 @@ standing_at path ahead = record {
   mine = value_ahead path ahead.mine;
 }
 
--- a place comes next, and what is ahead then is behind it
+-- a place comes next, and what is ahead then is after it
 pub record IsNextPlace (before after : Ahead) (place : Standing) : Type 0 where
   pub next : next_path before ≡ Some place.path
   pub stands : place ≡ standing_at place.path before
@@ -114,7 +114,7 @@ pub record IsOwn (base active mine : Statements) (own : List Stand) : Type 0 whe
   pub agree : Agree base active mine
   pub made : IsMergeOf base active mine (with_values active own)
 
--- a path conflicts, or memory is wanting
+-- a path conflicts, or memory runs out
 abbrev pub IsConflictFault : Statements → Statements → Statements → MergeFault → Type 0
 IsConflictFault base active mine (Conflict path) = IsLeastConflict base active mine path
 IsConflictFault base active mine TooMany = ⊥

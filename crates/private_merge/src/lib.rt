@@ -3,7 +3,7 @@
 //!
 //! Guarantees: each path has the value that the candidate gave it, or else the active one; nothing is merged where both
 //! sides changed a path in two ways, or where a statement would stand without its parent: then the least such path is
-//! told; what is merged is a configuration, of no more statements than one may have.
+//! reported; what is merged is a configuration, of no more statements than one may have.
 //! Leaves to others: what a candidate is (`candidate`), and who may commit when (`config_core`).
 #![tactic(auto)]
 

@@ -18,7 +18,7 @@ fn are_trees(base: &Tree, active: &Tree, mine: &Tree)
     ensures active { IsTree active.now }
     ensures mine { IsTree mine.now }
 {
-    // The clauses of these calls tell it.
+    // The clauses of these calls say it.
     let _ = base.count();
     let _ = active.count();
     let _ = mine.count();

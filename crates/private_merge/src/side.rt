@@ -44,7 +44,7 @@ impl<'a> Side<'a> {
         Some(path)
     }
 
-    /// The value at a path, where that comes next, and then what comes behind it.
+    /// The value at a path, where that comes next, and then what comes after it.
     pub fn take(&mut self, path: &Path) -> Option<&'a Value>
         ensures value { option_copied result ≡ value_ahead path.now self.old }
         ensures rest { self.new ≡ rest_behind path.now self.old }

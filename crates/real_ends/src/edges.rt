@@ -74,7 +74,7 @@ fn file_input<R: Files, I>(rt: &R, file: &Word) -> Input<I, R::File> {
     }
 }
 
-/// What is written of a session whose file has that name: a file with `.out` behind the name, made anew.
+/// What is written of a session whose file has that name: a file with `.out` after the name, made anew.
 fn file_output<R: Files, O>(
     rt: &R,
     alloc: Global,

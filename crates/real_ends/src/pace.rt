@@ -7,7 +7,7 @@ use std::rt::Clock;
 use std::thread;
 use std::time::Duration;
 
-/// A beat fifty times a second: so soon a deadline is met, and so soon the program ends behind its last session.
+/// A beat fifty times a second: so soon a deadline is met, and so soon the program ends after its last session.
 #[derive(Drop)]
 pub(crate) struct Pace<R: Clock + Drop> {
     clock: R,

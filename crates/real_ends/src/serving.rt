@@ -128,7 +128,7 @@ where
     }
 }
 
-/// Does what the words ask, and tells what came of it. A session that is over no file is over this input and output. Where
+/// Does what the words ask, and reports what resulted. A session that is over no file is over this input and output. Where
 /// another service has the journal that is to be served, nothing is begun: no file of a session is opened.
 pub fn serve<R, I, O>(rt: &R, words: &Words, input: I, output: O) -> Result<Came, NoMemory>
 where

@@ -4,7 +4,7 @@ use service::StartWhy0;
 use std::alloc::{AllocError, Global};
 use stored_ledger::StartWhy;
 
-/// What came of a run: its status, why its start was refused, if it was, and whether another service had the journal, so that
+/// What resulted from a run: its status, why its start was refused, if it was, and whether another service had the journal, so that
 /// nothing was begun.
 #[derive(Clone, Copy)]
 pub struct Came {

@@ -6,7 +6,7 @@ use Rattle.record_code.specs.Reading.{byte, slice, Reads}
 use Rattle.record_code.proofs.Slices.{slice_front, slice_back}
 use Rattle.record_code.proofs.ReadingLemmas.{length-body, body_there}
 
--- a row of records from a gate on, with a closed gate behind them
+-- a row of records from a gate on, with a closed gate after them
 pub record Row (f : List ℕ) (g last : ℕ) (rs : List Record) : Type 0 where
   pub reads : Reads f g rs last
   pub shut : byte f last ≡ 0

@@ -1,4 +1,4 @@
--- Records put together one behind the other are read from their bytes.
+-- Records put together one after the other are read from their bytes.
 use Rattle.std.proofs.Common.{◌≡◌, ◌≤◌, ◌<◌, ℕ, zero, suc, ◌+◌, ◌-◌, ◌==◌, cond, Bool, true, false, List, [], ◌∷◌, ◌++◌, length, take, drop, get_or, refl, sym, ◌∙◌, ap, subst, arith, append_assoc, length-append}
 use Rattle.std.specs.List.{All}
 use Rattle.std.specs.Int.{w32, to_be_bytes, from_be_bytes}
@@ -21,7 +21,7 @@ module _ (next : ℕ) (r : Record) (sound : IsSound r) (rest : List ℕ) where
   abbrev whole : List ℕ
   whole = body next r ++ rest
 
-  -- the kind, the number, and what stands behind them
+  -- the kind, the number, and what stands after them
   parts : whole ≡ r.kind ∷ (number ++ (r.payload ++ (behind ++ rest)))
   unfolding body number behind
   parts =
@@ -111,7 +111,7 @@ gated_is bytes rs sound some is =
 pub one_sound : (r : Record) → IsSound r → All IsSound (r ∷ [])
 one_sound r sound = grind arith
 
--- and one more behind others
+-- and one more after others
 pub record Grows (rs : List Record) (r : Record) : Type 0 where
   pub front : List ℕ
   pub now : bodies rs ≡ front ++ 0 ∷ []
@@ -129,13 +129,13 @@ grows (s ∷ (t ∷ rs)) r some =
       then = ap (λ (l : List ℕ). body 1 s ++ l) rest.then ∙ sym (append_assoc (body 1 s) (rest.front ++ 1 ∷ []) (body 0 r)) ∙ ap (λ (l : List ℕ). l ++ body 0 r) (sym (append_assoc (body 1 s) rest.front (1 ∷ [])));
     }
 
--- all behind the front
+-- all after the front
 from_behind : (l front back : List ℕ) → l ≡ front ++ back → take (length l - length front) (drop (length front) l) ≡ back
 from_behind l front back is =
     let rest : drop (length front) l ≡ back = ap (λ (k : List ℕ). drop (length front) k) is ∙ drop_at front back (length front) refl in
     ap (λ (k : List ℕ). take (length l - length front) k) rest ∙ take_all (length l - length front) back (omega (arith, ap length is, length-append front back))
 
--- a body that was put together piece by piece behind what stood there
+-- a body that was put together piece by piece after what stood there
 pub pieces : (r : Record) (l0 l1 l2 l3 l4 l5 number payload digest read : List ℕ) (size : ℕ) → l1 ≡ l0 ++ r.kind ∷ []
     → number ≡ to_be_bytes w32 (length r.payload) → l2 ≡ l1 ++ number → payload ≡ r.payload → l3 ≡ l2 ++ payload
     → size ≡ length l0 → read ≡ l3 → digest ≡ sha256 (take (length read - size) (drop size read)) → l4 ≡ l3 ++ digest → l5 ≡ l4 ++ 0 ∷ [] → l5 ≡ l0 ++ body 0 r
@@ -149,14 +149,14 @@ pieces r l0 l1 l2 l3 l4 l5 number payload digest read size a1 number_is a2 paylo
     let e4 : l4 ≡ l0 ++ (head r ++ sha256 (head r)) = a4 ∙ ap (λ (l : List ℕ). l ++ digest) e3 ∙ append_assoc l0 (head r) digest ∙ ap (λ (l : List ℕ). l0 ++ (head r ++ l)) (digest_is ∙ ap sha256 behind_front) in
     a5 ∙ ap (λ (l : List ℕ). l ++ 0 ∷ []) e4 ∙ append_assoc l0 (head r ++ sha256 (head r)) (0 ∷ [])
 
--- the first record behind its gate
+-- the first record after its gate
 pub first_made : (r : Record) (l0 l1 l2 payload : List ℕ) → l0 ≡ [] → l1 ≡ l0 ++ 1 ∷ [] → payload ≡ r.payload
     → (let s : Record = record { kind = r.kind; payload = payload } in l2 ≡ l1 ++ body 0 s) → l2 ≡ gated (bodies (r ∷ []))
 first_made r l0 l1 l2 payload a0 a1 is a2 =
     a2 ∙ ap (λ (l : List ℕ). l1 ++ body 0 (let s : Record = record { kind = r.kind; payload = l } in s)) is
     ∙ ap (λ (l : List ℕ). l ++ body 0 r) (a1 ∙ ap (λ (l : List ℕ). l ++ 1 ∷ []) a0)
 
--- and a record behind others, whose last gate was opened
+-- and a record after others, whose last gate was opened
 pub next_made : (rs : List Record) (r : Record) (l0 l1 l2 l3 payload : List ℕ) → 0 < length rs → l0 ≡ gated (bodies rs) → l1 ≡ take (length l0 - 1) l0 → l2 ≡ l1 ++ 1 ∷ [] → payload ≡ r.payload
     → (let s : Record = record { kind = r.kind; payload = payload } in l3 ≡ l2 ++ body 0 s) → l3 ≡ gated (bodies (rs ++ r ∷ []))
 next_made rs r l0 l1 l2 l3 payload some a0 a1 a2 is a3 =

@@ -102,7 +102,7 @@ reads_split f g (r ∷ rs) (s ∷ ss) last last' a b is_open shut =
     let whole : s ∷ ss ≡ r ∷ (rs ++ rest.0) = cc in
     (rest.0, whole, rest.2)
 
--- a body that stands behind an open gate is a record, and its last byte is the next gate
+-- a body that stands after an open gate is a record, and its last byte is the next gate
 pub record Stands (f : List ℕ) (g next : ℕ) (r : Record) : Type 0 where
   pub here : byte f g ≡ 1 → IsRecordAt f g r
   pub gate : next_gate f g ≡ g + 38 + length r.payload

@@ -17,13 +17,13 @@ slice file at (suc n) = byte file at ∷ slice file (suc at) n
 abbrev pub Agree : List ℕ → List ℕ → ℕ → ℕ → Type 0
 Agree f g from to = (k : ℕ) → from ≤ k → k < to → byte f k ≡ byte g k
 
--- the length of a payload behind the gate at g; one above the limit is read as none
+-- the length of a payload after the gate at g; one above the limit is read as none
 unfoldable pub size_at : List ℕ → ℕ → ℕ
 size_at file g =
     let n = from_be_bytes w32 (slice file (g + 2) 4) in
     if nat_le n most_payload then n else 0
 
--- the record behind the gate at g
+-- the record after the gate at g
 unfoldable pub record_at : List ℕ → ℕ → Record
 record_at file g = record { kind = byte file (g + 1); payload = slice file (g + 6) (size_at file g) }
 
@@ -31,7 +31,7 @@ record_at file g = record { kind = byte file (g + 1); payload = slice file (g + 
 unfoldable pub computed_digest : List ℕ → ℕ → List ℕ
 computed_digest file g = sha256 (slice file (g + 1) (5 + size_at file g))
 
--- the digest that stands behind its payload
+-- the digest that stands after its payload
 unfoldable pub kept_digest : List ℕ → ℕ → List ℕ
 kept_digest file g = slice file (g + 6 + size_at file g) 32
 
@@ -39,13 +39,13 @@ kept_digest file g = slice file (g + 6 + size_at file g) 32
 unfoldable pub next_gate : List ℕ → ℕ → ℕ
 next_gate file g = g + 38 + size_at file g
 
--- the gate at g is open, and behind it stands this record with its digest
+-- the gate at g is open, and after it stands this record with its digest
 pub record IsRecordAt (file : List ℕ) (g : ℕ) (r : Record) : Type 0 where
   pub is_open : byte file g ≡ 1
   pub is : r ≡ record_at file g
   pub right : computed_digest file g ≡ kept_digest file g
 
--- from the gate at g on these records stand one after another, and the gate behind them is at `last`
+-- from the gate at g on these records stand one after another, and the gate after them is at `last`
 abbrev pub Reads : List ℕ → ℕ → List Record → ℕ → Type 0
 Reads file g [] last = g ≡ last
 Reads file g (r ∷ rs) last = IsRecordAt file g r × Reads file (next_gate file g) rs last

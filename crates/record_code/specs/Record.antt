@@ -20,7 +20,7 @@ IsSound r = length r.payload ≤ most_payload
 abbrev pub head : Record → List ℕ
 head r = (r.kind ∷ []) ++ to_be_bytes w32 (length r.payload) ++ r.payload
 
--- a record behind its gate: the head, its digest, and the gate of the next record
+-- a record after its gate: the head, its digest, and the gate of the next record
 unfoldable pub body : ℕ → Record → List ℕ
 body next r = head r ++ sha256 (head r) ++ next ∷ []
 
@@ -44,11 +44,11 @@ records_in zero bytes = []
 records_in (suc n) bytes =
     first_in bytes ∷ (if slice_index bytes (37 + stated_size bytes) == 1 then records_in n (drop (38 + stated_size bytes) bytes) else [])
 
--- the gate before records is open, and behind it stand these bytes
+-- the gate before records is open, and after it stand these bytes
 abbrev pub gated : List ℕ → List ℕ
 gated body = 1 ∷ body
 
--- the records behind the gate that these bytes begin with: no more than there are bytes
+-- the records after the gate that these bytes begin with: no more than there are bytes
 abbrev pub records_behind : List ℕ → List Record
 records_behind bytes = records_in (length bytes) (drop 1 bytes)
 

@@ -23,7 +23,7 @@ impl Model for Encoded {
 }
 
 impl Encoded {
-    /// These records and one more of that kind with that payload behind them.
+    /// These records and one more of that kind with that payload after them.
     pub fn with(self, kind: u8, payload: &Bytes) -> Result<Encoded, NoMemory>
         requires { length payload.now ≤ most_payload }
         ensures { IfOk result (λ e. e ≡ self ++ record { kind = kind; payload = payload.now } ∷ []) }
@@ -35,7 +35,7 @@ impl Encoded {
         Ok(Encoded { bytes })
     }
 
-    /// The bytes behind the first gate, from the first kind byte to the closed gate at their end.
+    /// The bytes after the first gate, from the first kind byte to the closed gate at their end.
     pub fn as_bytes(&self) -> &[u8]
         ensures bytes { result.now ≡ bodies self.now }
         ensures sound { All IsSound self.now }

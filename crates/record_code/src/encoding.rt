@@ -25,7 +25,7 @@ const CLOSED: u8 = 0;
 // The bytes of a record beside its payload: the gate before it, kind, length, digest and the next gate.
 const OVERHEAD: usize = 39;
 
-/// Puts a record behind the open gate that is last: kind, length, payload, digest and a closed gate.
+/// Puts a record after the open gate that is last: kind, length, payload, digest and a closed gate.
 pub(crate) fn add_body(bytes: &mut Vec<u8>, kind: u8, payload: &[u8]) -> Result<(), NoMemory>
     requires { length payload.now ≤ most_payload }
     ensures { OnOk result (bytes.new.items ≡ bytes.old.items ++ body 0 (record { kind = kind; payload = payload.now })) }

@@ -160,7 +160,7 @@ pub(crate) fn put_path<K: Sink>(sink: &mut K, path: &Path) -> Result<(), PutFail
     }
 }
 
-/// Writes a text and the path behind it.
+/// Writes a text and the path after it.
 pub(crate) fn put_told<K: Sink>(sink: &mut K, front: &[u8], path: &Path) -> Result<(), PutFailed>
     ensures wrote { Wrote result (front.now ++ printed_path path.now) (K.view sink.old).held (K.view sink.new).held }
     ensures cause { OnErr result (Rose (K.view sink.old).faults (K.view sink.new).faults) }
@@ -172,7 +172,7 @@ pub(crate) fn put_told<K: Sink>(sink: &mut K, front: &[u8], path: &Path) -> Resu
     }
 }
 
-/// Writes a number and a text behind it.
+/// Writes a number and a text after it.
 pub(crate) fn put_number_before<K: Sink>(
     sink: &mut K,
     number: u32,
@@ -186,7 +186,7 @@ pub(crate) fn put_number_before<K: Sink>(
     put_both(sink, digits.format(number).as_bytes(), back)
 }
 
-/// Writes a number and a text in front of it.
+/// Writes a number and a text before it.
 pub(crate) fn put_number_behind<K: Sink>(
     sink: &mut K,
     front: &[u8],

@@ -79,7 +79,7 @@ fn joined(alloc: Global, pieces: &[Bytes]) -> Result<Vec<u8>, Fault> {
     Ok(bytes)
 }
 
-/// reader_lines COUNT LIMIT: of a reader that gives the pieces one behind the other
+/// reader_lines COUNT LIMIT: of a reader that gives the pieces one after the other
 fn ask_reader_lines(
     alloc: Global,
     pieces: &[Bytes],

@@ -1,4 +1,4 @@
-//! Calls that read a line of a session. What stands behind the mode and a blank is the line, blanks and all.
+//! Calls that read a line of a session. What stands after the mode and a blank is the line, blanks and all.
 
 use crate::asking::{load_as, say_command};
 use cfg_lex::is_plain;

@@ -18,7 +18,7 @@ fn say_no_rollback(out: &mut Text, n: u32, kept: u32) {
     out.put(" kept\n");
 }
 
-/// The fault of a text, behind the word `text`.
+/// The fault of a text, after the word `text`.
 fn say_unread_text(out: &mut Text, fault: TextFault) {
     say(out, "text");
     say_text_fault(out, fault, None);

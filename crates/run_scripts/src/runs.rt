@@ -72,7 +72,7 @@ fn asked_ends(
     }
 }
 
-/// The ticker of the end behind those of the sessions: a look is due for each answer of its clock. Without such an end
+/// The ticker of the end after those of the sessions: a look is due for each answer of its clock. Without such an end
 /// none is.
 fn ticker_of(alloc: Global, part: Option<Part>) -> Result<Ticker<ListBeat, ListClock>, Fault> {
     let mut beats = Vec::new(alloc);
@@ -226,7 +226,7 @@ pub(crate) fn ask_run<R: Threads + Wait + Sync>(
     Ok(())
 }
 
-/// How a copy is hurt, and the words behind that.
+/// How a copy is hurt, and the words after that.
 fn hurt_of<'a>(name: &str, text: &'a str) -> Result<(Hurt, &'a str), Fault> {
     let (place, rest) = first_and_rest(text);
     let place = number(place.as_bytes())?;

@@ -182,7 +182,7 @@ impl Machine {
         Ok(())
     }
 
-    /// A command, behind what is due, and its reply.
+    /// A command, after what is due, and its reply.
     fn step(
         &mut self,
         caller: u32,

@@ -1,4 +1,4 @@
-//! Answers as text: each line begins with `=`, words stand behind blanks, and bytes that can't be typed are escaped.
+//! Answers as text: each line begins with `=`, words stand after blanks, and bytes that can't be typed are escaped.
 
 use crate::writing::Text;
 use cfg_base::{Path, Word};
@@ -12,7 +12,7 @@ fn put_byte(out: &mut Text, byte: u8) {
     }
 }
 
-/// A word, behind a blank.
+/// A word, after a blank.
 pub fn put_bytes(out: &mut Text, bytes: &[u8]) {
     out.put(if bytes.is_empty() { " \\e" } else { " " });
     for byte in bytes {
@@ -20,7 +20,7 @@ pub fn put_bytes(out: &mut Text, bytes: &[u8]) {
     }
 }
 
-/// Words, each behind a blank.
+/// Words, each after a blank.
 pub fn put_words(out: &mut Text, words: &[Word]) {
     for word in words {
         put_bytes(out, word.as_bytes());
@@ -96,7 +96,7 @@ pub fn say_number(out: &mut Text, number: u64) {
     out.put("\n");
 }
 
-/// A text, and a number behind it.
+/// A text, and a number after it.
 pub fn say_counted(out: &mut Text, text: &str, number: u64) {
     out.put("= ");
     out.put(text);
@@ -112,7 +112,7 @@ pub(crate) fn say_times(out: &mut Text, times: u64) {
     out.put(" times\n");
 }
 
-/// A text, and bytes behind it.
+/// A text, and bytes after it.
 pub fn say_bytes(out: &mut Text, text: &str, bytes: &[u8]) {
     out.put("= ");
     out.put(text);
@@ -120,7 +120,7 @@ pub fn say_bytes(out: &mut Text, text: &str, bytes: &[u8]) {
     out.put("\n");
 }
 
-/// A text, and words behind it.
+/// A text, and words after it.
 pub fn say_words(out: &mut Text, text: &str, words: &[Word]) {
     out.put("= ");
     out.put(text);
@@ -128,7 +128,7 @@ pub fn say_words(out: &mut Text, text: &str, words: &[Word]) {
     out.put("\n");
 }
 
-/// A text, and the words of a path behind it.
+/// A text, and the words of a path after it.
 pub fn say_path(out: &mut Text, text: &str, path: &Path) {
     out.put("= ");
     out.put(text);

@@ -9,7 +9,7 @@ use std::str;
 use std::sync::Wait;
 use std::thread::Threads;
 
-/// The last question of a script, and what came of the script so far.
+/// The last question of a script, and what resulted from the script so far.
 #[derive(Drop)]
 pub struct Asked {
     pub(crate) report: Report,

@@ -21,7 +21,7 @@ pub fn say_edit_fault(out: &mut Text, fault: &EditFault) {
     }
 }
 
-/// The refusal of a line's change, behind the line's number.
+/// The refusal of a line's change, after the line's number.
 pub fn say_line_fault(out: &mut Text, line: u32, fault: &EditFault) {
     say_counted(out, "line", u64::from(line));
     say_edit_fault(out, fault);

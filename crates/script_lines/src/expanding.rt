@@ -27,7 +27,7 @@ fn add_copies(text: &mut Text, copies: &str) -> Result<(), Fault> {
     }
 }
 
-/// COUNT:TEXT}, and what stands behind it
+/// COUNT:TEXT}, and what stands after it
 fn add_piece(text: &mut Text, piece: &str) -> Result<(), Fault> {
     let Some((copies, rest)) = piece.split_once('}') else {
         return Err(Fault::Script("copies end with }"));

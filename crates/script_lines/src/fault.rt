@@ -4,7 +4,7 @@ use std::alloc::{AllocError, AllocFailed};
 /// Why a line has no answer.
 #[derive(Clone, Copy)]
 pub enum Fault {
-    /// It isn't one of the form's lines; the text says what is wanted.
+    /// It isn't one of the form's lines; the text says what is expected.
     Script(&'static str),
     NoMemory,
 }

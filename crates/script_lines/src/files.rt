@@ -49,7 +49,7 @@ fn check<R: Threads + Wait + Sync, A: AnswersAll>(
     asked.close();
 }
 
-/// Checks a file, prints the report, and tells whether all is as expected.
+/// Checks a file, prints the report, and says whether all is as expected.
 fn report_file<R, A>(rt: &R, name: &str) -> io::Result<bool>
 where
     R: Files + Print + AllocGlobal + Threads + Wait + Sync,
@@ -80,7 +80,7 @@ where
 }
 
 /// Checks the files that the command line names. The status is 0 where all is as expected, 1 where something differs, and 9 where
-/// memory is wanting.
+/// memory runs out.
 pub fn check_files<R, A>(rt: &R) -> ExitCode
 where
     R: Env + Files + Print + AllocGlobal + Threads + Wait + Sync,

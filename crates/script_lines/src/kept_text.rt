@@ -30,7 +30,7 @@ impl KeptText {
         Ok(())
     }
 
-    /// Takes `text LINE` or `text_part LINE`, more of the text with an LF behind it or without, and tells whether it is one.
+    /// Takes `text LINE` or `text_part LINE`, more of the text with an LF after it or without, and reports whether it is one.
     pub fn keep(&mut self, name: &str, rest: &str) -> Result<bool, Fault> {
         match name {
             "text" => self.add(rest, b"\n")?,
@@ -45,7 +45,7 @@ impl KeptText {
         mem::replace(&mut self.bytes, Vec::new(alloc))
     }
 
-    /// The text behind a call, or the one that is kept.
+    /// The text after a call, or the one that is kept.
     pub fn behind(&mut self, alloc: Global, rest: &str) -> Result<Vec<u8>, Fault> {
         if rest.is_empty() {
             return Ok(self.take(alloc));

@@ -6,7 +6,7 @@ use std::alloc::Global;
 /// The last question, and what it answered.
 #[derive(Drop)]
 pub(crate) struct Question {
-    /// Its answers, each with an LF behind it.
+    /// Its answers, each with an LF after it.
     answer: String,
     /// How many bytes of them are as expected.
     seen: usize,

@@ -34,7 +34,7 @@ fn with_number(alloc: Global, line: &str, number: u64) -> Result<String, Fault> 
     text.whole()
 }
 
-/// The last answer, and how often it came one time behind the other.
+/// The last answer, and how often it came one time after the other.
 #[derive(Drop)]
 struct Last {
     answer: String,
@@ -50,7 +50,7 @@ impl Last {
         }
     }
 
-    /// Takes the next answer. Where it is another one, the last is told.
+    /// Takes the next answer. Where it is another one, the last is reported.
     fn take(&mut self, answer: String, out: &mut Text) {
         if answer != self.answer {
             self.say(out);

@@ -3,7 +3,7 @@ use crate::writing::Text;
 use std::alloc::{AllocError, Global};
 use std::io;
 
-/// What came of a script.
+/// What resulted from a script.
 #[derive(Drop)]
 pub(crate) struct Report {
     name: Text,
@@ -85,7 +85,7 @@ impl Report {
         }
     }
 
-    /// Tells the counts.
+    /// Reports the counts.
     pub(crate) fn tell_counts(&mut self) {
         self.text.put(self.name.as_str());
         self.text.put(": ");
@@ -97,7 +97,7 @@ impl Report {
         self.text.put(" wrong\n");
     }
 
-    /// Prints each difference and the counts, unless memory was wanting.
+    /// Prints each difference and the counts, unless memory ran out.
     pub(crate) fn print(&self, rt: &impl Print) -> io::Result<()> {
         if !self.name.is_whole() || !self.text.is_whole() {
             return Err(AllocError.into());

@@ -92,7 +92,7 @@ impl Stage {
         self.add_piece(bytes)
     }
 
-    /// Takes a line of numbers or flags, and tells whether it is one.
+    /// Takes a line of numbers or flags, and reports whether it is one.
     fn keep_words(&mut self, alloc: Global, name: &str, rest: &str) -> Result<bool, Fault> {
         match name {
             "reads-fail" => self.part.failing_reads = numbers_in(alloc, rest)?,
@@ -105,7 +105,7 @@ impl Stage {
         Ok(true)
     }
 
-    /// Takes a line that says what the ends are, and tells whether it is one.
+    /// Takes a line that says what the ends are, and reports whether it is one.
     pub fn keep(&mut self, alloc: Global, name: &str, rest: &str) -> Result<bool, Fault> {
         match name {
             "line" => self.add_line(bytes_of(alloc, rest)?)?,

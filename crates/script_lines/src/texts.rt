@@ -16,7 +16,7 @@ fn say_before(out: &mut Text, what: &str, place: u32, end: Option<u32>) {
     }
 }
 
-/// The fault of a curly text. Where its end is told, a fault there is told to be at the end.
+/// The fault of a curly text. Where its end is given, a fault there is reported at the end.
 pub fn say_text_fault(out: &mut Text, fault: TextFault, end: Option<u32>) {
     match fault {
         TextFault::BadByte(place) => say_at(out, "bad byte", place),

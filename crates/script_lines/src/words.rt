@@ -67,7 +67,7 @@ pub fn args_of(alloc: Global, text: &str) -> Result<Vec<Arg>, Fault> {
     Ok(args)
 }
 
-/// The first word of a text, and what stands behind the blank after it.
+/// The first word of a text, and what stands after the blank that follows it.
 pub fn first_and_rest(text: &str) -> (&str, &str) {
     match text.split_once(' ') {
         Some(halves) => halves,

@@ -4,7 +4,7 @@ use crate::fault::Fault;
 use std::alloc::Global;
 use std::fmt::Display;
 
-/// A text to which pieces are added. Where memory is wanting for one, that is told at the end, and the text counts for nothing.
+/// A text to which pieces are added. Where memory runs out for one, that is reported at the end, and the text counts for nothing.
 #[derive(Drop)]
 pub struct Text {
     text: String,
@@ -50,7 +50,7 @@ impl Text {
         self.is_whole = self.is_whole && put.is_ok();
     }
 
-    /// Memory was wanting for what was to be added.
+    /// Memory ran out for what was to be added.
     pub fn lacks_memory(&mut self) {
         self.is_whole = false;
     }

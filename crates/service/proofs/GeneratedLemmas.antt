@@ -1,4 +1,4 @@
--- Of so many interfaces one text is told.
+-- Of so many interfaces one text is reported.
 use Rattle.std.proofs.Common.{◌≡◌, length, ℕ, List, [], refl, sym, subst, ap, ◌∙◌}
 use Rattle.std.specs.FinMap as map
 use Rattle.commands.specs.declared.command.Command.{Command}
@@ -44,7 +44,7 @@ module _ (from : State) (one_state : (events : List Happened) (s t : State) → 
       let two = done_once _ _ g.editing h.editing g.loading h.loading g.one h.one g.two h.two editing one g.loaded h.loaded in
       (done_once _ _ g.loading h.loading s' t' g.two h.two es fs loading two g.committed h.committed).state
 
--- and what is told of a list is one text
+-- and what is reported of a list is one text
 counted_once : ((m : Statements) (full other : Expansion) → IsExpansion m full → IsExpansion m other → full ≡ other)
     → (kept : Kept) (text other : List ℕ) → IsToldOf kept text → IsToldOf kept other → text ≡ other
 counted_once one_full kept text other c d =

@@ -65,7 +65,7 @@ made_for number users before events text start kept s last begins is none genera
   counted = subst (λ (k : Kept). IsToldOf k text) same counted;
 }
 
--- what is told of a list whose active configuration is accepted
+-- what is reported of a list whose active configuration is accepted
 pub counted_by : (kept : Kept) (m : Statements) (full : Expansion) (text : List ℕ) (statements expanded bytes commits : ℕ) → m ≡ active_of kept → IsAccepted m full
     → length (printed m []) ≤ 1048576 → statements ≡ size_of m → expanded ≡ map.len full → bytes ≡ min (length (printed m [])) 18446744073709551615 → commits ≡ kept_commits kept
     → text ≡ gen_text statements expanded bytes commits → IsToldOf kept text

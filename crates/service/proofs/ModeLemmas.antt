@@ -128,7 +128,7 @@ check_by U V by old new before after status why (inr (no_why, kept, found, inl w
 check_by U V by old new before after status why (inr (no_why, kept, found, inr untold)) =
     inr (no_why, kept, found, inr (untold.0, by untold.1))
 
--- what is told of the number that a place says holds of each number that it says
+-- what is said of the number that a place says holds of each number that it says
 pub gen_ran : (U V : Type 0) → (U → V) → (place : List ℕ) (count status status' : ℕ) (users : List (List ℕ)) (old new : SinkView)
     (all all' : History) → IsNumberWithin 1 3000 place count → IsGen U count users old new status all → status' ≡ status
     → all' ≡ all → (number : ℕ) → IsNumberWithin 1 3000 place number → IsGen V number users old new status' all'

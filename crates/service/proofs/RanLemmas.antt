@@ -53,7 +53,7 @@ module _ {E T D : Type 0} (see : Views E T D) (SinkAlone : E → E → Type 0) (
   ran_refused words nothing is untouched None also = (inl is, untouched)
   ran_refused words nothing is untouched (Some other) asks = absurd (nothing (other, asks))
 
-  -- memory was wanting for the words
+  -- memory ran out for the words
   pub ran_without : (words : List (List ℕ)) → told.status ≡ 9 → NothingWasDone before after told → (other : Option Asked)
       → WordsAsk words other → Ran see SinkAlone other before after told
   ran_without words is untouched None also = (inr is, untouched)
@@ -96,7 +96,7 @@ module _ {E T D : Type 0} (see : Views E T D) (SinkAlone : E → E → Type 0) (
     complete = λ asked asks serve sound each. absurd (nothing (asked, asks));
   }
 
-  -- and one for whose words memory was wanting
+  -- and one for whose words memory ran out
   pub run_without : (words : List (List ℕ)) → told.status ≡ 9 → NothingWasDone before after told
       → IsRunOf see SinkAlone words before after told
   run_without words is untouched = record {

@@ -1,4 +1,4 @@
--- What is known of the sessions of a run, as more events of others come behind theirs.
+-- What is known of the sessions of a run, as more events of others come after theirs.
 use Rattle.std.proofs.Common.{◌≡◌, ◌≢◌, ◌⊎◌, ◌+◌, ℕ, zero, suc, List, [], ◌∷◌, ◌++◌, sym, ap, subst, ◌∙◌, append_assoc, arith, Option, Some, slice_get, inl, inr}
 use Rattle.std.specs.List.{AllByRecursion}
 use Rattle.config_core.specs.State.{State, opening_of}

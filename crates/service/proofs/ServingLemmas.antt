@@ -215,7 +215,7 @@ module _ {E T D : Type 0} (see : Views E T D) (asked : Asked) (before after : Wo
     tells_first : BothTell given → Tell first.journal
     tells_first tell = tell_ab first.journal (subst IsTrue (sym begun.opened.tells_a) tell.0) (subst IsTrue (sym begun.opened.tells_b) tell.1)
 
-    -- the calls since the start, as many as are told
+    -- the calls since the start, as many as are reported
     called : BothTell given → HaveCalled (disks_of first.journal) back told.history.made
     called tell =
         let both = whole.called (tells_first tell) in

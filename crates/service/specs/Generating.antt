@@ -1,4 +1,4 @@
--- A configuration that mode gen makes: what happened, and what is told of it. This project's own.
+-- A configuration that mode gen makes: what happened, and what is reported of it. This project's own.
 use Rattle.std.specs.Prelude.{◌≡◌, ℕ, List, [], false, length, Some}
 use Rattle.std.specs.FinMap as map
 use Rattle.commands.specs.declared.command.Command.{Command}
@@ -25,7 +25,7 @@ use Rattle.service.specs.Taking.{Happens}
 abbrev pub IsDone : Command → Reply → State → State → List Happened → List Happened → Type 0
 IsDone command reply s s' events events' = Happens 1 s.greatest (CommandOf command) reply s s' events events'
 
--- what is told of a list: the statements of its active configuration, the paths of their expansion, the bytes of their text,
+-- what is reported of a list: the statements of its active configuration, the paths of their expansion, the bytes of their text,
 -- and the commits that are kept
 pub record IsToldOf (kept : Kept) (text : List ℕ) : Type 0 where
   pub full : Expansion
@@ -43,7 +43,7 @@ pub record Generates (number : ℕ) (s s' : State) (events events' : List Happen
   pub loaded : IsDone (Load Override (configuration_text number)) Loaded editing loading one two
   pub committed : IsDone (Commit 0 [] false) (Committed 0 false) loading s' two events'
 
--- that happens over the factory commit, for these users, and the text tells what came of it
+-- that happens over the factory commit, for these users, and the text reports what resulted
 pub record IsMadeFor (number : ℕ) (users : List (List ℕ)) (events : List Happened) (text : List ℕ) : Type 0 where
   pub last : State
   pub generates : Generates number (opening_of factory users) last [] events

@@ -14,13 +14,13 @@ use Rattle.service.specs.Generating.{IsGenerated}
 use Rattle.service.specs.Run.{IsEmpty}
 use Rattle.service.specs.World.{Told, Views, World}
 
--- mode gen: the configuration was made, and that is told; or memory was wanting, and nothing happened
+-- mode gen: the configuration was made, and that is reported; or memory ran out, and nothing happened
 abbrev pub IsGen : Type 0 → ℕ → List (List ℕ) → SinkView → SinkView → ℕ → History → Type 0
 IsGen Untouched number users old new status history =
     ((status ≡ 9) × Untouched × IsEmpty history)
     ⊎ ((text : List ℕ) × IsGenerated number users history text × IsTold text old new status)
 
--- what came of a mode, of the one sink and the two disks; `Untouched` says that the sink wasn't called
+-- what resulted from a mode, of the one sink and the two disks; `Untouched` says that the sink wasn't called
 abbrev pub RunsIn : Type 0 → RunMode → Asked → SinkView → SinkView → DiskPair → DiskPair → Told → Type 0
 RunsIn Untouched Init asked old new before after told =
     IsInit Untouched old new before after told.status told.why × IsEmpty told.history

@@ -41,11 +41,11 @@ pub record NothingWasDone {E T D : Type 0} (before after : World E T D) (told : 
   pub why : told.why ≡ NoWhy
   pub same : after ≡ before
 
--- memory was wanting before anything was done
+-- memory ran out before anything was done
 abbrev pub IsUndone : {E T D : Type 0} → World E T D → World E T D → Told → Type 0
 IsUndone before after told = (told.status ≡ 9) × NothingWasDone before after told
 
--- words that ask nothing were refused, or memory was wanting for them
+-- words that ask nothing were refused, or memory ran out for them
 abbrev pub IsUsageRefused : {E T D : Type 0} → World E T D → World E T D → Told → Type 0
 IsUsageRefused before after told = ((told.status ≡ 1) ⊎ (told.status ≡ 9)) × NothingWasDone before after told
 

@@ -20,7 +20,7 @@ RanIn see SinkAlone Init asked before after told = RunsMode see SinkAlone asked 
 RanIn see SinkAlone Check asked before after told = RunsMode see SinkAlone asked before after told
 RanIn see SinkAlone Gen asked before after told = RunsMode see SinkAlone asked before after told
 
--- what a run came to: words that ask nothing are refused; else memory was wanting before anything was done, or the mode ran
+-- what a run came to: words that ask nothing are refused; else memory ran out before anything was done, or the mode ran
 abbrev pub Ran : {E T D : Type 0} → Views E T D → (E → E → Type 0) → Option Asked → World E T D → World E T D → Told → Type 0
 Ran see SinkAlone None before after told = IsUsageRefused before after told
 Ran see SinkAlone (Some asked) before after told =

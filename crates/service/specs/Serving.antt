@@ -88,7 +88,7 @@ pub record HasHappened (kept : Kept) (users : List (List ℕ)) (ticker ticker' :
 pub record AreStored (before start : DiskPair) (opening last : State) (happened : History) (after : DiskPair) : Type 0 where
   pub tells_a : after.a.tells ≡ before.a.tells
   pub tells_b : after.b.tells ≡ before.b.tells
-  -- they made the calls since the start that the history tells
+  -- they made the calls since the start that the history reports
   pub called : BothTell before → HaveCalled start after happened.made
   -- the numbers of calls don't fall from event to event
   pub rising : AreRising none_called happened.events.items happened.made

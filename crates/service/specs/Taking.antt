@@ -13,7 +13,7 @@ abbrev pub done_event : ℕ → ℕ → Event → Happened
 done_event caller moment event =
     record { caller = caller; moment = moment; event = event; outcome = Done; calls = record { a = 0; b = 0 } }
 
--- an event was carried out, and put behind the events
+-- an event was carried out, and put after the events
 pub record Happens (caller moment : ℕ) (event : Event) (reply : Reply) (s s' : State)
     (events events' : List Happened) : Type 0 where
   pub turned : Turned

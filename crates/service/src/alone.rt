@@ -66,7 +66,7 @@ pub(crate) fn run_init<S: Source, K: Sink, C: Clock, B: Beat, D: Disk>(
     closed(alloc, did, no_history(alloc), ends, ticker)
 }
 
-/// Tells what the list of commits on the disks has.
+/// Reports what the list of commits on the disks has.
 pub(crate) fn run_check<S: Source, K: Sink, C: Clock, B: Beat, D: Disk>(
     alloc: Global,
     asked: Asked,
@@ -88,7 +88,7 @@ pub(crate) fn run_check<S: Source, K: Sink, C: Clock, B: Beat, D: Disk>(
     closed(alloc, did, no_history(alloc), ends, ticker)
 }
 
-/// Makes a configuration of so many interfaces, and tells what came of it.
+/// Makes a configuration of so many interfaces, and reports what resulted.
 fn tell_generated<K: Sink>(
     alloc: Global,
     sink: &mut K,

@@ -23,7 +23,7 @@ use session_history::{Happened, History};
 use std::alloc::Global;
 use trace_list::Trace;
 
-/// What happened, and what is told of it.
+/// What happened, and what is reported of it.
 pub(crate) struct Generated {
     pub history: History,
     pub text: Bytes,
@@ -110,7 +110,7 @@ fn commit(core: &mut Core, events: &mut Trace<Happened>, comment: Word) -> Resul
     expect(was_committed(reply))
 }
 
-/// What is told of the active configuration.
+/// What is reported of the active configuration.
 fn counted(alloc: Global, ledger: &Ledger) -> Result<Bytes, NoMemory>
     ensures { IfOk result (IsToldOf ledger.now) }
 {
@@ -146,7 +146,7 @@ fn make(
     commit(core, events, Word::empty(alloc))
 }
 
-/// Makes the configuration of so many interfaces in the place of the factory's, and gives what is told of it.
+/// Makes the configuration of so many interfaces in the place of the factory's, and gives what is reported of it.
 fn told(
     alloc: Global,
     users: &Users,
@@ -178,7 +178,7 @@ fn history_of(alloc: Global, users: Users, events: Trace<Happened>) -> Result<Hi
     })
 }
 
-/// What happens in mode `gen`, and what is told of it.
+/// What happens in mode `gen`, and what is reported of it.
 pub(crate) fn generate(
     alloc: Global,
     count: u64,

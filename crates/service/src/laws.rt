@@ -1,4 +1,4 @@
-//! A session over a history that no fault disturbs has one text, a view's number of entries tells what it is, and mode gen
+//! A session over a history that no fault disturbs has one text, a view's number of entries determines what it is, and mode gen
 //! writes one text.
 
 ghost use Rattle.std.specs.Prelude.{◌≡◌, ℕ, List, []};
@@ -54,7 +54,7 @@ pub fn fronts_tell_what_was_kept()
     steps_have_one_outcome();
 }
 
-/// Of so many interfaces and these users mode gen tells one text.
+/// Of so many interfaces and these users mode gen reports one text.
 pub fn generated_texts_are_one()
     ensures { (number : ℕ) (users : List (List ℕ)) (one other : History) (text text2 : List ℕ)
         → IsGenerated number users one text → IsGenerated number users other text2 → text ≡ text2 }

@@ -331,7 +331,7 @@ where
 
 /// Does what the words ask, with the ends that they ask for. Mode serve opens the list of commits on the two disks,
 /// serves the sessions side by side, as callers 1, 2 and so on, with the ticker beside them, and closes the list; each
-/// other mode has one end, whose source isn't read. Where memory is wanting all parts come back. What happened is told to
+/// other mode has one end, whose source isn't read. Where memory runs out all parts come back. What happened is told to
 /// clauses alone, so it takes no memory, however long the run lasts.
 pub fn run<R, S, K, C, B, D>(
     rt: &R,

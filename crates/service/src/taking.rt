@@ -10,7 +10,7 @@ use config_core::{Core, Event, Outcome, Reply};
 use session_history::Happened;
 use trace_list::Trace;
 
-/// Carries an event out, and puts it behind the events.
+/// Carries an event out, and puts it after the events.
 pub(crate) fn take(
     core: &mut Core,
     events: &mut Trace<Happened>,

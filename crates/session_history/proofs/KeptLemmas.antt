@@ -172,7 +172,7 @@ kept_stays s (event ∷ events) last leads few =
     let rest = count_grows leads.1.state events last leads.3 in
     kept_stays leads.1.state events last leads.3 (omega (arith, few, first)) ∙ same_goes s.kept leads.1.state.kept goes (omega (arith, few, rest))
 
--- the first events, and those behind them
+-- the first events, and those after them
 pub leads_split : (s : State) (events : List Happened) (count : ℕ) (last : State) → Leads s events last → (mid : State) × Leads s (take count events) mid × Leads mid (drop count events) last
 leads_split s events zero last leads = (s, refl, leads)
 leads_split s [] (suc count) last leads = (s, refl, leads)
@@ -200,12 +200,12 @@ take_fewer (event ∷ events) (suc m) (suc n) few = ap (λ l. event ∷ l) (take
 pub WasKept-opening : (s : State) (events : List Happened) → WasKept s events s.kept
 WasKept-opening s events = record { count = 0; state = s; leads = refl; is = refl }
 
--- what is kept behind the last event was kept
+-- what is kept after the last event was kept
 pub WasKept-last : (s : State) (events : List Happened) (last : State) → Leads s events last → WasKept s events last.kept
 WasKept-last s events last leads =
     record { count = length events; state = last; leads = subst (λ l. Leads s l last) (sym (take-length events)) leads; is = refl }
 
--- what was kept was kept with more events behind
+-- what was kept was kept with more events after them
 pub WasKept-append : (s : State) (events more : List Happened) (kept : Kept) → WasKept s events kept → WasKept s (events ++ more) kept
 WasKept-append s events more kept was =
     let longer = leads_before s events more was.count was.state was.leads in
@@ -216,7 +216,7 @@ pub WasKept-first_count : (s : State) (events : List Happened) (kept : Kept) →
 WasKept-first_count s events kept was = omega (arith, count_grows s (take was.count events) was.state was.leads, ap (λ (k : Kept). k.count) was.is)
 
 module _ (s : State) (one_state : (events : List Happened) (one other : State) → Leads s events one → Leads s events other → one ≡ other) where
-  -- nor more than what is kept behind the last event
+  -- nor more than what is kept after the last event
   pub WasKept-last_count : (events : List Happened) (last : State) (kept : Kept) → Leads s events last → WasKept s events kept → kept.count ≤ last.kept.count
   WasKept-last_count events last kept leads was =
       let split = leads_split s events was.count last leads in

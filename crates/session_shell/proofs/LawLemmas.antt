@@ -80,7 +80,7 @@ read_once : Once → (configuring : Bool) (reading : Reading) (line : List ℕ) 
 read_once once configuring reading line one other first second =
     first.is ∙ ap (asked_by reading) (once configuring line first.answer second.answer first.is_reading second.is_reading) ∙ sym second.is
 
--- what comes of a line is one
+-- what results from a line is one
 comes_once : Once → (reading : Reading) (line : Line) (one other : Option Item × Reading) → ComesOf reading line one → ComesOf reading line other → one ≡ other
 comes_once once Operational (Text line) one other first second = read_once once false Operational line one other first second
 comes_once once Operational TooLong one other first second = first ∙ sym second

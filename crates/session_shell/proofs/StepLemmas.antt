@@ -91,7 +91,7 @@ module _ {D : Type 0} (follows : Following D) (limit : ℕ) (source : Option (Li
   whole_text : (exchanges : List Exchange) (now : SessionView) → now.held ≡ held_after old.held (flat_map text_written exchanges) → WroteTexts (flat_map text_written exchanges) [] old now
   whole_text exchanges now held = record { part = []; rest = []; is_second = refl; held = held ∙ ap (held_after old.held) (sym (append-nil (flat_map text_written exchanges))); whole = inl refl }
 
-  -- texts, and one behind them
+  -- texts, and one after them
   longer : (exchanges more : List Exchange) (mid now : SessionView) → mid.held ≡ held_after old.held (flat_map text_written exchanges) → now.held ≡ held_after mid.held (flat_map text_written more) → now.held ≡ held_after old.held (flat_map text_written (exchanges ++ more))
   longer exchanges more mid now front back =
       back ∙ ap (λ h. held_after h (flat_map text_written more)) front ∙ behind-behind old.held (flat_map text_written exchanges) (flat_map text_written more) ∙ ap (held_after old.held) (sym (flat_map_over_append text_written exchanges more))

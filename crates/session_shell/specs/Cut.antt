@@ -4,12 +4,12 @@ use Rattle.io_edge.specs.declared.lines.Line.{Line}
 use Rattle.io_edge.specs.declared.lines.Line.TheVariants.{End, InputFull}
 use Rattle.io_edge.specs.Line.{ended_line, last_line_of}
 
--- the end, behind a last line without its LF where there is one
+-- the end, after a last line without its LF where there is one
 abbrev pub ends_of : List ℕ → List Line
 ends_of [] = End ∷ []
 ends_of (byte ∷ part) = last_line_of (byte ∷ part) ∷ End ∷ []
 
--- the lines of the bytes behind a part of a line, of which so many may be read
+-- the lines of the bytes after a part of a line, of which so many may be read
 abbrev pub lines_from : List ℕ → ℕ → List ℕ → List Line
 lines_from part room [] = ends_of part
 lines_from part zero (byte ∷ bytes) = InputFull ∷ []

@@ -33,7 +33,7 @@ asked_by reading (Ok (Some (Whole command))) = (Some (Ask command), reading)
 asked_by reading (Ok (Some (NeedsText way))) = (None, Collecting way [])
 asked_by reading (Err place) = (Some (Wrong (Syntax place)), reading)
 
--- the line is a command line of that mode, and this comes of it
+-- the line is a command line of that mode, and this results from it
 pub record IsReadAs (configuring : Bool) (reading : Reading) (line : List ℕ) (came : Option Item × Reading) : Type 0 where
   pub answer : Result (Option Words0) ℕ
   pub is_reading : IsReading configuring line answer
@@ -52,16 +52,16 @@ abbrev pub with_line : Reading → List ℕ → Reading
 with_line (Collecting way text) line = within_limit way (text ++ (line ++ 10 ∷ []))
 with_line reading line = reading
 
--- what comes of a line of a text: its load, where the line ends it
+-- what results from a line of a text: its load, where the line ends it
 abbrev pub text_line : LoadWay → List ℕ → List ℕ → Option Item × Reading
 text_line way text line =
     if is_end_of_text line then (Some (Ask (Load way text)), Configuring) else (None, with_line (Collecting way text) line)
 
--- what comes of a line of a text that had a fault: the fault, where the line ends the text
+-- what results from a line of a text that had a fault: the fault, where the line ends the text
 abbrev pub spoilt_line : Reading → Item → List ℕ → Option Item × Reading
 spoilt_line reading item line = if is_end_of_text line then (Some item, Configuring) else (None, reading)
 
--- what comes of a line: the item that it ends, if it does, and how the session reads on before any reply
+-- what results from a line: the item that it ends, if it does, and how the session reads on before any reply
 abbrev pub ComesOf : Reading → Line → Option Item × Reading → Type 0
 ComesOf Operational (Text line) came = IsReadAs false Operational line came
 ComesOf Operational TooLong came = came ≡ (Some (Wrong LineTooLong), Operational)
@@ -88,7 +88,7 @@ Continues Rest (None, next) exchanges = Rest next exchanges
 Continues Rest (Some item, next) [] = ⊥
 Continues Rest (Some item, next) (first ∷ exchanges) = (item_asked first ≡ item) × Rest (reading_after next first) exchanges
 
--- a line was read, and the exchanges begin with what came of it
+-- a line was read, and the exchanges begin with what resulted
 pub record BeginsByLine (Rest : Reading → List Exchange → Type 0) (reading : Reading) (line : Line)
     (exchanges : List Exchange) : Type 0 where
   pub came : Option Item × Reading

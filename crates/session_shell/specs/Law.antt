@@ -29,7 +29,7 @@ Agree names d e =
     (command : Command) (moment : ℕ) (given other : Given0) → names d command moment given
     → names e command moment other → place_of given ≡ place_of other → front_of given ≡ front_of other → given ≡ other
 
--- a door that is asked one command at one moment has one way to go on, where memory isn't wanting
+-- a door that is asked one command at one moment has one way to go on, where memory doesn't run out
 abbrev pub IsDetermined : {D : Type 0} → Following D → Type 0
 IsDetermined {D} follows =
     (d e e' : D) (command : Command) (moment : ℕ) (given given' : Given0)
@@ -61,7 +61,7 @@ abbrev pub SeeAlike : List Turn → List Turn → Type 0
 SeeAlike one other = (number : ℕ) → front_at one number ≡ front_at other number
 
 -- one session over told bytes, a told clock and a told sink that is empty at first; no fault ended it, its sink's count of
--- faults didn't rise, and memory was wanting for none of its items
+-- faults didn't rise, and memory ran out for none of its items
 pub record Undisturbed {D : Type 0} (follows : Following D) (limit : ℕ) (bytes : List ℕ) (coming : ℕ → ℕ) (d e : D)
     (new : SessionView) : Type 0 where
   pub how : How

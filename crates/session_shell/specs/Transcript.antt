@@ -70,7 +70,7 @@ pub record WroteTexts (first second : List ℕ) (old new : SessionView) : Type 0
   pub held : new.held ≡ held_after old.held (first ++ part)
   pub whole : (rest ≡ []) ⊎ Rose old.faults new.faults
 
--- the texts of a session: those of all its items, and of its last logout; where its sink failed, none behind the text that
+-- the texts of a session: those of all its items, and of its last logout; where its sink failed, none after the text that
 -- failed
 abbrev pub Texts : How → List Exchange → List Exchange → SessionView → SessionView → Type 0
 Texts SinkFault asked final old new =
@@ -98,7 +98,7 @@ pub record IsInput (lines : List Line) (reading : Reading) (how : How) (limit : 
   pub left : List ℕ
   pub first : AreFirstLines lines rest limit before room left
   pub ends : EndsBy how reading rest
-  -- what was read behind these lines
+  -- what was read after these lines
   pub ahead : List ℕ
   pub is_left : left ≡ ahead ++ now
   -- where the source failed that is no whole line
@@ -139,7 +139,7 @@ pub record EndView : Type 0 where
 abbrev pub session_view : EndView → List Turn → SessionView
 session_view end turns = record { coming = end.coming; held = end.sink.held; faults = end.sink.faults; turns = turns }
 
--- one session, from its ends before to its ends after: a fault of its source or its sink is told only where that count rose
+-- one session, from its ends before to its ends after: a fault of its source or its sink is reported only where that count rose
 pub record IsSession {D : Type 0} (follows : Following D) (limit : ℕ) (how : How) (turns : List Turn) (old new : EndView) (d e : D)
     : Type 0 where
   pub transcript : IsTranscript follows limit how (side old.source.left d (session_view old []))

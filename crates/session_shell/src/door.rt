@@ -18,7 +18,7 @@ pub enum Given0 {
     Kept { place: u64, reply: Reply },
     /// No event was made: the reply was read from a snapshot that has that many entries of the list of commits.
     Seen { front: u64, reply: Reply },
-    /// Memory was wanting.
+    /// Memory ran out.
     NoMemory,
 }
 

@@ -10,7 +10,7 @@ pub struct End<S, K, C> {
     pub clock: C,
 }
 
-/// Memory was wanting for a session; its ends come back.
+/// Memory ran out for a session; its ends come back.
 #[derive(Drop)]
 pub struct NoSession<S, K, C> {
     pub end: End<S, K, C>,

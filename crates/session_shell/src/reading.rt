@@ -84,7 +84,7 @@ fn finish_text(reading: &mut Reading) -> Option<Item>
     }
 }
 
-/// Puts a line and its LF behind a text, which stays as it was where memory is wanting.
+/// Puts a line and its LF after a text, which stays as it was where memory runs out.
 fn put_line(text: &mut Vec<u8>, line: &[u8]) -> Result<(), NoMemory>
     ensures ok { OnOk result (text.new.items ≡ text.old.items ++ (line.now ++ 10 ∷ [])) }
     ensures err { OnErr result (text.new.items ≡ text.old.items) }
@@ -98,7 +98,7 @@ fn put_line(text: &mut Vec<u8>, line: &[u8]) -> Result<(), NoMemory>
     }
 }
 
-/// Puts a line behind a text that is collected. Past the limit nothing of the text is kept.
+/// Puts a line after a text that is collected. Past the limit nothing of the text is kept.
 fn gather(reading: &mut Reading, line: &[u8]) -> Result<(), NoMemory>
     ensures ok { OnOk result (reading.new ≡ with_line reading.old line.now) }
     ensures err { OnErr result (reading.new ≡ reading.old) }
@@ -123,7 +123,7 @@ fn gather(reading: &mut Reading, line: &[u8]) -> Result<(), NoMemory>
     }
 }
 
-/// What comes of a line of text.
+/// What results from a line of text.
 fn comes_of_text(
     alloc: Global,
     reading: &mut Reading,
@@ -147,7 +147,7 @@ fn comes_of_text(
     }
 }
 
-/// What comes of a line that is too long.
+/// What results from a line that is too long.
 fn comes_of_long(reading: &mut Reading) -> Option<Item>
     ensures long { ComesOf reading.old TooLong (result, reading.new) }
     ensures sound { AsksSound result }
@@ -162,7 +162,7 @@ fn comes_of_long(reading: &mut Reading) -> Option<Item>
     }
 }
 
-/// What comes of a line: the item that it ends, if it ends one. The reading is the next line's, before any reply.
+/// What results from a line: the item that it ends, if it ends one. The reading is the next line's, before any reply.
 pub(crate) fn comes_of(
     alloc: Global,
     reading: &mut Reading,

@@ -15,7 +15,7 @@ pub enum Turn {
     Seen { front: u64, moment: Moment },
     /// The line, or the text of a load, was refused.
     Local(ShellFault),
-    /// Memory was wanting.
+    /// Memory ran out.
     NoMemory,
 }
 

@@ -237,7 +237,7 @@ FollowsAlone-of first v v' caller answer command answered leads asks = record {
   alone = refl;
 }
 
--- what a database tells of the lists that it kept
+-- what a database reports of the lists that it kept
 pub TellsKept-of : (first v : DatabaseView) → IsUnderway (record { first = first; database = v })
     → AreViews v.shown.list → Shows (opened v) v.events v.state v.shown → TellsKept (opened first) v.events v.shown.list
 TellsKept-of first v underway views shows =

@@ -58,7 +58,7 @@ no_places_of place caller (event ∷ events) others =
 
 module _ (opening : State) (caller answer : ℕ) (seen others before events' : List Happened) (is : before ≡ seen ++ others)
     (not_own : AllByRecursion (λ event. event.caller ≢ caller) others) where
-  -- what grew behind others' events
+  -- what grew after others' events
   pub Grows-behind : (grew : Grows opening caller answer before events') → grew.others ≡ []
       → Grows opening caller answer seen events'
   Grows-behind grew alone = record {
@@ -82,7 +82,7 @@ module _ (opening : State) (caller answer : ℕ) (seen others before events' : L
         ∙ ap (λ l. places_of caller seen ++ l) (no_places_of (length seen) caller others not_own) ∙ append-nil (places_of caller seen));
   }
 
--- a look behind others' events
+-- a look after others' events
 pub LooksOnce-behind : (opening : State) (answer : ℕ) (seen others before events' : List Happened) → before ≡ seen ++ others
     → AllByRecursion (λ event. event.caller ≢ 0) others → LooksAlone opening answer before events'
     → LooksOnce opening answer seen events'
@@ -92,7 +92,7 @@ LooksOnce-behind opening answer seen others before events' is not_own looked = r
   no_command = looked.looks.no_command;
 }
 
--- nothing happened, and memory was wanting
+-- nothing happened, and memory ran out
 pub FollowsTurn-none : (opening : State) (caller answer : ℕ) (events : List Happened) (command : Command) → IsLegal opening events
     → FollowsTurn opening caller events command answer NoMemory events
 FollowsTurn-none opening caller answer events command legal = record {
@@ -151,7 +151,7 @@ module _ (says : DatabaseView → List Happened → List Happened → Type 0) (o
     own = (grows caller_in says old new took).1;
   }
 
-  -- what came behind the events that the pass had seen, before its turn, is others'
+  -- what came after the events that the pass had seen, before its turn, is others'
   pub not_own-took : KnowsOwn old → AllByRecursion (λ event. event.caller ≢ old.caller) took.begins.0
   not_own-took own = others_behind old.caller old.seen took.begins.0 old.own own
       (ap (entries_by caller_in old.caller) took.begins.1 ∙ took.had_own)

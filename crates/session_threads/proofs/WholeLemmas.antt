@@ -387,7 +387,7 @@ module _ (J : Type 0) {S K C : Type 0} (view : End S K C → EndView) (limit : �
                 ∙ ap status_of_all (sym (told (λ result. result.how) (λ seat. seat.how) (λ end seat. refl)));
           })
 
-  -- what came of all sessions over how a database began came of them over the database
+  -- what resulted from all sessions over how a database began resulted from them over the database
   pub AreServed-begun : (ends ends' : List (End S K C)) (ticker ticker' : TickerView) (turns : List (List Turn)) (v : DatabaseView)
       (status : ℕ)
       → AreServed view limit (start_of first) ends ticker (record { ends = ends'; ticker = ticker'; turns = turns; database = v; status = status })
@@ -405,7 +405,7 @@ module _ (J : Type 0) {S K C : Type 0} (view : End S K C → EndView) (limit : �
     is_status = served.is_status;
   }
 
-  -- what came of all sessions over a database whose readers were handed out came of them over the database
+  -- what resulted from all sessions over a database whose readers were handed out resulted from them over the database
   pub AreServed-handed : (given : DatabaseView) → given ≡ record first { readers = [] } → (ends ends' : List (End S K C))
       (ticker ticker' : TickerView) (turns : List (List Turn)) (v : DatabaseView) (status : ℕ)
       → AreServed view limit given ends ticker (record { ends = ends'; ticker = ticker'; turns = turns; database = v; status = status })

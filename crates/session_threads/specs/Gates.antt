@@ -29,7 +29,7 @@ pub record GateView : Type 0 where
 abbrev pub StartsReading : DatabaseView → ReaderState → Type 0
 StartsReading first reader = reader ≡ first_read first.opening
 
--- behind these events the lists of commits that were kept are those, and the last of them is what is kept now
+-- after these events the lists of commits that were kept are those, and the last of them is what is kept now
 pub record TellsKept (opening : State) (events : List Happened) (list : List Kept) : Type 0 where
   pub after : State
   pub leads : Leads opening events after
@@ -47,7 +47,7 @@ abbrev pub IsToldOf : Answered → List Kept → ReaderState → Type 0
 IsToldOf (Done place reply) list reader = IsPrefix list reader.told
 IsToldOf Wanting list reader = Unit {0}
 
--- a reader took in what the turn of a command told
+-- a reader took in what the turn of a command reported
 pub record Learns (answered : Answered) (list : List Kept) (old new : ReaderState) : Type 0 where
   pub reads : ReadsOn old new
   pub told : IsToldOf answered list new
@@ -106,7 +106,7 @@ pub record LooksIn (d : GateView) (command : Command) (answer : ℕ) (given : Op
   pub reads : ReadsOn d.reader e.reader
   pub looks : LooksAt d command answer given e.reader
 
--- the turn of a caller's command over a database that began so, and what was told behind it
+-- the turn of a caller's command over a database that began so, and what was reported after it
 pub record TurnsIn (first : DatabaseView) (d : GateView) (command : Command) (answer : ℕ) (answered : Answered)
     (e : GateView) : Type 0 where
   pub turn : FollowsTurn (opened first) d.pass.caller d.pass.seen command answer answered e.pass.seen
@@ -141,7 +141,7 @@ pub record SeenIn (d : GateView) (command : Command) (answer front : ℕ) (reply
   pub is_show : IsActiveShow command
   pub answers : AnswersShow command answer front reply e.reader
 
--- memory was wanting for an answer
+-- memory ran out for an answer
 abbrev pub WantingIn : GateView → Command → ℕ → GateView → Type 0
 WantingIn d command answer e =
     (first : DatabaseView) → d.pass.fixed ≡ Some first

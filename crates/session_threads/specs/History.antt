@@ -95,7 +95,7 @@ pub record HasMissed (opening : State) (final : List Happened) (least answer : �
   pub reached : least ≤ kept.count
   pub due : is_revert_due kept answer ≡ true
 
--- a command was answered by an event, and what is kept behind it was answered from; a show takes a turn only for a missed deadline
+-- a command was answered by an event, and what is kept after it was answered from; a show takes a turn only for a missed deadline
 pub record FollowsKept (opening : State) (caller : ℕ) (final : List Happened) (d : Known) (command : Command) (answer : ℕ)
     (answered : Answered) (e : Known) : Type 0 where
   pub turn : FollowsTurn opening caller d.events command answer answered e.events
@@ -116,7 +116,7 @@ pub record FollowsSeen (opening : State) (final : List Happened) (d : Known) (co
   pub shows : ShowsKept kept command reply
   pub not_due : is_revert_due kept answer ≡ false
 
--- memory was wanting for an answer
+-- memory ran out for an answer
 pub record FollowsWanting (opening : State) (caller : ℕ) (d : Known) (command : Command) (answer : ℕ) (e : Known) : Type 0 where
   pub turn : FollowsTurn opening caller d.events command answer Wanting e.events
   pub front : e.front ≡ d.front

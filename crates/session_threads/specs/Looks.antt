@@ -19,7 +19,7 @@ pub record LooksOnce (opening : State) (answer : ℕ) (events events' : List Hap
   pub grows : Grows opening 0 answer events events'
   pub no_command : NoCommand grows.own
 
--- a look that came behind nobody else's events
+-- a look that came after nobody else's events
 pub record LooksAlone (opening : State) (answer : ℕ) (events events' : List Happened) : Type 0 where
   pub looks : LooksOnce opening answer events events'
   pub alone : looks.grows.others ≡ []

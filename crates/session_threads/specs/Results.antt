@@ -1,4 +1,4 @@
--- What comes of the sessions of a run, and its status. This project's own.
+-- What results from the sessions of a run, and its status. This project's own.
 use Rattle.std.specs.Prelude.{◌≡◌, ◌≢◌, ◌⊎◌, ℕ, List, [], ◌∷◌, map}
 use Rattle.std.specs.List.{AllByRecursion}
 use Rattle.config_core.specs.State.{State}
@@ -28,14 +28,14 @@ status_of_all [] = 0
 status_of_all (Clean ∷ hows) = status_of_all hows
 status_of_all (how ∷ hows) = status_of how
 
--- what came of a session: how it ended, its ends before and after, and its turns
+-- what resulted from a session: how it ended, its ends before and after, and its turns
 pub record SessionResult (E : Type 0) : Type 0 where
   pub how : How
   pub old : E
   pub new : E
   pub turns : List Turn
 
--- memory was wanting before the session began: it has no turns and no events, and its ends are as they were given
+-- memory ran out before the session began: it has no turns and no events, and its ends are as they were given
 pub record IsUnbegun {E : Type 0} (events : List Happened) (caller : ℕ) (result : SessionResult E) : Type 0 where
   pub how : result.how ≡ NoMemory
   pub same : result.new ≡ result.old

@@ -1,4 +1,4 @@
--- The database under the lock, and what comes of all sessions over it. This project's own.
+-- The database under the lock, and what results from all sessions over it. This project's own.
 use Rattle.std.specs.Prelude.{◌≡◌, ◌≤◌, ◌+◌, ℕ, Bool, List, [], ◌∷◌, length, map, Option}
 use Rattle.std.specs.List.{AllByRecursion}
 use Rattle.active_snapshot.specs.States.{ReaderState, first_read}

@@ -44,7 +44,7 @@ pub record HasLeft (first : DatabaseView) (old new : CallerPass) (reader : Reade
   pub waited : Waited old new
   pub within : IsWithin first new reader
 
--- the session ran over a part of what its pass has seen, behind which nothing is its caller's
+-- the session ran over a part of what its pass has seen, after which nothing is its caller's
 pub record HasRun {E : Type 0} (view : E → EndView) (limit : ℕ) (first : DatabaseView) (old new : CallerPass)
     (result : SessionResult E) : Type 0 where
   pub after : Known
@@ -60,7 +60,7 @@ pub record ServesOne {E : Type 0} (view : E → EndView) (limit : ℕ) (first : 
   pub goes : WentOn old new
   pub session : HasRun view limit first old new result ⊎ StaysOut old new result
 
--- what came of a seat's session
+-- what resulted from a seat's session
 abbrev pub result_of : {S K C F J : Type 0} → Seat S K C F J → Seat S K C F J → SessionResult (End S K C)
 result_of old new = record { how = new.how; old = old.end; new = new.end; turns = new.turns }
 

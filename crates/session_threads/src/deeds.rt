@@ -26,7 +26,7 @@ pub(crate) struct Ask {
     pub command: Command,
 }
 
-/// What the database answered, how far its list of commits goes behind that, and the last view of it.
+/// What the database answered, how far its list of commits goes after that, and the last view of it.
 #[derive(Drop)]
 pub(crate) struct Asked<J: Naming> {
     pub answered: Answered,
@@ -65,7 +65,7 @@ impl<D: Disk, J: Naming> Deed<Served<D, J>> for Ask {
     }
 }
 
-/// Looks at the time, at an answer of the ticker's clock. It tells whether a session is served still.
+/// Looks at the time, at an answer of the ticker's clock. It reports whether a session is served still.
 #[derive(Drop)]
 pub(crate) struct Look {
     pub moment: Moment,
@@ -90,7 +90,7 @@ pub(crate) struct Leave {
     pub is_first: bool,
 }
 
-/// How many sessions have not ended, behind a turn of one that has.
+/// How many sessions have not ended, after a turn of one that has.
 fn waiting_after(waiting: u32, is_first: bool) -> u32 {
     if is_first {
         waiting.saturating_sub(1)

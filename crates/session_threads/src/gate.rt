@@ -104,7 +104,7 @@ fn read_show<J: Naming>(
     }
 }
 
-/// Tells a reader what a command's turn told, where the command became an event.
+/// Tells a reader what a command's turn reported, where the command became an event.
 fn learn<J: Naming>(
     reader: &mut SnapReader<J>,
     answered: &Answered,

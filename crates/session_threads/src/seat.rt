@@ -21,7 +21,7 @@ use std::mem::replace;
 use std::sync::Wait;
 use turn_lock::{Pass, Turns};
 
-/// What a session is served with, and what came of it.
+/// What a session is served with, and what resulted.
 pub(crate) struct Seat<S, K, C, F, J: Naming> {
     pub pass: Pass<Happened, F>,
     pub reader: SnapReader<J>,
@@ -78,7 +78,7 @@ fn run_session<R: Wait, S: Source, K: Sink, C: Clock, D: Disk, J: Naming>(
     }
 }
 
-/// One turn of a session that has ended. It tells whether all that its reader has was kept by then.
+/// One turn of a session that has ended. It reports whether all that its reader has was kept by then.
 fn ask_leave<R: Wait, D: Disk, J: Naming>(
     rt: &R,
     lock: &Turns<Served<D, J>>,

@@ -65,7 +65,7 @@ impl<S: Source, K: Sink, C: Clock, D: Disk, J: Naming> Serve<D, J>
 }
 
 /// Serves the sessions of a row of seats, the first one on this thread and the rest on another one, with the ticker
-/// behind the last. Where no thread can be made the sessions are served one after another, and the ticker comes last.
+/// after the last. Where no thread can be made the sessions are served one after another, and the ticker comes last.
 #[cycle(threads)]
 pub(crate) fn serve_seats<R, T, B, C, D, J>(
     rt: &R,

@@ -22,7 +22,7 @@ pub struct Ticker<B, C> {
     pub clock: C,
 }
 
-/// Waits for the beat, and looks at the time. It tells whether another look may be due.
+/// Waits for the beat, and looks at the time. It reports whether another look may be due.
 fn look<R: Wait, B: Beat, C: Clock, D: Disk, J: Naming>(
     rt: &R,
     lock: &Turns<Served<D, J>>,

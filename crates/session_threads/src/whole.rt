@@ -1,4 +1,4 @@
-//! All sessions of a run over one database, from the ends to what came of them.
+//! All sessions of a run over one database, from the ends to what resulted from them.
 
 ghost use Rattle.std.specs.Prelude.{◌≡◌, ◌<◌, ◌≤◌, ◌==◌, [], ℕ, length, vec_capacity, All, IfOk, if◌then◌else◌};
 ghost use Rattle.commit_ledger.specs.Kept.{Kept};
@@ -32,7 +32,7 @@ pub struct Room<S, K, C, D: Disk, J: Naming> {
     lists: Vec<TurnList>,
 }
 
-/// What came of all sessions: the database, the ends and the turns in their order, the ticker, and the status of the
+/// What resulted from all sessions: the database, the ends and the turns in their order, the ticker, and the status of the
 /// first session that didn't end clean.
 pub struct Sessions<S, K, C, B, D: Disk, J: Naming> {
     pub database: Database<D, J>,
@@ -127,7 +127,7 @@ fn seat_all<S, K, C, D: Disk, J: Naming>(
     }));
 }
 
-/// Joins the passes of all seats, and puts back the ends, with the turns. It tells the status of the first session that
+/// Joins the passes of all seats, and puts back the ends, with the turns. It reports the status of the first session that
 /// didn't end clean.
 fn leave_all<S, K, C, D: Disk, J: Naming>(
     lock: &Turns<Served<D, J>>,
@@ -167,7 +167,7 @@ fn leave_all<S, K, C, D: Disk, J: Naming>(
     first_status(status, how)
 }
 
-/// What comes of sessions for which there was no memory.
+/// What results from sessions for which there was no memory.
 fn none_served<S, K, C, B, D: Disk, J: Naming>(
     alloc: Global,
     database: Database<D, J>,
@@ -195,7 +195,7 @@ fn none_served<S, K, C, B, D: Disk, J: Naming>(
 }
 
 /// Serves the sessions of all ends, as callers 1, 2 and so on, and runs the ticker beside them, over a database in
-/// which nothing happened yet, and which has a reader for each. The turns are kept as values, or aren't. Where memory is wanting
+/// which nothing happened yet, and which has a reader for each. The turns are kept as values, or aren't. Where memory runs out
 /// for the lock no session begins.
 pub fn serve_all<R, S, K, C, B, D, J>(
     rt: &R,

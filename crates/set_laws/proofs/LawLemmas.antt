@@ -168,7 +168,7 @@ module _ (m : Statements) (tree : IsTree m) (kept : IsProtectedApart m) where
   bare_few : size_of (stated map.empty (bare (items_below MAX_STEPS m []))) ≤ MAX_STATEMENTS
   bare_few = subst (λ (n : ℕ). n ≤ MAX_STATEMENTS) (sym (bare_size m tree)) tree.few
 
-  -- behind all inactive marks the protected ones are wanting
+  -- after all inactive marks the protected ones are missing
   between : (last : Statements) → ((q : List Step) → map.get last q ≡ option_map (with_inactive (after (paths_below MAX_STEPS m []) no_path q)) (map.get m q)) → (q : List Step) → map.get last q ≡ option_map (with_protected (no_path q)) (map.get m q)
   between last are q = by_value (map.get m q) refl
     where
@@ -181,7 +181,7 @@ module _ (m : Statements) (tree : IsTree m) (kept : IsProtectedApart m) where
           ∙ ap (λ (b : Bool). Some (with_inactive b v)) (met q v f)
           ∙ sym (ap (λ (o : Option Value). option_map (with_protected (no_path q)) o) f)
 
-  -- behind all of them nothing is wanting
+  -- after all of them nothing is missing
   whole_at : (last : Statements) → ((q : List Step) → map.get last q ≡ option_map (with_protected (after (paths_below MAX_STEPS m []) no_path q)) (map.get m q)) → (q : List Step) → map.get last q ≡ map.get m q
   whole_at last are q = by_value (map.get m q) refl
     where

@@ -14,7 +14,7 @@ in_line b bytes each =
     let parts = and_parts (is_in_line b) (list_all is_in_line bytes) each in
     (not-true (eqb b 10) parts.0, parts.1)
 
--- a byte that is no LF in front of what doesn't begin with one
+-- a byte that is no LF before what doesn't begin with one
 in_front : (b : ℕ) (rest : List ℕ) (lines : List (List ℕ)) → eqb b 10 ≡ false → begins_with 10 rest ≡ false → with_byte b rest lines ≡ in_first b lines
 in_front b rest lines no_lf next =
     ap (λ t. cond t ([] ∷ lines) (cond (eqb b 13 && begins_with 10 rest) lines (in_first b lines))) no_lf
@@ -47,7 +47,7 @@ without_cr_more b c bytes =
     by_case true xs ys = refl
     by_case false xs ys = refl
 
--- one byte in front of an LF
+-- one byte before an LF
 single : (b : ℕ) (rest : List ℕ) (lines : List (List ℕ)) → eqb b 10 ≡ false → with_byte b (10 ∷ rest) ([] ∷ lines) ≡ without_cr (b ∷ []) ∷ lines
 single b rest lines no_lf =
     ap (λ t. cond t ([] ∷ [] ∷ lines) (cond (eqb b 13 && true) ([] ∷ lines) ((b ∷ []) ∷ lines))) no_lf
@@ -57,7 +57,7 @@ single b rest lines no_lf =
     by_case true = refl
     by_case false = refl
 
--- bytes without an LF in front of one are a line, but for a CR at their end
+-- bytes without an LF before one are a line, but for a CR at their end
 pub line_ended : (line rest : List ℕ) → list_all is_in_line line ≡ true → lines_in (line ++ 10 ∷ rest) ≡ without_cr line ∷ lines_in rest
 line_ended [] rest each = refl
 line_ended (b ∷ []) rest each = single b rest (lines_in rest) (in_line b [] each).0
@@ -96,7 +96,7 @@ ended bytes count it within =
     ∙ ap (λ line. without_cr line ∷ lines_in (drop (count + 1) bytes)) front
     ∙ ap (λ bs. without_cr (take count bytes) ∷ lines_in bs) (sym rest)
 
--- a text with an LF: the line that it ends, and what stands behind it
+-- a text with an LF: the line that it ends, and what stands after it
 pub ended_line : (text : List ℕ) (count : ℕ) (line : List ℕ) → prefix_len is_in_line text ≡ count → count < length text → line ≡ without_cr (take count text) → lines_in text ≡ line ∷ lines_in (take (length text - (count + 1)) (drop (count + 1) text))
 ended_line text count line is within trimmed =
     ended text count (subst (IsLongest is_in_line text) is (longest is_in_line text)) within

@@ -14,7 +14,7 @@ use Rattle.set_text.specs.declared.form.Form.TheVariants.{OneList, TwoLists}
 use Rattle.set_text.specs.Form.{form_of, kinds_of, words_among, mover_of, is_name, AreWords, IsTail, Spells}
 use Rattle.set_text.specs.Examples.{Example, examples, typed, in_brackets, IsShown}
 
--- a keyword and what stands behind it
+-- a keyword and what stands after it
 one_list : (verb : Verb) (brackets : Bool) (rest : List Lexed) → form_of (keyword verb) ≡ Some (OneList verb brackets) → IsTail brackets (kinds_of rest) → Spells (lexed kind.Bare (keyword verb) ∷ rest) (op_of verb (words_among rest))
 one_list verb brackets rest begun tail = record {
   first = lexed kind.Bare (keyword verb);

@@ -59,7 +59,7 @@ record IsBegun (first : Lexed) (form : Form) : Type 0 where
   word : is_word_kind first.kind ≡ true
   begun : form_of first.word ≡ Some form
 
--- a keyword and what stands behind it are a line
+-- a keyword and what stands after it are a line
 line_of : (first : Lexed) (rest : List Lexed) (form : Form) (change : Op) → IsBegun first form → AsksBehind form rest change → Spells (first ∷ rest) change
 line_of first rest form change is asked =
     record { first = first; rest = rest; joined = refl; word = is.word; form = form; begun = is.begun; asked = asked }
@@ -68,7 +68,7 @@ begun_line : (first : Lexed) (rest : List Lexed) (form : Form) → IsBegun first
 begun_line first rest form is it =
     record { more = it.more; change = it.change; spelled = line_of first (rest ++ it.more) form it.change is it.asked }
 
--- behind the keyword of a line stands what its form says
+-- after the keyword of a line stands what its form says
 behind_line : (first : Lexed) (rest : List Lexed) (form : Form) (change : Op) → form_of first.word ≡ Some form → Spells (first ∷ rest) change → AsksBehind form rest change
 behind_line first rest form change begun line =
     let parts = same_first first line.first rest line.rest line.joined in
@@ -132,7 +132,7 @@ begun_if : (b : Bool) (word : List ℕ) (form : Form) → form_at b word ≡ Som
 begun_if true word form e = (refl, e)
 begun_if false word form e = absurd cc
 
--- the tokens in front of one, and that one
+-- the tokens before one, and that one
 pub take_next : (tokens : List Token) (token : Token) (rest : List Token) (place : ℕ) → drop place tokens ≡ token ∷ rest → take (place + 1) tokens ≡ take place tokens ++ token ∷ []
 take_next tokens token rest place here =
     let within : place < length tokens = omega (arith, length-drop place tokens, ap length here) in
@@ -169,7 +169,7 @@ fits_one_list text verb brackets tokens (Whole kind) fits =
     )
 fits_one_list text verb brackets tokens (Around mover at) fits = absurd fits
 
--- so many tokens of a line behind its first
+-- so many tokens of a line after its first
 stops_behind : (text : List ℕ) (first : Token) (rest : List Token) (form : Form) (place : ℕ) → IsBegun (lexed_in text first) form → StopsIn text form rest place → StopsBehind text (first ∷ rest) (place + 1)
 stops_behind text first rest form place is stops = record {
   within = omega (arith, stops.within);
@@ -180,7 +180,7 @@ stops_behind text first rest form place is stops = record {
       (subst (λ n. Begins (parts_in text (take n (first ∷ rest)))) (add-one (place + 1)) line));
 }
 
--- a line with a mark behind its first token
+-- a line with a mark after its first token
 around_behind : (text : List ℕ) (first : Token) (rest : List Token) (form : Form) (mover : Mover) (place : ℕ) → IsBegun (lexed_in text first) form → IsAround text form rest mover place → SpellsAround text (first ∷ rest) mover (place + 1)
 around_behind text first rest form mover place is around =
     let front : take place rest ≡ take (place + 1 - 1) rest = ap (λ n. take n rest) (omega arith) in

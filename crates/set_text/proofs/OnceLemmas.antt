@@ -26,7 +26,7 @@ same_first a b xs ys e = (cc, cc)
 same_some : {X : Type 0} (a b : X) → Some a ≡ Some b → a ≡ b
 same_some a b e = cc
 
--- the parts behind a keyword ask one thing
+-- the parts after a keyword ask one thing
 behind_once : (form : Form) (parts : List Lexed) (one other : Op) → AsksBehind form parts one → AsksBehind form parts other → one ≡ other
 behind_once (OneList verb brackets) parts one other a b = a.1 ∙ sym b.1
 behind_once (TwoLists first last) parts one other a b = two_lists_once first last parts one other a b
@@ -39,7 +39,7 @@ spelled_once parts one other a b =
     behind_once b.form b.rest one other
     (subst (λ (f : Form). AsksBehind f b.rest one) form (subst (λ (ps : List Lexed). AsksBehind a.form ps one) split.1 a.asked)) b.asked
 
--- what begins a line with more behind it begins a line
+-- what begins a line with more after it begins a line
 front_begun : (front back : List Lexed) → Begins (front ++ back) → Begins front
 front_begun front back line = record {
   more = back ++ line.more;
@@ -61,7 +61,7 @@ left_of xs n within = by_rest (drop n xs) (omega (arith, length-drop n xs))
     by_rest [] some = absurd (omega (arith, some))
     by_rest (y ∷ ys) some = (y, ys, refl)
 
--- a line that stops behind some tokens begins no line with more of them
+-- a line that stops after some tokens begins no line with more of them
 not_longer : (line : List ℕ) (tokens : List Token) (fault : Option LexFault) (m n place : ℕ) → m < n → n ≤ length tokens → StopsAt line tokens m (drop m tokens) fault place → Begins (parts_in line (take n tokens)) → ⊥
 not_longer line tokens fault m n place less within stops line_begun =
     let next = left_of tokens m (omega arith) in

@@ -1,4 +1,4 @@
--- What the tokens behind a keyword lead to, against what may stand there.
+-- What the tokens after a keyword lead to, against what may stand there.
 use Rattle.std.proofs.Common.{◌≡◌, ◌<◌, ◌+◌, get_or, ℕ, Bool, true, false, List, [], ◌∷◌, ◌++◌, length, take, Option, Some, None, inl, inr, ◌⊎◌, refl, sym, ap, ◌∙◌, subst, arith}
 use Rattle.std.specs.Prelude.{◌&&◌}
 use Rattle.std.specs.List.{list_all}
@@ -42,7 +42,7 @@ leads_once brackets from p q (x ∷ xs) one other =
     leads_once brackets other.0 p q xs
     (subst (λ r. PhaseLeads brackets r xs p) (same_some one.0 other.0 (next brackets from x) one.1 other.1) one.2) other.2
 
--- a word behind words is one of them
+-- a word after words is one of them
 word_on : (phase : Phase) (x : TokenKind) (brackets : Bool) → is_word_kind x ≡ true → next brackets phase x ≡ on_word phase
 word_on phase kind.OpenBrace brackets word = absurd cc
 word_on phase kind.CloseBrace brackets word = absurd cc
@@ -127,7 +127,7 @@ tail_ends true xs (inr it) = record {
 }
 tail_ends false xs plain = record { phase = Words; leads = plain_leads false xs plain; ends = refl }
 
--- what is left of a line behind a phase
+-- what is left of a line after a phase
 closed_left : (brackets : Bool) (xs : List TokenKind) (q : Phase) → PhaseLeads brackets Closed xs q → xs ≡ []
 closed_left brackets [] q leads = refl
 closed_left true (x ∷ xs) q leads =
@@ -154,7 +154,7 @@ with_word x xs word words = ap (λ b. b && list_all is_word_kind xs) word ∙ wo
 inner_more : (x : TokenKind) (xs : List TokenKind) → is_word_kind x ≡ true → Inner xs → Inner (x ∷ xs)
 inner_more x xs word it = record { inside = x ∷ it.inside; joined = ap (λ ks. x ∷ ks) it.joined; words = with_word x it.inside word it.words }
 
--- the bracket is closed, and nothing stands behind it
+-- the bracket is closed, and nothing stands after it
 inner_none : (x : TokenKind) (xs : List TokenKind) → x ≡ kind.CloseBracket → xs ≡ [] → Inner (x ∷ xs)
 inner_none x xs is none = record { inside = []; joined = ap (λ k. k ∷ xs) is ∙ ap (λ ks. kind.CloseBracket ∷ ks) none; words = refl }
 
@@ -260,7 +260,7 @@ completes brackets Opened = record { more = kind.Bare ∷ kind.CloseBracket ∷ 
 completes brackets Inside = record { more = kind.CloseBracket ∷ []; last = Closed; leads = (Closed, refl, refl); ends = refl }
 completes brackets Closed = record { more = []; last = Closed; leads = refl; ends = refl }
 
--- tokens that lead somewhere begin what may stand behind a keyword
+-- tokens that lead somewhere begin what may stand after a keyword
 pub record TailMore (brackets : Bool) (xs : List TokenKind) : Type 0 where
   pub more : List TokenKind
   pub tail : IsTail brackets (xs ++ more)
@@ -270,7 +270,7 @@ tail_more brackets xs phase leads =
     let on = completes brackets phase in
     record { more = on.more; tail = tail_of brackets (xs ++ on.more) on.last (leads_both brackets Bare phase on.last xs on.more leads on.leads) on.ends }
 
--- a token that may not stand behind those before it
+-- a token that may not stand after those before it
 pub not_tail : (brackets : Bool) (xs ys : List TokenKind) (x : TokenKind) (phase : Phase) → PhaseLeads brackets Bare xs phase → next brackets phase x ≡ None → IsTail brackets (xs ++ x ∷ ys) → ⊥
 not_tail brackets xs ys x phase leads none tail =
     let it = tail_ends brackets (xs ++ x ∷ ys) tail in

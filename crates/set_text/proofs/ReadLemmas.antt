@@ -23,7 +23,7 @@ SaysMaybe line change = Says line (Ok change)
 pub whole_begun : (parts : List Lexed) (change : Op) → Spells parts change → Begins parts
 whole_begun parts change line = record { more = []; change = change; spelled = subst (λ ps. Spells ps change) (sym (append-nil parts)) line }
 
--- a line that stops behind all its tokens
+-- a line that stops after all its tokens
 stops_last : (line : List ℕ) (tokens : List Token) (fault : Option LexFault) (place : ℕ) → IsCut line tokens fault → Begins (parts_in line tokens) → StopsAt line tokens (length tokens) [] fault place → IsRefused line place
 stops_last line tokens fault place cut begun stops = record {
   tokens = tokens;

@@ -211,7 +211,7 @@ module _ (p old : List Step) (comes : ComesAt p old) where
           (take (length p - 1 + 1) marks
           ++ record { end = length (take mark.end text ++ flat_map spaced (words_of_step s)); place = place_behind mark.place s } ∷ [])) is_path at_child
 
--- statements in printing order go on from any path at or below the one that they stand below, and what goes on from each such path may come behind them
+-- statements in printing order go on from any path at or below the one that they stand below, and what goes on from each such path may come after them
 prefix_more : (path q : List Step) (s : Step) → IsPrefix (path ++ s ∷ []) q → IsPrefix path q
 prefix_more path q s begins = (s ∷ begins.0, sym (append_assoc path (s ∷ []) begins.0) ∙ begins.1)
 

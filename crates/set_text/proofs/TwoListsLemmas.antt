@@ -29,7 +29,7 @@ same_first a b xs ys e = (cc, cc)
 same_some : {X : Type 0} (a b : X) → Some a ≡ Some b → a ≡ b
 same_some a b e = cc
 
--- a word in front of the mark
+-- a word before the mark
 abbrev pub Names : Mover → Mover → List Lexed → Type 0
 Names one other parts = list_all (is_name one other) parts ≡ true
 
@@ -134,7 +134,7 @@ names_begun one other parts names = record {
   };
 }
 
--- no word stands in front
+-- no word stands before the mark
 not_first : (one other : Mover) (part : Lexed) → is_name one other part ≡ false → BeginsBehind (TwoLists one other) (part ∷ []) → ⊥
 not_first one other part none it = by_front it.asked.front it.asked.mark it.asked.behind it.asked.joined it.asked.names it.asked.some
   where
@@ -158,7 +158,7 @@ not_name_word : (word : Bool) (mover : Option Mover) → word && is_none mover �
 not_name_word true mover e none = absurd (let f = sym e ∙ ap is_none none in cc)
 not_name_word false mover e none = refl
 
--- words, and a mark behind them
+-- words, and a mark after them
 record IsMarked (one other : Mover) (parts : List Lexed) (mark : Lexed) (mover : Mover) : Type 0 where
   names : Names one other parts
   some : 0 < length parts
@@ -236,7 +236,7 @@ two_lists_no_word text one other tokens count d are within none =
       },
     )
 
--- the parts up to some behind a token
+-- the parts up to some after a token
 parts_behind : (text : List ℕ) (tokens : List Token) (count n : ℕ) (d : Token) → count < length tokens
     → parts_in text (take (count + 1 + n) tokens) ≡ parts_in text (take count tokens) ++ lexed_in text (get_or tokens count d) ∷ parts_in text (take n (drop (count + 1) tokens))
 parts_behind text tokens count n d within =
@@ -252,11 +252,11 @@ parts_around text tokens count d within =
     ap (parts_in text) (sym (take-append-drop count tokens) ∙ ap (λ ts. take count tokens ++ ts) (drop_more tokens count d within))
     ∙ map-append (lexed_in text) (take count tokens) (get_or tokens count d ∷ drop (count + 1) tokens)
 
--- what is left behind a token
+-- what is left after a token
 pub left_behind : (tokens : List Token) (count : ℕ) → take (length tokens - (count + 1)) (drop (count + 1) tokens) ≡ drop (count + 1) tokens
 left_behind tokens count = take_all (length tokens - (count + 1)) (drop (count + 1) tokens) (omega (arith, length-drop (count + 1) tokens))
 
--- names, and a mark behind them
+-- names, and a mark after them
 pub record AreMarked (text : List ℕ) (one other : Mover) (tokens : List Token) (count : ℕ) (d : Token) (mover : Mover) : Type 0 where
   pub are : AreNames text one other tokens count
   pub some : count ≢ 0

@@ -21,13 +21,13 @@ abbrev pub form_at : Bool → List ℕ → Option Form
 form_at true word = form_of word
 form_at false word = None
 
--- the tokens behind a keyword lead to a phase where a line may end, or may not
+-- the tokens after a keyword lead to a phase where a line may end, or may not
 pub record Reaches (brackets : Bool) (tokens : List Token) (ends : Bool) : Type 0 where
   pub phase : Phase
   pub leads : PhaseLeads brackets Bare (kinds_in tokens) phase
   pub ends_there : ends_at phase ≡ ends
 
--- how the tokens behind the keyword of a list of words fit its form
+-- how the tokens after the keyword of a list of words fit its form
 abbrev pub FitsOneList : Verb → Bool → List Token → Fit → Type 0
 FitsOneList verb brackets tokens (Stops count) = (place : ℕ) × (count ≡ place + 1) × StopsFrom brackets tokens place
 FitsOneList verb brackets tokens More = Reaches brackets tokens false
@@ -40,25 +40,25 @@ pub record AreNames (text : List ℕ) (one other : Mover) (tokens : List Token) 
   pub names : list_all (is_name one other) (parts_in text (take count tokens)) ≡ true
   pub ends : (token : Token) (rest : List Token) → drop count tokens ≡ token ∷ rest → is_name one other (lexed_in text token) ≡ false
 
--- what stands behind the keyword of a form begins with these parts
+-- what stands after the keyword of a form begins with these parts
 pub record BeginsBehind (form : Form) (parts : List Lexed) : Type 0 where
   pub more : List Lexed
   pub change : Op
   pub asked : AsksBehind form (parts ++ more) change
 
--- so many of the tokens behind the keyword begin what may stand there, and with the next one they don't
+-- so many of the tokens after the keyword begin what may stand there, and with the next one they don't
 pub record StopsIn (text : List ℕ) (form : Form) (tokens : List Token) (place : ℕ) : Type 0 where
   pub within : place < length tokens
   pub begun : BeginsBehind form (parts_in text (take place tokens))
   pub not_more : ¬ (BeginsBehind form (parts_in text (take (place + 1) tokens)))
 
--- the tokens behind the keyword ask for a change of two statements, with its mark at a place
+-- the tokens after the keyword ask for a change of two statements, with its mark at a place
 pub record IsAround (text : List ℕ) (form : Form) (tokens : List Token) (mover : Mover) (place : ℕ) : Type 0 where
   pub within : place + 1 < length tokens
   pub asked : AsksBehind form (parts_in text tokens)
       (moves.op_of mover (words_among (parts_in text (take place tokens))) (words_among (parts_in text (drop (place + 1) tokens))))
 
--- how the tokens behind the keyword of a form fit it
+-- how the tokens after the keyword of a form fit it
 abbrev pub FitsBehind : List ℕ → Form → List Token → Fit → Type 0
 FitsBehind text form tokens (Stops count) = (place : ℕ) × (count ≡ place + 1) × StopsIn text form tokens place
 FitsBehind text form tokens More =

@@ -67,7 +67,7 @@ mover_of one other part =
 abbrev pub is_name : Mover → Mover → Lexed → Bool
 is_name one other part = is_word_kind part.kind && is_none (mover_of one other part)
 
--- one or more words, the first mark among them, and one or more words behind it
+-- one or more words, the first mark among them, and one or more words after it
 pub record AreTwoLists (one other : Mover) (parts : List Lexed) (change : Op) : Type 0 where
   pub front : List Lexed
   pub mark : Lexed
@@ -80,12 +80,12 @@ pub record AreTwoLists (one other : Mover) (parts : List Lexed) (change : Op) : 
   pub words : IsPlain (kinds_of behind)
   pub asked : change ≡ moves.op_of mover (words_among front) (words_among behind)
 
--- what the parts behind the keyword of a form ask
+-- what the parts after the keyword of a form ask
 abbrev pub AsksBehind : Form → List Lexed → Op → Type 0
 AsksBehind (OneList verb brackets) parts change = IsTail brackets (kinds_of parts) × (change ≡ op_of verb (words_among parts))
 AsksBehind (TwoLists one other) parts change = AreTwoLists one other parts change
 
--- the parts are a line of a form: its keyword, and what stands behind it
+-- the parts are a line of a form: its keyword, and what stands after it
 pub record Spells (parts : List Lexed) (change : Op) : Type 0 where
   pub first : Lexed
   pub rest : List Lexed

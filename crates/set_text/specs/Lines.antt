@@ -13,21 +13,21 @@ use Rattle.set_text.specs.declared.fault.LineFault.{LineFault}
 use Rattle.set_text.specs.declared.fault.LineFault.TheVariants as fault
 use Rattle.set_text.specs.Form.{parts_in, Spells, Begins, IsNoLine}
 
--- a byte in front of the first line
+-- a byte before the first line
 abbrev pub in_first : ℕ → List (List ℕ) → List (List ℕ)
 in_first b [] = (b ∷ []) ∷ []
 in_first b (line ∷ lines) = (b ∷ line) ∷ lines
 
--- a byte in front of a text of these lines: an LF ends a line, and a CR right before it is of the line's end
+-- a byte before a text of these lines: an LF ends a line, and a CR right before it is of the line's end
 abbrev pub with_byte : ℕ → List ℕ → List (List ℕ) → List (List ℕ)
 with_byte b rest lines = if b == 10 then [] ∷ lines else (if b == 13 && begins_with 10 rest then lines else in_first b lines)
 
--- the lines of a text; what stands behind the last LF is a line, where it has a byte
+-- the lines of a text; what stands after the last LF is a line, where it has a byte
 abbrev pub lines_in : List ℕ → List (List ℕ)
 lines_in [] = []
 lines_in (b ∷ rest) = with_byte b rest (lines_in rest)
 
--- a number in 32 bits; one that they can't hold is told as the last that they can
+-- a number in 32 bits; one that they can't hold is reported as the last that they can
 abbrev pub told : ℕ → ℕ
 told n = min n 4294967295
 
@@ -41,7 +41,7 @@ pub record AsksChange (line : List ℕ) (change : Op) : Type 0 where
   pub cut : IsCut line tokens None
   pub spelled : Spells (parts_in line tokens) change
 
--- the place that a lexical fault tells
+-- the place that a lexical fault reports
 abbrev pub IsPlaceOf : LexFault → ℕ → Type 0
 IsPlaceOf (lexical.BadByte at) place = place ≡ at
 IsPlaceOf (lexical.OpenComment at) place = place ≡ at
@@ -60,7 +60,7 @@ StopsAt line tokens count [] fault place = EndsAt line tokens fault place
 StopsAt line tokens count (token ∷ rest) fault place = ¬ (Begins (parts_in line (take (count + 1) tokens))) × (place ≡ told token.start)
 
 -- a line of no form, and the place of what doesn't fit: the first token with which the tokens up to it begin no line, or what stands
--- behind them all
+-- after them all
 pub record IsRefused (line : List ℕ) (place : ℕ) : Type 0 where
   pub tokens : List Token
   pub fault : Option LexFault

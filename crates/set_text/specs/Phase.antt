@@ -1,4 +1,4 @@
--- A plain program that reads a line behind its keyword, one token after another. No public clause cites it.
+-- A plain program that reads a line after its keyword, one token after another. No public clause cites it.
 use Rattle.std.specs.Prelude.{◌≡◌, ◌<◌, ℕ, Bool, true, false, List, [], ◌∷◌, length, map, take, drop, Option, Some, None}
 use Rattle.cfg_lex.specs.declared.token.Token.{Token}
 use Rattle.cfg_lex.specs.declared.token.TokenKind.{TokenKind}

@@ -1,4 +1,4 @@
--- Statements as the lines that make them. Junos OS CLI User Guide, on display set; that the marks come behind all `set` lines is this
+-- Statements as the lines that make them. Junos OS CLI User Guide, on display set; that the marks come after all `set` lines is this
 -- project's own.
 use Rattle.std.specs.Prelude.{ℕ, zero, suc, ◌-◌, ◌==◌, Bool, true, false, List, [], ◌∷◌, ◌++◌, length, map, Option, Some, None}
 use Rattle.std.specs.List.{flat_map}
@@ -19,7 +19,7 @@ use Rattle.commands.specs.Verb.{keyword}
 use Rattle.commands.specs.declared.verb.Verb.{Verb}
 use Rattle.commands.specs.declared.verb.Verb.TheVariants.{Set, Deactivate, Protect}
 
--- a line: what its keyword asks of the words behind it
+-- a line: what its keyword asks of the words after it
 pub record Line : Type 0 where
   pub verb : Verb
   pub words : List (List ℕ)
@@ -40,7 +40,7 @@ protect_line words = line Protect words
 abbrev pub spaced : List ℕ → List ℕ
 spaced word = 32 ∷ printed_word word
 
--- a line as it is printed: its keyword, and its words behind it
+-- a line as it is printed: its keyword, and its words after it
 abbrev pub printed_line : Line → List ℕ
 printed_line it = keyword it.verb ++ (flat_map spaced it.words ++ 10 ∷ [])
 

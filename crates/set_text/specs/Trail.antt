@@ -11,7 +11,7 @@ use Rattle.printing_order.specs.Listed.{Item}
 use Rattle.set_text.specs.declared.trail.Mark.{Mark}
 use Rattle.set_text.specs.Printed.{spaced}
 
--- a path's own words, each behind a space
+-- a path's own words, each after a space
 abbrev pub own_text : List Step → List ℕ
 own_text path = flat_map spaced (own_words path)
 

@@ -8,7 +8,7 @@ use thiserror::Error;
 #[derive(Clone, Copy, Debug, PartialEq, Eq, Error)]
 pub enum LineFault {
     /// The first line of no form, counted from 1, and the byte in it that doesn't fit, counted from 0. Numbers past
-    /// 2^32 - 1 are told as 2^32 - 1.
+    /// 2^32 - 1 are reported as 2^32 - 1.
     #[error("line {line}: syntax error at byte {place}")]
     Line { line: u32, place: u32 },
     #[error("out of memory")]

@@ -17,7 +17,7 @@ use commands::{Mover, Verb};
 use std::alloc::Global;
 
 /// How far the tokens of a line fit a form: the first so many begin a line, and the next one doesn't fit; all of
-/// them begin one, and more would have to stand behind them; they are one of a list of words; or they are one with the
+/// them begin one, and more would have to stand after them; they are one of a list of words; or they are one with the
 /// mark of that kind at that place.
 #[derive(Clone, Copy, Debug, PartialEq, Eq)]
 pub(crate) enum Fit {

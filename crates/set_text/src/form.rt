@@ -6,7 +6,7 @@ ghost use Rattle.set_text.specs.Form.{form_of, keyword_of};
 
 use commands::{Mover, Verb};
 
-/// A form: its keyword, and what stands behind it.
+/// A form: its keyword, and what stands after it.
 #[derive(Clone, Copy, Debug, PartialEq, Eq)]
 pub(crate) enum Form {
     /// Words; brackets may stand round the last of them, or may not.

@@ -47,7 +47,7 @@ impl Groups {
         }
     }
 
-    /// The groups, one behind the other.
+    /// The groups, one after the other.
     pub(crate) fn joined(self) -> Result<Vec<u8>, NoMemory>
         ensures { IfOk result (λ text. text.items ≡ self.sets.items ++ (self.deactivates.items ++ self.protects.items)) }
     {

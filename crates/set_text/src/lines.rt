@@ -22,7 +22,7 @@ fn without_cr(line: &[u8]) -> &[u8]
     }
 }
 
-/// How many bytes stand in front of the first LF.
+/// How many bytes stand before the first LF.
 fn line_len(text: &[u8]) -> usize
     ensures length { result ≡ prefix_len is_in_line text.now }
     ensures within { result ≤ length text.now }
@@ -30,7 +30,7 @@ fn line_len(text: &[u8]) -> usize
     text.iter().take_while(|byte| **byte != b'\n').count()
 }
 
-/// The first line of a text that has a byte, and what is left behind it.
+/// The first line of a text that has a byte, and what is left after it.
 fn first_line(text: &[u8]) -> (&[u8], &[u8])
     requires { 0 < length text.now }
     ensures first { lines_in text.now ≡ result.0.now ∷ lines_in result.1.now }

@@ -3,7 +3,7 @@ ghost use Rattle.std.specs.Prelude.{◌≡◌};
 use commands::Op;
 use std::marker::Model;
 
-/// The change that a line asks for, and the line's number, counted from 1. A number past 2^32 - 1 is told as
+/// The change that a line asks for, and the line's number, counted from 1. A number past 2^32 - 1 is reported as
 /// 2^32 - 1.
 #[derive(Debug, Drop)]
 pub struct OpLine {

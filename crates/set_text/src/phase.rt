@@ -1,4 +1,4 @@
-//! Which tokens may follow one another behind a keyword.
+//! Which tokens may follow one another after a keyword.
 
 ghost use Rattle.std.specs.Prelude.{◌≡◌, MatchResult};
 ghost use Rattle.set_text.specs.declared.phase.Phase.TheVariants as phase;
@@ -6,16 +6,16 @@ ghost use Rattle.set_text.specs.Phase.{ends_at, kinds_in, next, on_close, on_ope
 
 use cfg_lex::{Token, TokenKind};
 
-/// How far a line is read behind its keyword.
+/// How far a line is read after its keyword.
 #[derive(Clone, Copy, Debug, PartialEq, Eq)]
 pub(crate) enum Phase {
     /// Nothing is read.
     Bare,
     /// Words are read.
     Words,
-    /// A bracket is open, and no word is read behind it.
+    /// A bracket is open, and no word is read after it.
     Opened,
-    /// A bracket is open, and words are read behind it.
+    /// A bracket is open, and words are read after it.
     Inside,
     /// A bracket is closed.
     Closed,
@@ -69,7 +69,7 @@ impl Phase {
     }
 }
 
-/// How far these tokens are read behind a keyword; or the first of them that may not follow those before it.
+/// How far these tokens are read after a keyword; or the first of them that may not follow those before it.
 pub(crate) fn phase_of(brackets: bool, tokens: &[Token]) -> Result<Phase, usize>
     ensures { MatchResult result (λ reached. PhaseLeads brackets phase.Bare (kinds_in tokens.now) reached)
         (λ place. StopsFrom brackets tokens.now place) }

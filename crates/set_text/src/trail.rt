@@ -91,7 +91,7 @@ fn place_behind(above: Option<Place>, step: &Step) -> Option<Place>
     }
 }
 
-/// Puts a step behind the path that a text and its marks have come to.
+/// Puts a step after the path that a text and its marks have come to.
 fn push_mark(
     text: &mut Vec<u8>,
     marks: &mut Vec<Mark>,
@@ -144,7 +144,7 @@ impl<'a> Trail<'a> {
         Ok(Trail { path, text, marks })
     }
 
-    /// The own words of the path, each behind a space.
+    /// The own words of the path, each after a space.
     pub(crate) fn words(&self) -> &[u8]
         ensures { result.now ≡ own_text self.now }
     {

@@ -11,7 +11,7 @@ use Rattle.shell_words.specs.Form.{is_of, names, given_by, parts_of, FitsParts, 
 use Rattle.shell_words.proofs.FormTests.{disjoint, are_some, apart_one, apart_many, apart, is_sound, all_apart}
 use Rattle.shell_words.proofs.SymbolLemmas.{disjoint_sound}
 
--- a run with a token goes on behind it
+-- a run with a token goes on after it
 record Further (symbol : Symbol) (Rest : List Item → List (List ℕ) → Type 0) (items : List Item) : Type 0 where
   first : Item
   more : List Item
@@ -20,7 +20,7 @@ record Further (symbol : Symbol) (Rest : List Item → List (List ℕ) → Type 
   is : is_of symbol first ≡ true
   behind : IsRun symbol Rest more words
 
--- a run has no token, or goes on behind its first one
+-- a run has no token, or goes on after its first one
 split_run : (symbol : Symbol) (Rest : List Item → List (List ℕ) → Type 0) (items : List Item) (words : List (List ℕ)) → IsRun symbol Rest items words → ((others : List (List ℕ)) × Rest items others) ⊎ Further symbol Rest items
 split_run symbol Rest items words run = by_run run.run run.joined run.all
   where
@@ -169,6 +169,6 @@ one_form (form ∷ forms) one other items words given e here there fit beside =
           ]
     ]
 
--- what the tests tell of one form
+-- what the tests say of one form
 pub sound_at : (forms : List CommandForm) (form : CommandForm) → list_all is_sound forms ≡ true → Contains forms form → is_sound form ≡ true
 sound_at forms form all contained = all_at is_sound forms form all contained

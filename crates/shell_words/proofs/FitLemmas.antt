@@ -1,4 +1,4 @@
--- What a form's parts take of a line, told by the plain program and by the form's meaning.
+-- What a form's parts take of a line, stated by the plain program and by the form's meaning.
 use Rattle.std.proofs.Common.{◌≡◌, ◌≤◌, ◌+◌, ℕ, List, [], ◌∷◌, ◌++◌, length, take, drop, Bool, true, false, cond, refl, sym, ap, subst, ◌∙◌, arith, length-append, add_comm, add-one}
 use Rattle.std.specs.List.{list_all}
 use Rattle.std.proofs.lemmas.Bool.{false≢true, and_parts, and_from}
@@ -149,7 +149,7 @@ goes_on (Many symbol ∷ parts) items e =
       },
     )
 
--- the parts go on at least with the front of a line of theirs, whatever stands behind it
+-- the parts go on at least with the front of a line of theirs, whatever stands after it
 abbrev Reaches : List Part → Type 0
 Reaches parts = (xs ys zs : List Item) (words : List (List ℕ)) → FitsParts parts (xs ++ ys) words → length xs ≤ reach parts (xs ++ zs)
 

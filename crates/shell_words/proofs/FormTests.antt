@@ -1,4 +1,4 @@
--- Tests of the table of forms, and what they tell of each form.
+-- Tests of the table of forms, and what they say of each form.
 use Rattle.std.proofs.Common.{ℕ, List, [], ◌∷◌, Bool, true, false, not, ◌&&◌, ◌||◌}
 use Rattle.std.specs.List.{list_all}
 use Rattle.std.specs.Prelude.{codes, nat_le}
@@ -98,7 +98,7 @@ are_some (Nothing ∷ parts) = are_some parts
 are_some (One symbol ∷ parts) = true
 are_some (Many symbol ∷ parts) = are_some parts
 
--- a test that no line is of both parts, where the first ones begin with one token; the last argument tests the parts behind it
+-- a test that no line is of both parts, where the first ones begin with one token; the last argument tests the parts after it
 abbrev pub apart_one : Symbol → (List Part → Bool) → List Part → Bool
 apart_one symbol rest [] = true
 apart_one symbol rest (Nothing ∷ others) = apart_one symbol rest others
@@ -127,7 +127,7 @@ abbrev pub all_apart : List CommandForm → Bool
 all_apart [] = true
 all_apart (form ∷ forms) = list_all (λ (other : CommandForm). apart (parts_of form) (parts_of other)) forms && all_apart forms
 
--- a test of the first part, which is one token, and of the parts behind it
+-- a test of the first part, which is one token, and of the parts after it
 abbrev pub leads : (Symbol → Bool) → (List Part → Bool) → List Part → Bool
 leads test rest [] = false
 leads test rest (Nothing ∷ parts) = false
@@ -153,7 +153,7 @@ abbrev pub is_the_mark : keywords.Keyword → Symbol → Bool
 is_the_mark mark (Mark other) = same_word (spelled mark) (spelled other)
 is_the_mark mark other = false
 
--- a test of what stands behind the mark, from the mark on, and from the first word on
+-- a test of what stands after the mark, from the mark on, and from the first word on
 abbrev pub behind_mark : List Part → Bool
 behind_mark parts = leads names (runs names is_end) parts
 
@@ -180,7 +180,7 @@ abbrev pub is_minutes : Symbol → Bool
 is_minutes (Number low high) = nat_le high 65535
 is_minutes other = false
 
--- a test that the first word of a commit that tells its minutes is their number
+-- a test that the first word of a commit that states its minutes is their number
 abbrev pub are_timed : Makes → List Part → Bool
 are_timed (Commit InMinutes comment quit) parts = leads is_unnamed (leads is_unnamed (leads is_minutes (λ others. true))) parts
 are_timed other parts = true

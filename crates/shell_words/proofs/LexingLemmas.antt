@@ -48,7 +48,7 @@ is_bracket b kind.Semicolon = false
 is_bracket b kind.Bare = false
 is_bracket b kind.Quoted = false
 
--- a test that a lexeme stands in front of what follows
+-- a test that a lexeme stands before what follows
 abbrev stands : Lexeme → List ℕ → Bool
 stands (Space byte) rest = is_space byte
 stands (LineComment bytes) rest = false

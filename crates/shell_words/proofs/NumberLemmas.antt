@@ -12,7 +12,7 @@ use Rattle.std.proofs.lemmas.Str.Parse.{digits_value-take-le}
 use Rattle.std.proofs.lemmas.Bool.Decides.{nat_tests}
 use Rattle.shell_words.specs.Number.{is_number}
 
--- `AllDigits` and `digits_value` tell and read decimal digits
+-- `AllDigits` and `digits_value` recognize and read decimal digits
 own_digits : IsNumeralModel (AllDigits 10) (digits_value 10)
 own_digits = numerals_by_value (AllDigits 10) tells_digits
 

@@ -30,7 +30,7 @@ words_in items = map (λ (item : Item). item.token.word) items
 abbrev pub no_mark : keywords.Keyword → Item → Bool
 no_mark mark item = not (is_mark mark item)
 
--- the tokens in front are no marks, then comes one, and the words are those of the two sides
+-- the first tokens are no marks, then comes one, and the words are those of the two sides
 record Sided (mark : keywords.Keyword) (items : List Item) (words : List (List ℕ)) : Type 0 where
   front : List Item
   middle : Item
@@ -130,7 +130,7 @@ at_mark mark (One symbol ∷ parts) items words e fit =
     }
 at_mark mark (Many symbol ∷ parts) items words e fit = absurd (false≢true e)
 
--- tokens that pass and name something stand in front
+-- tokens that pass and name something stand before a mark
 abbrev before_mark : (mark : keywords.Keyword) (symbol : Symbol) (run rest items : List Item) (words others : List (List ℕ)) → passes mark (λ named. named) symbol ≡ true → list_all (is_of symbol) run ≡ true → items ≡ run ++ rest → words ≡ given_by (names symbol) run ++ others → (on : Sided mark rest others) → Sided mark items words
 before_mark mark symbol run rest items words others e all joined given on =
     let both = and_parts (disjoint symbol (Mark mark)) (names symbol) e in

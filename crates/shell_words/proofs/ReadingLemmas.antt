@@ -21,7 +21,7 @@ use Rattle.shell_words.proofs.FormFacts.{forms_sound, forms_apart, forms_some}
 use Rattle.shell_words.proofs.FitLemmas.{sound, complete, completed, goes_on, reaches}
 use Rattle.shell_words.proofs.ApartLemmas.{one_form, sound_at, some_needs, split_contains}
 
--- what the tests tell of a form of the table
+-- what the tests say of a form of the table
 record Tested (form : CommandForm) : Type 0 where
   ended : are_ended (parts_of form) ≡ true
   shown : have_examples (parts_of form) ≡ true
@@ -36,7 +36,7 @@ tested configuring form served =
 pub each_form : (configuring : Bool) (form : CommandForm) → Contains (forms_of configuring) form → (items : List Item) × (words : List (List ℕ)) × FitsParts (parts_of form) items words
 each_form configuring form served = completed (parts_of form) (tested configuring form served).shown
 
--- one more form in front
+-- one more form before the others
 pub later : {X : Type 0} (first : X) (rest : List X) (x : X) → Contains rest x → Contains (first ∷ rest) x
 later first rest x contained = (suc contained.0, omega (arith, contained.1), contained.2)
 

@@ -200,7 +200,7 @@ first_time (One symbol ∷ parts) items words e fit =
     subst IsTime (sym fit.given) (minutes_small symbol fit.first fit.others (and_parts (is_minutes symbol) true e).0 fit.is)
 first_time (Many symbol ∷ parts) items words e fit = absurd (false≢true e)
 
--- the minutes of a commit are behind its two keywords
+-- the minutes of a commit are after its two keywords
 third_time : (parts : List Part) (items : List Item) (words : List (List ℕ)) → leads is_unnamed (leads is_unnamed (leads is_minutes (λ others. true))) parts ≡ true → FitsParts parts items words → IsTime words
 third_time parts items words e fit =
     behind_unnamed (leads is_unnamed (leads is_minutes (λ others. true))) IsTime

@@ -33,7 +33,7 @@ asks line command = record { line = codes line; asked = Ok (Some (Whole command)
 abbrev pub changes : String → Op → Example
 changes line change = asks line (command.Change change)
 
--- a line that is a load of the text behind it
+-- a line that is a load of the text after it
 abbrev pub loads : String → LoadWay → Example
 loads line way = record { line = codes line; asked = Ok (Some (NeedsText way)) }
 

@@ -19,7 +19,7 @@ abbrev pub number_or : ℕ → List (List ℕ) → ℕ
 number_or other [] = other
 number_or other (word ∷ words) = unwrap_or (number_of word) other
 
--- the minutes that a commit has for its confirmation; a plain one has none, and where none are told they are ten
+-- the minutes that a commit has for its confirmation; a plain one has none, and where none are given they are ten
 abbrev pub minutes_in : Confirmed → List (List ℕ) → ℕ
 minutes_in No words = 0
 minutes_in InTen words = 10

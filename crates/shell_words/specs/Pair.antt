@@ -13,7 +13,7 @@ use Rattle.shell_words.specs.Form.{is_mark}
 abbrev pub tokens_before : Keyword → List Item → ℕ
 tokens_before mark items = prefix_len (λ item. not (is_mark mark item)) items
 
--- the words of the tokens behind the first one
+-- the words of the tokens after the first one
 abbrev pub words_behind_first : List Item → List (List ℕ)
 words_behind_first [] = []
 words_behind_first (first ∷ items) = map (λ (item : Item). item.token.word) items
@@ -22,7 +22,7 @@ words_behind_first (first ∷ items) = map (λ (item : Item). item.token.word) i
 abbrev pub front_words : Keyword → List Item → List (List ℕ)
 front_words mark items = words_behind_first (take (tokens_before mark items) items)
 
--- the words behind that mark
+-- the words after that mark
 abbrev pub back_words : Keyword → List Item → List (List ℕ)
 back_words mark items = words_behind_first (drop (tokens_before mark items) items)
 

@@ -30,7 +30,7 @@ pub record AsksByForm (configuring : Bool) (items : List Item) (answer : Result 
   pub line : IsIn configuring items form words
   pub is : answer ≡ Ok (Some (made_by form.makes items words))
 
--- a line begins with so many of these tokens and with no more; the place told is that of the next token, or the end
+-- a line begins with so many of these tokens and with no more; the place reported is that of the next token, or the end
 pub record IsMisfit (configuring : Bool) (items : List Item) (end : ℕ) (answer : Result (Option Words0) ℕ) : Type 0 where
   pub count : ℕ
   pub within : count ≤ length items
@@ -57,19 +57,19 @@ place_of (lex.OpenQuote place) = place
 place_of (lex.LongWord place) = place
 place_of lex.NoMemory = 0
 
--- what a line of these tokens asks. A lexical fault behind them is one token more, that fits no form, at its own place
+-- what a line of these tokens asks. A lexical fault after them is one token more, that fits no form, at its own place
 abbrev pub Answers : Bool → List Item → Option LexFault → ℕ → Result (Option Words0) ℕ → Type 0
 Answers configuring items None end answer = AnswersWhole configuring items end answer
 Answers configuring items (Some fault) end answer = IsMisfit configuring items (place_of fault) answer
 
--- what a line asks: a command, a load of the text behind it, nothing, or the place of its syntax error
+-- what a line asks: a command, a load of the text after it, nothing, or the place of its syntax error
 pub record IsReading (configuring : Bool) (line : List ℕ) (answer : Result (Option Words0) ℕ) : Type 0 where
   pub tokens : List Token
   pub fault : Option LexFault
   pub cut : IsCut line tokens fault
   pub answers : Answers configuring (map (item_in line) tokens) fault (length line) answer
 
--- what the reader answers is so, unless memory is wanting
+-- what the reader answers is so, unless memory runs out
 abbrev pub Gives : (Result (Option Words0) ℕ → Type 0) → Result (Option Words0) ReadFault → Type 0
 Gives Is (Ok made) = Is (Ok made)
 Gives Is (Err (Syntax place)) = Is (Err place)

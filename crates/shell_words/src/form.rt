@@ -36,7 +36,7 @@ pub(crate) enum Part {
 /// Which time a commit has for its confirmation.
 #[derive(Clone, Copy, Debug, PartialEq, Eq)]
 pub(crate) enum Confirmed {
-    /// It wants none.
+    /// It needs none.
     No,
     /// Ten minutes.
     InTen,

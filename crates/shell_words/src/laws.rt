@@ -15,7 +15,7 @@ ghost use Rattle.shell_words.specs.Pair.{AreSides, back_words, front_words};
 ghost use Rattle.shell_words.specs.Reading.{IsReading};
 
 /// A line has one reading; a line that is in a form is read as what that form makes of it, and each form has such tokens.
-/// The words of a change of two statements are those before its mark and those behind it, of which there are some.
+/// The words of a change of two statements are those before its mark and those after it, of which there are some.
 pub fn lines_are_read_in_one_way()
     ensures one_reading { (configuring : Bool) (line : List ℕ) (one other : Result (Option Words0) ℕ)
         → IsReading configuring line one → IsReading configuring line other → one ≡ other }

@@ -29,7 +29,7 @@ fn tokens_before(mark: Keyword, items: &[Item<'_>]) -> usize
     items.iter().take_while(|item| !item.is_mark(mark)).count()
 }
 
-/// The words of the tokens behind the first one.
+/// The words of the tokens after the first one.
 fn words_behind_first(alloc: Global, items: &[Item<'_>]) -> Result<Words, NoMemory>
     ensures { IfOk result (λ words. words ≡ words_behind_first items.now) }
 {

@@ -93,7 +93,7 @@ fn read_whole(
     }
 }
 
-/// What a line of these tokens asks, where a lexical fault may stand behind them.
+/// What a line of these tokens asks, where a lexical fault may stand after them.
 fn read_items(
     alloc: Global,
     configuring: bool,

@@ -47,7 +47,7 @@ abbrev rest_records : List Record → List Record
 rest_records [] = []
 rest_records (r ∷ rs) = rs
 
--- records that stand one behind the other from one place on are told by what they are
+-- records that stand one after the other from one place on are known by what they are
 same_record : (p q : Placed) → record_of p ≡ record_of q → p.offset ≡ q.offset → p ≡ q
 same_record p q is place =
     let path : p ≡ q =

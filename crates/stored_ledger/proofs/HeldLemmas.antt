@@ -48,7 +48,7 @@ pub one_refused : (before after after2 : DiskPair) (one two : StartWhy) → Both
 one_refused before after after2 one two tell by by' first second =
     one_cause (contents_of before.a.history) (contents_of before.b.history) one two by by' (first.explained tell) (second.explained tell)
 
--- only a journal that is there is told as there
+-- only a journal that is there is reported as there
 there_already : (cause : CreateWhy) → Exists ≡ why_of_making cause → cause ≡ IsThereAlready
 there_already IsThereAlready told = refl
 there_already MakingFault told = absurd (cc)

@@ -27,7 +27,7 @@ pub record IsMade (before after : DiskPair) : Type 0 where
   pub made_a : IsTrue before.a.tells → DiskGoesOn before.a.history (making_a factory_records) after.a.history
   pub made_b : IsTrue before.b.tells → DiskGoesOn before.b.history making_b after.b.history
 
--- why a journal couldn't be made, as it is told
+-- why a journal couldn't be made, as it is reported
 abbrev pub why_of_making : CreateWhy → StartWhy
 why_of_making IsThereAlready = Exists
 why_of_making MakingFault = DiskFault

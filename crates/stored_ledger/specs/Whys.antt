@@ -1,4 +1,4 @@
--- Why a journal that is there isn't opened, as it is told.
+-- Why a journal that is there isn't opened, as it is reported.
 use Rattle.std.specs.Prelude.{List}
 use Rattle.record_code.specs.declared.payloads.Placed.{Placed}
 use Rattle.commit_check.specs.Accepts.{Accepts}

@@ -1,4 +1,4 @@
-//! The cases, and what is told of each.
+//! The cases, and what is reported of each.
 
 use crate::edges::{Asked, Counting, Gate, Held, Still, Waiting};
 use crate::runs::{Part, Ran, made_disks, ran};
@@ -17,7 +17,7 @@ use std::thread::Threads;
 /// A session that commits a host name.
 const COMMITS: &[u8] = b"configure\nset system host-name a\ncommit\nexit\n";
 
-/// A session whose source has a text, and gives what is behind a place once a gate opens.
+/// A session whose source has a text, and gives what is after a place once a gate opens.
 fn session<R: std::rt::Clock + Clone + Drop>(
     rt: &R,
     alloc: Global,
@@ -227,7 +227,7 @@ fn say_reverts(out: &mut String, events: &[Happened]) -> Result<(), Fault> {
     Ok(())
 }
 
-/// What came of each case.
+/// What resulted from each case.
 pub(crate) fn say_all<R>(rt: &R, alloc: Global, out: &mut String) -> Result<(), Fault>
 where
     R: Threads + Wait + Sync + Send + std::rt::Clock + Clone + Drop,

@@ -16,7 +16,7 @@ use std::time::Duration;
 /// How often a count is looked at that is waited for, once a millisecond.
 const LOOKS: u32 = 10_000;
 
-/// Waits until a count has come so far, and tells whether it has.
+/// Waits until a count has come so far, and reports whether it has.
 fn waits_for<R: std::rt::Clock>(clock: &R, count: &AtomicU64, least: u64) -> bool {
     for _ in 0..LOOKS {
         if count.load(SeqCst) >= least {
@@ -171,7 +171,7 @@ impl<R: std::rt::Clock + Drop> Beat for Asked<R> {
     }
 }
 
-/// A disk one of whose syncs waits until a sink took so many lines, and tells before that it is there.
+/// A disk one of whose syncs waits until a sink took so many lines, and reports before that it is there.
 #[derive(Drop)]
 pub(crate) struct Held<R: std::rt::Clock + Drop, D: Disk + Drop> {
     pub disk: D,

@@ -21,7 +21,7 @@ use std::vec::IntoIter;
 /// What sessions read and write.
 pub(crate) type Part<S> = (S, Counting);
 
-/// What came of a run.
+/// What resulted from a run.
 pub(crate) type Ran<S, B, D> = Closed<S, Counting, Still, B, D>;
 
 /// The moment that the clock of each session answers.

@@ -2,15 +2,15 @@
 //!
 //! No wake is lost, by the order of the steps below, each of which is sequentially consistent.
 //! 1. A waiter reads how often its bell has rung, then looks which ticket is served, and then sleeps, unless
-//!    the bell has rung since it was read. Who passes on serves the next ticket, and then rings. So behind a
+//!    the bell has rung since it was read. Who passes on serves the next ticket, and then rings. So after a
 //!    look that came before the ticket was served comes the ring, which ends the sleep or lets none begin.
 //! 2. A sleeper is counted, and then compares the rings; a ring is counted, and then looks for sleepers. So
 //!    one of the two sees the other, and a bell at which nobody sleeps rings without a call of the system.
 //! 3. A ring wakes whoever sleeps at the bell, and each looks again. Of two tickets that are waited with, the
-//!    numbers are less apart than there are callers, so mostly each has a bell alone; behind 2^64 tickets the
+//!    numbers are less apart than there are callers, so mostly each has a bell alone; after 2^64 tickets the
 //!    numbers begin anew, and two of them may share one. Who waits and who rings go by the same number.
 //! 4. A sleep compares the last 32 bits of the count. From a caller's ticket to its turn each other caller
-//!    rings once at most, since the ticket that it takes behind that ring is a later one; so fewer than 2^32
+//!    rings once at most, since the ticket that it takes after that ring is a later one; so fewer than 2^32
 //!    rings lie between the reading and the sleep, and none is mistaken for another.
 //!
 //! Leaves to others: whose turn it is, which the words of the lock's table say. A bell says nothing of it: a
@@ -47,7 +47,7 @@ impl Bell {
         (self.rings.load(Ordering::SeqCst) & 0xffff_ffff) as u32
     }
 
-    /// Rests behind so many looks in vain, before the last of which it had rung so often.
+    /// Rests after so many looks in vain, before the last of which it had rung so often.
     pub(crate) fn rest<R: Wait>(&self, rt: &R, looks: u32, heard: u32) {
         if looks < LOOKS {
             thread::yield_now();

@@ -13,7 +13,7 @@
 //! 4. put: the value lies in the slot again, and is still out (`put`).
 //! 5. enter: the deed's entries are part of the entered history (`enter`). Put comes first, so that the
 //!    step can tell which entries these are.
-//! 6. pass on: the value is home, and the next ticket is served (`pass_on`). Behind it the caller of that
+//! 6. pass on: the value is home, and the next ticket is served (`pass_on`). After it the caller of that
 //!    ticket is woken, where it sleeps (src/bell.rt).
 //!
 //! Two more steps make a new pass (`split`) and end one (`join`). What holds between any two steps of any

@@ -40,7 +40,7 @@ impl<T: Book> Turns<T> {
         self.table.shared.fetch_add::<Draw>(seat, NEXT, 1)
     }
 
-    /// Waits until the ticket is served. The bell is read before each look, since a ring behind the look must let no
+    /// Waits until the ticket is served. The bell is read before each look, since a ring after the look must let no
     /// sleep begin.
     fn wait<R: Wait>(&self, rt: &R, seat: &mut Place<T>, ticket: u64)
         requires here { seat.old.table_id ≡ self.now }

@@ -6,7 +6,7 @@ use Rattle.config_core.specs.declared.reply.Refusal.TheVariants.{Check}
 use Rattle.reply_text.specs.Texts.{message_of, printed_path}
 use Rattle.reply_text.proofs.refusal.put_check.Goals as goal
 
--- the text in front of the path
+-- the text before the path
 abbrev front : ℕ → List ℕ
 front number = codes "check C" ++ (decimal number ++ codes " failed: ")
 
