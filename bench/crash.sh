@@ -1,7 +1,7 @@
 #!/usr/bin/env bash
 # Kills the program 200 times, each time after another number of bytes of its output, checks the journal and starts again: every
 # commit that was answered must be there. The same 300 times over a limit by which the journal's files rotate every few commits. Then
-# changes each byte of a small journal in turn, and looks whether the status and the place that `check` tells are those that the
+# changes each byte of a small journal in turn, and looks whether the status and the place that `check` reports are those that the
 # bytes say.
 # Builds nothing: the program is the one that ./demo leaves. The folder named, or this one, decides which file system is used.
 set -eu

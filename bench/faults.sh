@@ -117,7 +117,7 @@ must(run("serve", place, lines=commits(1))[0] == 0 and entries(place) == 3, "a s
 print("a second service: status 4, confd: journal in use; after the first one ended it is served")
 
 # 5. little memory: sessions that load and commit more and more, and then one that commits wholly different configurations, of which
-# the last 50 are kept, until memory is wanting
+# the last 50 are kept, until memory runs out
 def load(count, slot):
     lines = ["load override terminal", "interfaces {"]
     lines += [f'    ge-{slot}/0/{n} {{ description "port {n}"; unit 0 {{ family inet {{ address 10.{n // 256}.{n % 256}.1/24; }} }} }}' for n in range(count)]

@@ -1,7 +1,7 @@
 #!/usr/bin/env bash
 # Shows of the active configuration a second, by 1 and by 4 sessions at once, alone and beside a session each of whose commits is kept
 # on the disk, and what that session keeps of the rate that it has alone. A show takes no turn, so none waits for a commit. What shows
-# keep beside commits of another service, which shares nothing with theirs but the machine, is told beside it. One line has the shows a
+# keep beside commits of another service, which shares nothing with theirs but the machine, is reported beside it. One line has the shows a
 # second of a session that is asked and answers over named pipes. The folder named, or this one, decides which file system keeps the
 # commits.
 set -eu
@@ -124,8 +124,8 @@ middle() {
     sort -n "$work/$1" | sed -n 3p
 }
 
-# The commits alone, the shows alone, then both, each for some three seconds: a first short run tells how many these are, and isn't
-# told, since a run's beginning counts in it. They take turns five times, and of each kind the rate in the middle is told, since what
+# The commits alone, the shows alone, then both, each for some three seconds: a first short run shows how many these are, and isn't
+# reported, since a run's beginning counts in it. They take turns five times, and of each kind the rate in the middle is reported, since what
 # else runs on a machine makes some of the runs slow, and some of them fast.
 interrupts > "$work/before"
 alone=$(rates 0 0 2000)

@@ -1,6 +1,6 @@
 #!/usr/bin/env bash
 # Turns a second that 1, 4 and 64 sessions make at once, side by side: shows of the candidate, and private commits over 64 interfaces.
-# Turns are taken one at a time, so several sessions make no more of them than one does: the ratios tell what waiting for one another
+# Turns are taken one at a time, so several sessions make no more of them than one does: the ratios show what waiting for one another
 # costs, by the clock and in the processor's time. After them stands when the first session had ended, of the time that the last one
 # took: no session that waits is left behind. Then the commits once more beside as many busy processes as there are processors, and by
 # one session beside 63 that are idle, since a run has at most 64.
@@ -84,7 +84,7 @@ told() {
             printf "%.0f %.2f %.0f\n", lines / last, first / last, (times[1] + times[2]) * 1e9 / lines }'
 }
 
-# what is told of so many sessions together, each of that many rounds of a kind
+# what is reported of so many sessions together, each of that many rounds of a kind
 rate() {
     local kind=$1 count=$2 rounds=$3 number begun words=()
     journal
@@ -97,7 +97,7 @@ rate() {
     told "$begun"
 }
 
-# what is told of a session that commits so many times, beside so many that have nothing to read until it has ended: all of these read
+# what is reported of a session that commits so many times, beside so many that have nothing to read until it has ended: all of these read
 # one pipe, which is held open for so long
 rate_beside_idle() {
     local rounds=$1 count=$2 number begun deadline service words=()
@@ -127,7 +127,7 @@ rate_beside_idle() {
     told "$begun"
 }
 
-# of three times a command the one that told the most turns a second
+# of three times a command the one that reported the most turns a second
 best_of_three() {
     local round now best="0 0 0"
     for round in 1 2 3; do
@@ -137,7 +137,7 @@ best_of_three() {
     echo "$best"
 }
 
-# prints what was told under a name, and the ratios to what another one told
+# prints what was reported under a name, and the ratios to what another one reported
 print_ratios() {
     awk -v name="$1" -v now="$2" -v one="$3" 'BEGIN {
         split(now, told, " ")
@@ -146,7 +146,7 @@ print_ratios() {
             name, told[1], told[1] / base[1], told[3], told[3] / base[3], told[2] }'
 }
 
-# what so many sessions tell, with the ratios to one session's, which is left in `one`
+# what so many sessions report, with the ratios to one session's, which is left in `one`
 compare_rates() {
     local name=$1 kind=$2 rounds=$3 count now
     shift 3
