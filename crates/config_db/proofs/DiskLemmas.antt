@@ -51,10 +51,11 @@ goes_on j j' failed stays counts cause = record {
   tells_b = stays.tells_b;
   faults_a = cause.later_a;
   faults_b = cause.later_b;
+  limit_is = stays.limit_is;
 }
 
 pub goes_nowhere : (j : JournalView) → GoesOn j j
-goes_nowhere j = record { calls = at_most_same _; tells_a = refl; tells_b = refl; faults_a = omega arith; faults_b = omega arith }
+goes_nowhere j = record { calls = at_most_same _; tells_a = refl; tells_b = refl; faults_a = omega arith; faults_b = omega arith; limit_is = refl }
 
 pub goes_further : (i j k : JournalView) → GoesOn i j → GoesOn j k → GoesOn i k
 goes_further i j k first then_on = record {
@@ -63,6 +64,7 @@ goes_further i j k first then_on = record {
   tells_b = then_on.tells_b ∙ first.tells_b;
   faults_a = omega (arith, first.faults_a, then_on.faults_a);
   faults_b = omega (arith, first.faults_b, then_on.faults_b);
+  limit_is = then_on.limit_is ∙ first.limit_is;
 }
 
 rose_more : (a b c : ℕ) → Rose a b → b ≤ c → Rose a c

@@ -50,7 +50,6 @@ module _ (j j' : JournalView) (failed : Type 0)
     crash = λ rs r is held t. safe.crash rs r t (held.1 t) is;
     choice = safe.choice;
     other_is = safe.other_is;
-    limit_is = stays.limit_is;
     gate_is = λ done. appended.gate_is;
   }
 
@@ -63,7 +62,6 @@ module _ (j j' : JournalView) (failed : Type 0)
     crash = λ rs r is held t. safe.crash rs r t (held.1 t) is;
     choice = safe.choice;
     other_is = safe.other_is;
-    limit_is = stays.limit_is;
     gate_is = λ done. absurd (cc);
   }
 
@@ -124,7 +122,7 @@ module _ (kept : Kept) (entry : Entry) (next : IsNext kept entry) (j : JournalVi
     called = λ t. called_left j j' (SpellsEither stands.records (stands.records ++ entry_record entry ∷ [])) t append.counts (append.crash stands.records (entry_record entry) refl stands.holds t);
     crash = λ t. weaker_pair (a_of j) (b_of j) (a_of j') (b_of j') (SpellsEither stands.records (stands.records ++ entry_record entry ∷ [])) (λ c d. SpellsWith c d kept (Some entry))
         (λ c d. spells_either kept stands.records stands.are entry next c d) (append.crash stands.records (entry_record entry) refl stands.holds t);
-    trims = λ done fits. omega (arith, append.gate_is done, append.limit_is, room);
+    trims = λ done fits. omega (arith, append.gate_is done, append.goes.limit_is, room);
     stays = λ fits. (append.choice, append.other_is);
   }
 
@@ -175,7 +173,7 @@ module _ (kept : Kept) (entry : Entry) (next : IsNext kept entry) (j : JournalVi
             (λ c d. ⊎_elim (λ either. inl (spells_anew kept stands.records image stands.are anew c d either)) (λ either. spells_either kept image anew entry next c d either))
             (both_after j i j' (SpellsEither stands.records image) (SpellsEither image (image ++ entry_record entry ∷ [])) rotated.choice rotated.other_is append.choice append.other_is
             (safe.crash stands.records t (stands.holds.1 t)) (append.crash image (entry_record entry) refl held (tell_on j i goes t)));
-        trims = λ done fits. omega (arith, append.gate_is done, append.limit_is, stays.limit_is, rotated.gate_is, fits, ap (λ (l : List Record). length (bodies l)) is);
+        trims = λ done fits. omega (arith, append.gate_is done, append.goes.limit_is, stays.limit_is, rotated.gate_is, fits, ap (λ (l : List Record). length (bodies l)) is);
         stays = λ fits. absurd (omega (arith, fits, needs));
       }
 

@@ -13,10 +13,11 @@ Holds j rs (Some r) = IsInFlight j.flight × (Tell j → Awaits j rs r)
 abbrev pub HoldsImage : JournalView → List Record → List Record → Type 0
 HoldsImage j rs image = IsImageInFlight j.flight × (Tell j → AwaitsImage j rs image)
 
--- calls of a journal: no number and no count of faults falls, and each disk tells what it holds where it did
+-- calls of a journal: no number and no count of faults falls, each disk tells what it holds where it did, and the limit stays
 pub record GoesOn (j j' : JournalView) : Type 0 where
   pub calls : AreAtMost (calls_of j) (calls_of j')
   pub tells_a : (disk_a j').tells ≡ (disk_a j).tells
   pub tells_b : (disk_b j').tells ≡ (disk_b j).tells
   pub faults_a : (disk_a j).faults ≤ (disk_a j').faults
   pub faults_b : (disk_b j).faults ≤ (disk_b j').faults
+  pub limit_is : j'.limit ≡ j.limit

@@ -80,7 +80,6 @@ pub record IsAppend (body : List Record) (outcome : Outcome)
   -- the same file counts, after the record where that is done, and the other one isn't called
   pub choice : j'.b_counts ≡ j.b_counts
   pub other_is : j'.other ≡ j.other
-  pub limit_is : j'.limit ≡ j.limit
   pub gate_is : outcome ≡ Done → j'.gate ≡ j.gate + length (bodies body)
 
 -- the used part of the file keeps to the limit, wherever a checkpoint of what was kept and the record of the entry fit in it together
