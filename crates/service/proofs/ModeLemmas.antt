@@ -86,14 +86,19 @@ runs_is_not_1 Untouched Serve asked old new before after told spelled ran is = r
 pub place_of : (words : List (List ℕ)) (asked : Asked) → Asks words asked → asked.mode ≡ Gen → IsSpelling (Number 1 3000) asked.place
 place_of words asked asks is = subst (λ (l : List ℕ). IsSpelling (Number 1 3000) l) (sym asks.meant.place) (asks.meant.number (asks.meant.mode ∙ ap name_of is))
 
+-- the number that the place of mode gen says
+pub number_asked : (words : List (List ℕ)) (asked : Asked) → Asks words asked → asked.mode ≡ Gen
+    → (number : ℕ) × IsNumberWithin 1 3000 asked.place number
+number_asked words asked asks gen = let spelled = asks.meant.number (asks.meant.mode ∙ ap name_of gen) in
+    (spelled.value, subst (λ (l : List ℕ). IsNumberWithin 1 3000 l spelled.value) (sym asks.meant.place) spelled.spells)
+
 pub mode_is_not_1 : {E T D : Type 0} (see : Views E T D) (SinkAlone : E → E → Type 0) (words : List (List ℕ)) (asked : Asked)
     (before after : World E T D) (told : Told) → Asks words asked → RunsMode see SinkAlone asked before after told
     → told.status ≡ 1 → ⊥
 mode_is_not_1 see SinkAlone words asked before after told asks runs is =
     runs_is_not_1 (runs.new ≡ runs.old) asked.mode asked (see.end runs.old).sink (see.end runs.new).sink
     (see.disks before.a before.b) (see.disks after.a after.b) told
-    (λ gen. let spelled = asks.meant.number (asks.meant.mode ∙ ap name_of gen) in (spelled.value, subst (λ (l : List ℕ). IsNumberWithin 1 3000 l spelled.value) (sym asks.meant.place) spelled.spells))
-    runs.ran is
+    (number_asked words asked asks) runs.ran is
 
 -- the only one of a list
 pub the_one : {X : Type 0} (xs : List X) (x : X) → length xs ≡ 1 → x ≡ get_or xs 0 x → xs ≡ x ∷ []

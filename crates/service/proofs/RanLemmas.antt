@@ -1,5 +1,6 @@
 -- What a run comes to, of whatever its words ask.
-use Rattle.std.proofs.Common.{◌≡◌, ◌⊎◌, inl, inr, ℕ, List, Option, None, Some, refl, sym, subst, arith}
+use Rattle.std.proofs.Common.{◌≡◌, ◌≢◌, ◌⊎◌, inl, inr, ℕ, List, Option, None, Some, refl, sym, subst, arith, slice_get}
+use Rattle.cfg_base.specs.Counts.{Rose}
 use Rattle.command_line.specs.Asked.{Asks}
 use Rattle.command_line.specs.declared.asked.Asked.{Asked}
 use Rattle.command_line.specs.declared.asked.RunMode.{RunMode}
@@ -8,11 +9,13 @@ use Rattle.commit_ledger.specs.Kept.{Kept}
 use Rattle.stored_ledger.specs.declared.why.StartWhy.{StartWhy}
 use Rattle.stored_ledger.specs.Starting.{Explains, IsByBytes}
 use Rattle.stored_ledger.specs.Stored.{SpellsKept}
+use Rattle.service.specs.Modes.{RunsMode}
 use Rattle.service.specs.Run.{WordsAsk, EachEnd, IsAsking, IsFaultless, IsUndone, NothingWasDone}
 use Rattle.service.specs.Running.{IsRunOf, Ran, RanIn, IsServeRun}
-use Rattle.service.specs.Serving.{HaveNoFault}
+use Rattle.service.specs.Serving.{HasDisksFor, HaveNoFault}
 use Rattle.service.specs.World.{Told, Views, World}
-use Rattle.service.proofs.ModeLemmas.{mode_is_not_1}
+use Rattle.service.proofs.ModeLemmas.{mode_is_not_1, number_asked}
+use Rattle.service.proofs.QuietLemmas.{runs_quietly}
 use Rattle.service.proofs.ServingLemmas.{serves_complete, serves_is_not_1}
 
 module _ {E T D : Type 0} (see : Views E T D) (SinkAlone : E → E → Type 0) (before after : World E T D) (told : Told) where
@@ -70,6 +73,32 @@ module _ {E T D : Type 0} (see : Views E T D) (SinkAlone : E → E → Type 0) (
       serves_complete see asked before after told spelled_once
       (subst (λ (m : RunMode). RanIn see SinkAlone m asked before after told) is ran) sound each
 
+  -- what ran in a mode that serves no session
+  ran_alone : (asked : Asked) (mode : RunMode) → mode ≢ Serve → RanIn see SinkAlone mode asked before after told
+      → RunsMode see SinkAlone asked before after told
+  ran_alone asked Init other ran = ran
+  ran_alone asked Check other ran = ran
+  ran_alone asked Gen other ran = ran
+  ran_alone asked Serve other ran = absurd (other refl)
+
+  -- and so do the other modes, over disks such as they need
+  pub ran_complete_mode : ((a b : List ℕ) (kept : Kept) (why : StartWhy) → SpellsKept a b kept → IsByBytes why → Explains a b why → ⊥)
+      → (words : List (List ℕ)) (asked : Asked) → Asks words asked → asked.mode ≢ Serve → Ran see SinkAlone (Some asked) before after told
+      → HasDisksFor asked.mode (see.disks before.a before.b) (see.disks after.a after.b)
+      → EachEnd (λ old new. Rose (see.end old).sink.faults (see.end new).sink.faults → ⊥) before.ends after.ends
+      → (told.status ≡ 0) ⊎ (told.status ≡ 9)
+  ran_complete_mode spelled_once words asked asks other (inl undone) disks each = inr undone.0
+  ran_complete_mode spelled_once words asked asks other (inr ran) disks each =
+      runs_quietly spelled_once (runs.new ≡ runs.old) asked (see.end runs.old).sink (see.end runs.new).sink (see.disks before.a before.b)
+      (see.disks after.a after.b) told calm asked.mode (number_asked words asked asks) disks runs.ran
+    where
+      runs : RunsMode see SinkAlone asked before after told
+      runs = ran_alone asked asked.mode other ran
+
+      calm : Rose (see.end runs.old).sink.faults (see.end runs.new).sink.faults → ⊥
+      calm = each 0 runs.old runs.new (subst (λ (l : List E). slice_get l 0 ≡ Some runs.old) (sym runs.one) refl)
+          (subst (λ (l : List E). slice_get l 0 ≡ Some runs.new) (sym runs.one_now) refl)
+
   -- so a run of words that ask something is one
   pub run_of : ((words : List (List ℕ)) (one other : Asked) → Asks words one → Asks words other → one ≡ other)
       → ((a b : List ℕ) (kept : Kept) (why : StartWhy) → SpellsKept a b kept → IsByBytes why → Explains a b why → ⊥)
@@ -82,6 +111,7 @@ module _ {E T D : Type 0} (see : Views E T D) (SinkAlone : E → E → Type 0) (
       λ both. absurd (both.1 (asked, asks)),
     );
     complete = λ other also serve sound each. ran_complete spelled_once other serve (for (Some other) also) sound each;
+    complete_mode = λ other also alone disks each. ran_complete_mode spelled_once words other also alone (for (Some other) also) disks each;
   }
     where
       for : (other : Option Asked) → WordsAsk words other → Ran see SinkAlone other before after told
@@ -94,6 +124,7 @@ module _ {E T D : Type 0} (see : Views E T D) (SinkAlone : E → E → Type 0) (
     ran = ran_refused words nothing is untouched;
     usage = (λ one. ((λ nine. omega (arith, is, nine)), nothing), λ both. is);
     complete = λ asked asks serve sound each. absurd (nothing (asked, asks));
+    complete_mode = λ asked asks other disks each. absurd (nothing (asked, asks));
   }
 
   -- and one for whose words memory ran out
@@ -103,4 +134,5 @@ module _ {E T D : Type 0} (see : Views E T D) (SinkAlone : E → E → Type 0) (
     ran = ran_without words is untouched;
     usage = (λ one. absurd (omega (arith, is, one)), λ both. absurd (both.0 is));
     complete = λ asked asks serve sound each. inr is;
+    complete_mode = λ asked asks other disks each. inr is;
   }

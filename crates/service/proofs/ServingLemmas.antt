@@ -83,7 +83,7 @@ end_is_not_1 true hows is = omega (arith, is)
 end_is_not_1 false hows is = status_is_not_1 hows is
 
 -- a start over disks that spell a list, and that don't fail, is refused only for want of memory
-refused_for_memory : (spelled_once : (a b : List ℕ) (kept : Kept) (why : StartWhy) → SpellsKept a b kept → IsByBytes why → Explains a b why → ⊥)
+pub refused_for_memory : (spelled_once : (a b : List ℕ) (kept : Kept) (why : StartWhy) → SpellsKept a b kept → IsByBytes why → Explains a b why → ⊥)
     (before after : DiskPair) (why : StartWhy) → IsNotFound before why after → HaveNoFault before after
     → (start_status why ≡ 0) ⊎ (start_status why ≡ 9)
 refused_for_memory spelled_once before after Exists not sound = absurd (not.not_there refl)

@@ -1,12 +1,13 @@
 -- What a run comes to, by what its words ask. This project's own.
 use Rattle.std.specs.Prelude.{◌≡◌, ◌≢◌, ◌⊎◌, ◌↔◌, ℕ, List, Option, None, Some}
+use Rattle.cfg_base.specs.Counts.{Rose}
 use Rattle.command_line.specs.Asked.{Asks}
 use Rattle.command_line.specs.declared.asked.Asked.{Asked}
 use Rattle.command_line.specs.declared.asked.RunMode.{RunMode}
 use Rattle.command_line.specs.declared.asked.RunMode.TheVariants.{Init, Serve, Check, Gen}
 use Rattle.service.specs.Modes.{RunsMode}
 use Rattle.service.specs.Run.{WordsAsk, EachEnd, IsAsking, IsFaultless, IsUsageRefused, IsUndone}
-use Rattle.service.specs.Serving.{HaveNoFault, IsNotStarted, IsServed}
+use Rattle.service.specs.Serving.{HasDisksFor, HaveNoFault, IsNotStarted, IsServed}
 use Rattle.service.specs.World.{Told, Views, World}
 
 -- mode serve: the start was refused, or the sessions were served
@@ -37,4 +38,9 @@ pub record IsRunOf {E T D : Type 0} (see : Views E T D) (SinkAlone : E → E →
   pub complete : (asked : Asked) → Asks words asked → asked.mode ≡ Serve
       → HaveNoFault (see.disks before.a before.b) (see.disks after.a after.b)
       → EachEnd (λ old new. IsFaultless asked.limits.input (see.end old) (see.end new)) before.ends after.ends
+      → (told.status ≡ 0) ⊎ (told.status ≡ 9)
+  -- in each other mode, where the disks are such as it needs, and no disk and no sink has a fault, what was asked is done
+  pub complete_mode : (asked : Asked) → Asks words asked → asked.mode ≢ Serve
+      → HasDisksFor asked.mode (see.disks before.a before.b) (see.disks after.a after.b)
+      → EachEnd (λ old new. Rose (see.end old).sink.faults (see.end new).sink.faults → ⊥) before.ends after.ends
       → (told.status ≡ 0) ⊎ (told.status ≡ 9)

@@ -1,9 +1,12 @@
--- A run of mode serve: the start over two disks, the sessions, what happened, and what the disks hold at the end. This
--- project's own.
+-- A run of mode serve: the start over two disks, the sessions, what happened, and what the disks hold at the end; and what
+-- disks each mode needs. This project's own.
 use Rattle.std.specs.Prelude.{◌≡◌, ◌≤◌, ◌+◌, ◌⊎◌, ℕ, Bool, true, false, List, [], ◌∷◌, ◌++◌, length, map, slice_get}
 use Rattle.std.specs.Prelude.{Some, IsSome, is_some, count_by}
 use Rattle.std.specs.List.{AllByRecursion}
 use Rattle.command_line.specs.declared.asked.Asked.{Asked}
+use Rattle.command_line.specs.declared.asked.RunMode.{RunMode}
+use Rattle.command_line.specs.declared.asked.RunMode.TheVariants.{Init, Serve, Check, Gen}
+use Rattle.commit_journal.specs.Attach.{IsThere}
 use Rattle.commit_ledger.specs.Kept.{Kept}
 use Rattle.config_core.specs.declared.event.Outcome.TheVariants.{Fault}
 use Rattle.config_core.specs.State.{State, opening_of}
@@ -141,3 +144,16 @@ pub record HaveNoFault (before after : DiskPair) : Type 0 where
   pub kept : Kept
   pub spelled : SpellsKept (contents_of before.a.history) (contents_of before.b.history) kept
   pub no_fault : FaultOnEither before after → ⊥
+
+-- both disks tell what they hold, no journal is there, and neither's count of faults rose
+pub record HaveNoJournal (before after : DiskPair) : Type 0 where
+  pub tell : BothTell before
+  pub none_there : IsThere (contents_of before.a.history) (contents_of before.b.history) → ⊥
+  pub no_fault : FaultOnEither before after → ⊥
+
+-- the disks are such as this mode needs, and neither's count of faults rose; mode gen calls none
+abbrev pub HasDisksFor : RunMode → DiskPair → DiskPair → Type 0
+HasDisksFor Init before after = HaveNoJournal before after
+HasDisksFor Serve before after = HaveNoFault before after
+HasDisksFor Check before after = HaveNoFault before after
+HasDisksFor Gen before after = Unit {0}
