@@ -1,6 +1,6 @@
 #!/usr/bin/env bash
-# Refuses one allocation of the built program at a time: of two private sessions that commit side by side, of 83 commits, and of an
-# inherited show under a wildcard group. After each refusal the status must be 0 or 9, each line answered as it is with ample memory, by
+# Refuses one allocation of the built program at a time: of two private sessions that commit side by side, of an inherited show under a
+# wildcard group, and of 83 commits, of which the last makes the journal's files rotate. After each refusal the status must be 0 or 9, each line answered as it is with ample memory, by
 # `error: out of memory`, or by an error that follows from a line that was answered so, and the list must be that of the commits that were
 # answered, which a next run finds and goes on from. It prints how many allocations were refused. STEP tries each STEPth one alone.
 # Builds nothing but bench/refuse.c: the program is the one that ./demo leaves.
@@ -45,7 +45,7 @@ OUT = "error: out of memory"
 # `apply-groups` breaks the first rule, and without `exit` a show of what is active is read in configuration mode
 FOLLOWS = re.compile(r"error: (syntax error at byte \d+|check C1 failed: apply-groups|unknown statement: configuration)")
 
-def served(inputs, refuse):
+def served(inputs, refuse, options):
     """A run of these sessions over a new list: its status, and what each session wrote."""
     place = folder + "/journal"
     shutil.rmtree(place, ignore_errors=True)
@@ -58,22 +58,24 @@ def served(inputs, refuse):
         if os.path.exists(path + ".out"):
             os.remove(path + ".out")
         words.append(f"{name}:{path}")
-    status, told, why = run("serve", place, *words, refuse=refuse)
+    status, told, why = run(*options, "serve", place, *words, refuse=refuse)
     outs = {}
     for name in inputs:
         path = f"{folder}/{name}.out"
         outs[name] = open(path).read().split("\n")[:-1] if os.path.exists(path) else []
     return place, status, outs, why
 
-def each(title, inputs):
-    place, status, wanted, why = served(inputs, None)
+def each(title, inputs, *options):
+    place, status, wanted, why = served(inputs, None, options)
     must(status == 0, f"{title}: {status} {why}")
+    with open(f"{place}/journal.b", "rb") as it:
+        must(it.read(17)[16] == (1 if options else 0), f"{title}: the files' gates")
     refused = kept = 0
     number = 1
     while True:
         if os.path.exists(mark):
             os.remove(mark)
-        place, status, outs, why = served(inputs, number)
+        place, status, outs, why = served(inputs, number, options)
         if not os.path.exists(mark):
             break
         what = f"{title}, allocation {number}"
@@ -104,5 +106,6 @@ each("an inherited show", {"al": [
     "configure", "set groups J interfaces <ge-*> mtu 9000", "set apply-groups J", "set interfaces ge-0/0/0 description a",
     "set interfaces xe-0/0/0 description b", "show interfaces | display inheritance", "commit", "exit",
     "show configuration interfaces | display inheritance"]})
-each("83 commits", {"al": ["configure", "set system host-name r1"] + ["commit"] * 83})
+# the last of them writes the list anew to the other file, whose gate then is open
+each("83 commits", {"admin": ["configure", "set system host-name r1"] + ["commit"] * 83}, "--journal-limit", "8192")
 END
