@@ -54,7 +54,8 @@ pub record IsSpare (number : ℕ) (h : History) : Type 0 where
   pub stale : file_gate (contents_of h) ≡ 1 → generation (contents_of h) ≢ (number + 1) % 2 ^ 64
 
 -- the journal has these records, and of an image in the other file it isn't known whether it is the list
-pub record WaitsReplaced (b : Bool) (counting other : History) (gate : ℕ) (rs : List Record) (number : ℕ) (image : List Record) (next : ℕ) : Type 0 where
+pub record WaitsReplaced (b : Bool) (counting other : History) (gate : ℕ) (rs : List Record)
+    (number : ℕ) (image : List Record) (next : ℕ) : Type 0 where
   pub settled : IsSettled counting rs gate
   pub number_is : generation (contents_of counting) ≡ number
   pub small : number < 2 ^ 64

@@ -12,8 +12,8 @@ use Rattle.commit_ledger.specs.Kept.{Kept, Unconfirmed, commits_of}
 use Rattle.commit_ledger.specs.Payload.{HasShortText, entry_record}
 use Rattle.commit_ledger.specs.Rules.{IsCommit}
 
--- what a checkpoint's first record states: how many entries the list has, the number of the commit that an unconfirmed run goes back to, 0 where
--- none is unconfirmed, and how many commits follow it
+-- what a checkpoint's first record states: how many entries the list has, the number of the commit that an unconfirmed run goes
+-- back to, 0 where none is unconfirmed, and how many commits follow it
 pub record KeepForm : Type 0 where
   pub count : ℕ
   pub target : ℕ

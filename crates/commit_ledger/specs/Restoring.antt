@@ -48,8 +48,8 @@ pub record IsBadCommit (accepted : Statements → Type 0) (ps : List Placed) (of
   pub broken : (c : Commit) → IsRecordOf accepted (record_of bad) (CommitOf c) → ⊥
   pub place : offset ≡ bad.offset
 
--- the record of a checkpoint at that offset is the first that breaks a rule. First its own fields and the kinds of what follows it are asked,
--- then each of its commits, and last what the rules say of them together, which is the first record's again
+-- the record of a checkpoint at that offset is the first that breaks a rule. First its own fields and the kinds of what follows
+-- it are asked, then each of its commits, and last what the rules say of them together, which is the first record's again
 abbrev pub IsBadCheckpoint : (Statements → Type 0) → Placed → List Placed → ℕ → Type 0
 IsBadCheckpoint accepted p behind offset =
     ((offset ≡ p.offset) × ((f : KeepForm) → p.payload ≡ keep_bytes f → IsKeep f behind → ⊥))

@@ -18,7 +18,8 @@ deadline_line (Some run) = number_line (codes "deadline ") run.deadline
 abbrev pub check_text : Kept → List ℕ
 check_text kept = number_line (codes "entries ") kept.count ++ (number_line (codes "commits ") (kept_commits kept) ++ deadline_line kept.pending)
 
--- what is said of a configuration that was made: its statements, the paths of its expansion, the bytes of its text, and how many commits are kept
+-- what is said of a configuration that was made: its statements, the paths of its expansion, the bytes of its text, and how
+-- many commits are kept
 abbrev pub gen_text : ℕ → ℕ → ℕ → ℕ → List ℕ
 gen_text statements expanded bytes commits =
     number_line (codes "statements ") statements ++ (number_line (codes "expanded ") expanded

@@ -30,7 +30,7 @@ Ran see SinkAlone (Some asked) before after told =
 -- what a run of these words comes to
 pub record IsRunOf {E T D : Type 0} (see : Views E T D) (SinkAlone : E → E → Type 0) (words : List (List ℕ))
     (before after : World E T D) (told : Told) : Type 0 where
-  -- what the words ask, and what it came to; `AsksFor words None` says that they ask nothing
+  -- what the words ask, and what it came to; `WordsAsk words None` says that they ask nothing
   pub ran : (asked : Option Asked) → WordsAsk words asked → Ran see SinkAlone asked before after told
   pub usage : (told.status ≡ 1) ↔ ((told.status ≢ 9) × (IsAsking words → ⊥))
   -- where the disks spell a list, no disk, no source and no sink has a fault, and each input is told and within the limit, all
