@@ -96,9 +96,9 @@ impl Model for Front {
     ghost use Rattle.std.specs.Prelude.{◌≡◌, length};
     ghost use Rattle.std.specs.Coded.{codes};
     ghost use Rattle.cfg_tree.specs.Statements.{statements_code};
-    ghost use Rattle.active_snapshot.specs.States.{Beginning};
+    ghost use Rattle.active_snapshot.specs.States.{FrontView};
 
-    ghost Value = { Beginning };
+    ghost Value = { FrontView };
 
     ghost coded = { Prim.hlevel (codes, statements_code) };
 

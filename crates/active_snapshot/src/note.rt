@@ -18,10 +18,10 @@ impl<J: Naming> Model for SnapNote<J> {
     ghost use Rattle.std.specs.Prelude.{◌≡◌};
     ghost use Rattle.std.specs.Coded.{codes};
     ghost use Rattle.cfg_tree.specs.Statements.{statements_code};
-    ghost use Rattle.active_snapshot.specs.States.{NoteState};
+    ghost use Rattle.active_snapshot.specs.States.{NoteView};
     ghost use Rattle.active_snapshot.specs.Views.{AreViews};
 
-    ghost Value = { NoteState };
+    ghost Value = { NoteView };
 
     ghost coded = { Prim.hlevel (codes, statements_code) };
 

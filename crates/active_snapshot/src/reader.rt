@@ -63,9 +63,9 @@ impl<J: Naming> Model for SnapReader<J> {
     ghost use Rattle.std.specs.Prelude.{◌≡◌};
     ghost use Rattle.std.specs.Coded.{codes};
     ghost use Rattle.cfg_tree.specs.Statements.{statements_code};
-    ghost use Rattle.active_snapshot.specs.States.{ReaderState};
+    ghost use Rattle.active_snapshot.specs.States.{ReaderView};
 
-    ghost Value = { ReaderState };
+    ghost Value = { ReaderView };
 
     ghost coded = { Prim.hlevel (codes, statements_code) };
 
@@ -233,9 +233,9 @@ impl<J: Naming> Model for SnapReaders<J> {
     ghost use Rattle.std.specs.Prelude.{List};
     ghost use Rattle.std.specs.Coded.{codes};
     ghost use Rattle.cfg_tree.specs.Statements.{statements_code};
-    ghost use Rattle.active_snapshot.specs.States.{ReaderState};
+    ghost use Rattle.active_snapshot.specs.States.{ReaderView};
 
-    ghost Value = { List ReaderState };
+    ghost Value = { List ReaderView };
 
     ghost coded = { Prim.hlevel (codes, statements_code) };
 

@@ -24,10 +24,10 @@ impl Model for Slot {
     ghost use Rattle.std.specs.Arc.{arc_value};
     ghost use Rattle.std.specs.Coded.{codes};
     ghost use Rattle.cfg_tree.specs.Statements.{statements_code};
-    ghost use Rattle.active_snapshot.specs.States.{Beginning};
+    ghost use Rattle.active_snapshot.specs.States.{FrontView};
     ghost use Rattle.active_snapshot.specs.Views.{AreViews, IsLast};
 
-    ghost Value = { Beginning };
+    ghost Value = { FrontView };
 
     ghost coded = { Prim.hlevel (codes, statements_code) };
 

@@ -35,10 +35,10 @@ impl<J: Naming> Model for SnapWriter<J> {
     ghost use Rattle.std.specs.Option.{option_map};
     ghost use Rattle.std.specs.Coded.{codes};
     ghost use Rattle.cfg_tree.specs.Statements.{statements_code};
-    ghost use Rattle.active_snapshot.specs.States.{WriterState};
+    ghost use Rattle.active_snapshot.specs.States.{WriterView};
     ghost use Rattle.active_snapshot.specs.Views.{AreFirst, ComesNext};
 
-    ghost Value = { WriterState };
+    ghost Value = { WriterView };
 
     ghost coded = { Prim.hlevel (codes, statements_code) };
 

@@ -5,9 +5,9 @@ use Rattle.commit_ledger.specs.declared.entry.Entry.{Entry}
 use Rattle.commit_ledger.specs.Kept.{Kept, target_for}
 
 -- the entry, and the commit that its run goes back to where it begins one or goes on with it
-pub record ReadyEntry : Type 0 where
+pub record ReadyView : Type 0 where
   pub entry : Entry
   pub target : Option Commit
 
-abbrev pub ready_for : Kept → Entry → ReadyEntry
+abbrev pub ready_for : Kept → Entry → ReadyView
 ready_for kept entry = record { entry = entry; target = target_for kept entry }

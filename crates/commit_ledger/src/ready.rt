@@ -27,9 +27,9 @@ pub struct Ready {
 impl Model for Ready {
     ghost use Rattle.std.specs.Coded.{codes};
     ghost use Rattle.cfg_tree.specs.Statements.{statements_code};
-    ghost use Rattle.commit_ledger.specs.Ready.{ReadyEntry};
+    ghost use Rattle.commit_ledger.specs.Ready.{ReadyView};
 
-    ghost Value = { ReadyEntry };
+    ghost Value = { ReadyView };
 
     ghost coded = { Prim.hlevel (codes, statements_code) };
 

@@ -9,7 +9,7 @@ use Rattle.commit_ledger.specs.declared.limit.TheConstants.{MAX_ENTRIES}
 use Rattle.config_core.specs.declared.reply.Refusal.TheVariants.{Exhausted}
 use Rattle.config_core.specs.declared.reply.Reply.TheVariants.{Committed}
 use Rattle.config_core.specs.Entries.{commit_of, made_by, taken}
-use Rattle.config_core.specs.Plan.{Plan, Expands, ExpandsMade, made_in}
+use Rattle.config_core.specs.Plan.{PreparedView, Expands, ExpandsMade, made_in}
 use Rattle.config_core.specs.Prepared.{turned_by}
 use Rattle.config_core.specs.Serving.{Turned, committed, left_if, refused}
 use Rattle.config_core.specs.State.{State, Made}
@@ -20,7 +20,7 @@ expands_either true full first second one is given nothing = subst (λ o. IfSome
 expands_either false full first second one is given nothing = subst (λ o. IfSome o (λ made. Expands full made.entry)) (sym is) nothing
 
 -- the expansion of what is committed comes with the commit
-pub expands_committed : (s t : State) (caller : ℕ) (m : Statements) (minutes : ℕ) (comment : List ℕ) (quit : Bool) (plan : Plan) (full : Expansion)
+pub expands_committed : (s t : State) (caller : ℕ) (m : Statements) (minutes : ℕ) (comment : List ℕ) (quit : Bool) (plan : PreparedView) (full : Expansion)
     → turned_by plan s ≡ committed t caller m minutes comment quit → IsExpansion m full × IsWithin full → ExpandsMade plan.effect full
 expands_committed s t caller m minutes comment quit plan full is given =
     let made = made_by caller (CommitOf (commit_of t caller m minutes comment)) in

@@ -10,7 +10,7 @@ use Rattle.config_core.specs.declared.reply.Reply.{Reply}
 use Rattle.config_core.specs.declared.effect.Effect.{Effect}
 use Rattle.config_core.specs.declared.effect.Effect.TheVariants.{Stay, Leave, Enter, Move, Edit, Settle, Append}
 use Rattle.config_core.specs.State.{State, Made}
-use Rattle.config_core.specs.Plan.{Plan, made_of, made_in}
+use Rattle.config_core.specs.Plan.{PreparedView, made_of, made_in}
 use Rattle.config_core.specs.Serving.{Turned, refused, Serves}
 use Rattle.config_core.specs.Machine.{InFlight, Missed, Free, waiting_for, waiting_of, is_logout, FitsIn, StepsFrom, Ends, Steps, later, reverted}
 use Rattle.config_core.specs.Prepared.{effected, replied, ended, turned_by, put_off, fresh_for, Follows, Prepares, IsPrepared, CanEnd}
@@ -50,7 +50,7 @@ free_here (Some made) missed command none fits = absurd (cc)
 free_here None true command none fits = absurd fits
 free_here None false command none fits = refl
 
-pub free_prepared : (s : State) (caller moment : ℕ) (command : Command) (plan : Plan) → s.flight ≡ None
+pub free_prepared : (s : State) (caller moment : ℕ) (command : Command) (plan : PreparedView) → s.flight ≡ None
     → FitsIn (waiting_of s moment) (CommandOf command) → Prepares s moment (Serves (later s moment) caller command) plan
     → IsPrepared s caller moment (CommandOf command) plan
 free_prepared s caller moment command plan none fits prep = record { follows = prep.follows; steps = steps }
@@ -94,7 +94,7 @@ missed_here (Some made) missed fits = absurd fits
 missed_here None true fits = refl
 missed_here None false fits = absurd fits
 
-pub missed_prepared : (s : State) (caller moment : ℕ) (plan : Plan) → FitsIn (waiting_of s moment) Revert
+pub missed_prepared : (s : State) (caller moment : ℕ) (plan : PreparedView) → FitsIn (waiting_of s moment) Revert
     → Prepares s moment (λ turned. turned ≡ reverted (later s moment)) plan → IsPrepared s caller moment Revert plan
 missed_prepared s caller moment plan fits prep = record {
   follows = prep.follows;
@@ -113,7 +113,7 @@ missed_pending None None moment fits = absurd fits
 missed_pending None (Some run) moment fits = refl
 
 -- a command is put off while an entry is in flight
-abbrev IsPutOff : State → ℕ → ℕ → Bool → Plan → Type 0
+abbrev IsPutOff : State → ℕ → ℕ → Bool → PreparedView → Type 0
 IsPutOff s caller moment logout plan =
     Follows plan s × (ended plan Fault s ≡ refused (if logout then without_mode (later s moment) caller else later s moment) DiskFault)
 
@@ -123,7 +123,7 @@ left_so : (s : State) (caller moment : ℕ) (logout : Bool) → IsCaller s calle
 left_so s caller moment true is_caller = ((is_caller, refl), refl)
 left_so s caller moment false is_caller = (tt, refl)
 
-pub put_off_prepared : (s : State) (caller moment : ℕ) (command : Command) (made : Made) (plan : Plan) → s.flight ≡ Some made → IsCaller s caller
+pub put_off_prepared : (s : State) (caller moment : ℕ) (command : Command) (made : Made) (plan : PreparedView) → s.flight ≡ Some made → IsCaller s caller
     → plan ≡ put_off s caller moment command → IsPrepared s caller moment (CommandOf command) plan
 put_off_prepared s caller moment command made plan flying is_caller is =
     subst (IsPrepared s caller moment (CommandOf command)) (sym is) record {

@@ -19,7 +19,7 @@ use Rattle.config_core.specs.declared.reply.Reply.{Reply}
 use Rattle.config_core.specs.declared.reply.Refusal.{Refusal}
 use Rattle.config_core.specs.declared.reply.Refusal.TheVariants.{Check}
 use Rattle.config_core.specs.declared.reply.Reply.TheVariants.{Done, Loaded}
-use Rattle.config_core.specs.Plan.{Plan}
+use Rattle.config_core.specs.Plan.{PreparedView}
 use Rattle.config_core.specs.State.{State, fresh_of}
 use Rattle.config_core.specs.Callers.{candidate_of, level_of}
 use Rattle.config_core.specs.Serving.{Turned, refused, Unless, Does, Serves, Shows, Replaces, Updates, IsOwnMerge, IsNotMerged, Checks, ChecksWhole}
@@ -28,11 +28,11 @@ use Rattle.config_core.specs.Access.{bar_to}
 use Rattle.config_core.specs.Prepared.{Prepares, turned_by}
 
 -- a plan of an edit of the caller's candidate
-abbrev edits : ℕ → ℕ → CandidateView → Reply → Plan
+abbrev edits : ℕ → ℕ → CandidateView → Reply → PreparedView
 edits caller moment next reply = record { caller = caller; moment = moment; effect = Edit next; reply = reply }
 
 -- a change of the candidate
-pub prepares_change : (s : State) (caller moment : ℕ) (op : Op) (next : CandidateView) (plan : Plan)
+pub prepares_change : (s : State) (caller moment : ℕ) (op : Op) (next : CandidateView) (plan : PreparedView)
     → IsCandidateChange (candidate_of s caller) next (level_of s caller) op → plan ≡ edits caller moment next Done
     → Prepares s moment (Does (later s moment) caller (Change op)) plan
 prepares_change s caller moment op next plan change is =
@@ -43,7 +43,7 @@ prepares_change s caller moment op next plan change is =
     }
 
 -- a map in the place of the candidate's
-pub prepares_replaced : (s : State) (caller moment : ℕ) (made : Statements) (next : CandidateView) (plan : Plan)
+pub prepares_replaced : (s : State) (caller moment : ℕ) (made : Statements) (next : CandidateView) (plan : PreparedView)
     → IsEdited (candidate_of s caller) next made → plan ≡ edits caller moment next Loaded
     → Prepares s moment (Replaces (later s moment) caller made) plan
 prepares_replaced s caller moment made next plan edited is =
@@ -54,7 +54,7 @@ prepares_replaced s caller moment made next plan edited is =
     }
 
 -- an update of the candidate
-pub prepares_updated : (s : State) (caller moment : ℕ) (merged : Statements) (next : CandidateView) (plan : Plan)
+pub prepares_updated : (s : State) (caller moment : ℕ) (merged : Statements) (next : CandidateView) (plan : PreparedView)
     → IsOwnMerge s (candidate_of s caller) merged → IsEdited (fresh_of s.kept.last) next merged → plan ≡ edits caller moment next Done
     → Prepares s moment (Updates (later s moment) caller) plan
 prepares_updated s caller moment merged next plan merge edited is =
@@ -65,13 +65,13 @@ prepares_updated s caller moment merged next plan merge edited is =
     }
 
 -- a step that is prepared is one of what it also is
-pub prepares_as : {E : Type 0} (s : State) (moment : ℕ) (One Other : Turned → Type 0) (answer : Result Plan E)
+pub prepares_as : {E : Type 0} (s : State) (moment : ℕ) (One Other : Turned → Type 0) (answer : Result PreparedView E)
     → ((turned : Turned) → One turned → Other turned) → IfOk answer (Prepares s moment One) → IfOk answer (Prepares s moment Other)
 prepares_as s moment One Other (Err none) also h = tt
 prepares_as s moment One Other (Ok plan) also h = record { at_moment = h.at_moment; follows = h.follows; steps = also (turned_by plan s) h.steps }
 
 -- a load into the candidate
-pub prepares_load : {E : Type 0} (s : State) (caller moment : ℕ) (way : LoadWay) (text : List ℕ) (made : Statements) (told : Bool) (answer : Result Plan E)
+pub prepares_load : {E : Type 0} (s : State) (caller moment : ℕ) (way : LoadWay) (text : List ℕ) (made : Statements) (told : Bool) (answer : Result PreparedView E)
     → IsLoad way (candidate_of s caller).map text made told → IfOk answer (Prepares s moment (Replaces (later s moment) caller made))
     → IfOk answer (Prepares s moment (Does (later s moment) caller (Load way text)))
 prepares_load s caller moment way text made told answer load =
@@ -128,7 +128,7 @@ by_bar None s turned A P barred done so = done so
 by_bar (Some refusal) s turned A P barred done so = barred refusal so
 
 -- a step of a command that is barred, and of one that isn't
-pub prepares_barred : (s : State) (caller moment : ℕ) (command : Command) (refusal : Refusal) (plan : Plan) → bar_to s caller command ≡ Some refusal
+pub prepares_barred : (s : State) (caller moment : ℕ) (command : Command) (refusal : Refusal) (plan : PreparedView) → bar_to s caller command ≡ Some refusal
     → Prepares s moment (λ turned. turned ≡ refused (later s moment) refusal) plan → Prepares s moment (Serves (later s moment) caller command) plan
 prepares_barred s caller moment command refusal plan bar prep = record {
   at_moment = prep.at_moment;
@@ -136,7 +136,7 @@ prepares_barred s caller moment command refusal plan bar prep = record {
   steps = subst (λ b. Unless b (later s moment) (turned_by plan s) (Does (later s moment) caller command (turned_by plan s))) (sym bar) prep.steps;
 }
 
-pub prepares_unbarred : {E : Type 0} (s : State) (caller moment : ℕ) (command : Command) (answer : Result Plan E) → bar_to s caller command ≡ None
+pub prepares_unbarred : {E : Type 0} (s : State) (caller moment : ℕ) (command : Command) (answer : Result PreparedView E) → bar_to s caller command ≡ None
     → IfOk answer (Prepares s moment (Does (later s moment) caller command)) → IfOk answer (Prepares s moment (Serves (later s moment) caller command))
 prepares_unbarred s caller moment command (Err none) bar h = tt
 prepares_unbarred s caller moment command (Ok plan) bar h = record {

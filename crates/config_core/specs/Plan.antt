@@ -10,7 +10,7 @@ use Rattle.config_core.specs.declared.reply.Reply.{Reply}
 use Rattle.config_core.specs.State.{Made}
 use Rattle.group_expand.specs.Expansion.{IsExpansion}
 
-pub record Plan : Type 0 where
+pub record PreparedView : Type 0 where
   pub caller : ℕ
   pub moment : ℕ
   pub effect : Effect

@@ -17,7 +17,7 @@ use Rattle.config_core.specs.declared.event.Outcome.TheVariants.{Done, Fault}
 use Rattle.config_core.specs.declared.reply.Refusal.TheVariants.{DiskFault}
 use Rattle.config_core.specs.declared.reply.Reply.{Reply}
 use Rattle.config_core.specs.declared.reply.Reply.TheVariants.{Refused}
-use Rattle.config_core.specs.Plan.{Plan, made_of, made_in}
+use Rattle.config_core.specs.Plan.{PreparedView, made_of, made_in}
 use Rattle.config_core.specs.State.{State, Made, fresh_of}
 use Rattle.config_core.specs.Callers.{IsCaller, holds, own_for, with_candidate, with_position, entered, without_mode}
 use Rattle.config_core.specs.Entries.{fresh_in, shared_after, own_after, taken}
@@ -41,7 +41,7 @@ effected (Append a) caller Done s = left_if a.quit caller (taken s (made_of a))
 effected (Append a) caller Fault s = record s { flight = Some (made_of a) }
 
 -- the state after the prepared step
-abbrev pub applied : Plan → Outcome → State → State
+abbrev pub applied : PreparedView → Outcome → State → State
 applied plan outcome s = effected plan.effect plan.caller outcome (later s plan.moment)
 
 -- the reply to it: an entry that isn't known to be kept is a fault of the disk
@@ -50,11 +50,11 @@ replied (Append a) reply Fault = Refused DiskFault
 replied effect reply outcome = reply
 
 -- what the prepared step leaves
-abbrev pub ended : Plan → Outcome → State → Turned
+abbrev pub ended : PreparedView → Outcome → State → Turned
 ended plan outcome s = record { state = applied plan outcome s; reply = replied plan.effect plan.reply outcome; made = made_in plan.effect }
 
 -- what it leaves where it is done
-abbrev pub turned_by : Plan → State → Turned
+abbrev pub turned_by : PreparedView → State → Turned
 turned_by plan s = record { state = applied plan Done s; reply = plan.reply; made = made_in plan.effect }
 
 -- one candidate twice: for the sessions that share theirs, and for the one that is committed
@@ -82,11 +82,11 @@ CanApply (Edit next) caller s = Unit {0}
 CanApply (Settle is_kept) caller s = Unit {0}
 CanApply (Append a) caller s = IsReady s.kept a × (a.quit ≡ true → IsCaller s caller)
 
-abbrev pub Follows : Plan → State → Type 0
+abbrev pub Follows : PreparedView → State → Type 0
 Follows plan s = CanApply plan.effect plan.caller s
 
 -- the prepared step is one of a command, where nothing comes before it
-pub record Prepares (s : State) (moment : ℕ) (Step : Turned → Type 0) (plan : Plan) : Type 0 where
+pub record Prepares (s : State) (moment : ℕ) (Step : Turned → Type 0) (plan : PreparedView) : Type 0 where
   pub at_moment : plan.moment ≡ moment
   pub follows : Follows plan s
   pub steps : Step (turned_by plan s)
@@ -101,7 +101,7 @@ CanEnd Free (CommandOf command) (Some made) Fault = Unit {0}
 CanEnd waiting event entry outcome = ⊥
 
 -- the prepared step is one of the machine, with each outcome that the event may have
-pub record IsPrepared (s : State) (caller moment : ℕ) (event : Event) (plan : Plan) : Type 0 where
+pub record IsPrepared (s : State) (caller moment : ℕ) (event : Event) (plan : PreparedView) : Type 0 where
   pub follows : Follows plan s
   pub steps : (outcome : Outcome) → CanEnd (waiting_of s moment) event (made_in plan.effect) outcome → Steps s caller moment event outcome (ended plan outcome s)
 
@@ -112,7 +112,7 @@ need_in Missed = need.Revert
 need_in Free = need.Nothing
 
 -- the plan of a command that isn't done because an entry is in flight
-abbrev pub put_off : State → ℕ → ℕ → Command → Plan
+abbrev pub put_off : State → ℕ → ℕ → Command → PreparedView
 put_off s caller moment command = record {
   caller = caller;
   moment = moment;

@@ -26,9 +26,9 @@ impl Model for Prepared {
     ghost use Rattle.std.specs.Prelude.{IfSome};
     ghost use Rattle.std.specs.Coded.{codes};
     ghost use Rattle.cfg_tree.specs.Statements.{statements_code};
-    ghost use Rattle.config_core.specs.Plan.{ExpandsMade, Plan};
+    ghost use Rattle.config_core.specs.Plan.{ExpandsMade, PreparedView};
 
-    ghost Value = { Plan };
+    ghost Value = { PreparedView };
 
     ghost coded = { Prim.hlevel (codes, statements_code) };
 

@@ -20,7 +20,7 @@ use Rattle.config_db.specs.declared.answer.Answered.{Answered}
 use Rattle.config_db.specs.declared.answer.Answered.TheVariants.{Kept, NoMemory}
 use Rattle.config_db.specs.declared.answer.Ticked.{Ticked}
 use Rattle.config_db.specs.declared.answer.Ticked.TheVariants.{Nothing, Settled, Reverted, DiskFault, NoMemory as TickedNoMemory}
-use Rattle.active_snapshot.specs.States.{WriterState, all_published}
+use Rattle.active_snapshot.specs.States.{WriterView, all_published}
 use Rattle.config_db.specs.View.{DatabaseView}
 use Rattle.config_db.specs.Numbers.{calls_of}
 use Rattle.config_db.specs.Disks.{GoesOn}
@@ -34,7 +34,7 @@ use Rattle.config_db.proofs.ShownLemmas.{shown_since}
 use Rattle.config_db.proofs.MoveLemmas.{extends_event, extends_more, extends_none, extends_one, extends_unsettled}
 
 -- the database with another writer
-abbrev pub with_shown : DatabaseView → WriterState → DatabaseView
+abbrev pub with_shown : DatabaseView → WriterView → DatabaseView
 with_shown v w = record { journal = v.journal; opening = v.opening; users = v.users; events = v.events; state = v.state; shown = w; readers = v.readers }
 
 -- the database with all that it keeps published

@@ -19,7 +19,7 @@ use Rattle.session_history.specs.declared.history.Happened.{Happened}
 use Rattle.session_history.specs.Events.{Leads}
 use Rattle.session_history.proofs.EventLemmas.{Leads-append}
 use Rattle.stored_ledger.specs.Stored.{IsNext, SpellsWith}
-use Rattle.active_snapshot.specs.States.{ReaderState, WriterState, first_written}
+use Rattle.active_snapshot.specs.States.{ReaderView, WriterView, first_written}
 use Rattle.config_db.specs.View.{DatabaseView, IsSameRun, opened}
 use Rattle.config_db.specs.Numbers.{AreAtMost, AreRising, calls_of, none_called}
 use Rattle.config_db.specs.Writing.{IsFoundOut, entry_in}
@@ -142,7 +142,7 @@ book_unsettled v j' book some later stands safe = record {
 }
 
 -- another writer that shows the same, and other readers
-pub book_shown : (v : DatabaseView) (w : WriterState) (rs : List ReaderState) → IsBook v → Shows (opened v) v.events v.state w
+pub book_shown : (v : DatabaseView) (w : WriterView) (rs : List ReaderView) → IsBook v → Shows (opened v) v.events v.state w
     → IsBook (record { journal = v.journal; opening = v.opening; users = v.users; events = v.events; state = v.state; shown = w; readers = rs })
 book_shown v w rs book shows = record {
   began = book.began;
@@ -157,7 +157,7 @@ book_shown v w rs book shows = record {
 }
 
 -- how a database begins
-pub book_begins : (j : JournalView) (opening : Kept) (users : List (List ℕ)) (state : State) (events : List Happened) (w : WriterState) (rs : List ReaderState)
+pub book_begins : (j : JournalView) (opening : Kept) (users : List (List ℕ)) (state : State) (events : List Happened) (w : WriterView) (rs : List ReaderView)
     → IsOpening j opening → state ≡ opening_of opening users → events ≡ [] → w ≡ first_written opening
     → IsBook (record { journal = j; opening = opening; users = users; events = events; state = state; shown = w; readers = rs })
 book_begins j opening users state events w rs begins start none shown =

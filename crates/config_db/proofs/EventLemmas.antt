@@ -13,14 +13,14 @@ use Rattle.config_core.specs.declared.event.Outcome.{Outcome}
 use Rattle.config_core.specs.declared.event.Outcome.TheVariants.{Done, Fault}
 use Rattle.config_core.specs.declared.reply.Reply.{Reply}
 use Rattle.config_core.specs.Machine.{Fits, Steps}
-use Rattle.config_core.specs.Plan.{Plan, made_in}
+use Rattle.config_core.specs.Plan.{PreparedView, made_in}
 use Rattle.config_core.specs.Prepared.{IsPrepared, applied, ended, replied}
 use Rattle.config_core.specs.Serving.{Turned}
 use Rattle.config_core.specs.Soundness.{IsSoundMade}
 use Rattle.config_core.specs.State.{State, Made}
 use Rattle.session_history.specs.declared.history.Happened.{Happened}
 use Rattle.session_history.specs.Events.{Leads, is_command}
-use Rattle.active_snapshot.specs.States.{WriterState}
+use Rattle.active_snapshot.specs.States.{WriterView}
 use Rattle.config_db.specs.View.{DatabaseView, IsSameRun, opened}
 use Rattle.config_db.specs.Numbers.{AreAtMost, calls_of, none_called}
 use Rattle.config_db.specs.Crash.{BothCalled, CountsOn, IsSafeWhile, Spelt}
@@ -41,10 +41,10 @@ use Rattle.config_db.proofs.BookLemmas.{book_after, book_unsettled, stands_found
 use Rattle.config_db.proofs.WritingLemmas.{Wrote}
 
 -- the database after an event
-abbrev pub next : DatabaseView → JournalView → List Happened → State → WriterState → DatabaseView
+abbrev pub next : DatabaseView → JournalView → List Happened → State → WriterView → DatabaseView
 next v j' events' s' w' = record { journal = j'; opening = v.opening; users = v.users; events = events'; state = s'; shown = w'; readers = v.readers }
 
-pub next_same : (v : DatabaseView) (j' : JournalView) (events' : List Happened) (w' : WriterState) → j' ≡ v.journal → events' ≡ v.events → w' ≡ v.shown → next v j' events' v.state w' ≡ v
+pub next_same : (v : DatabaseView) (j' : JournalView) (events' : List Happened) (w' : WriterView) → j' ≡ v.journal → events' ≡ v.events → w' ≡ v.shown → next v j' events' v.state w' ≡ v
 next_same v j' events' w' same_journal same_events same_shown =
     ap (λ j. next v j events' v.state w') same_journal ∙ ap (λ es. next v v.journal es v.state w') same_events ∙ ap (λ w. next v v.journal v.events v.state w) same_shown
 
@@ -72,7 +72,7 @@ module _ (v : DatabaseView) (book : IsBook v)
       → Tell j' → IsSafeWhile (opened v) (v.events ++ e ∷ []) (calls_of j') (a_of j') (b_of j')
 
   -- what readers are shown after an event
-  abbrev ShowsThen : JournalView → Happened → State → WriterState → Type 0
+  abbrev ShowsThen : JournalView → Happened → State → WriterView → Type 0
   ShowsThen j' e s' w' = Leads (opened v) (v.events ++ e ∷ []) s' → Shows (opened v) (v.events ++ e ∷ []) s' w'
 
   -- calls that only settled
@@ -97,7 +97,7 @@ module _ (v : DatabaseView) (book : IsBook v)
   either_spelt e turned (Some m) c d makes steps spells = ⊎_elim (λ old. inl old) (λ new. inr (m, inr (turned, steps, makes), new)) spells
 
   -- from what the machine and the journal did
-  comes : (j' : JournalView) (events' : List Happened) (s' : State) (w' : WriterState) (caller moment : ℕ) (event : Event) (outcome : Outcome) (reply : Reply) (calls : Calls) (kept : Kept) (flight : Option Made)
+  comes : (j' : JournalView) (events' : List Happened) (s' : State) (w' : WriterView) (caller moment : ℕ) (event : Event) (outcome : Outcome) (reply : Reply) (calls : Calls) (kept : Kept) (flight : Option Made)
       → calls ≡ calls_of j' → events' ≡ v.events ++ noted caller moment event outcome calls ∷ [] → (turns : Turns v.state caller moment event outcome reply s') → Leaves v.state s' kept flight
       → Stands j' kept (entry_in flight) → GoesOn v.journal j' → (Tell v.journal → BothCalled v.journal j') → (outcome ≡ Done → flight ≡ None) → (outcome ≡ Fault → IsSome flight)
       → Safe j' (noted caller moment event outcome (calls_of j')) s' → ShowsThen j' (noted caller moment event outcome (calls_of j')) s' w' → ShowsOn v.shown w'
@@ -126,7 +126,7 @@ module _ (v : DatabaseView) (book : IsBook v)
   at_rest free = subst (λ f. Stands v.journal v.state.kept (entry_in f)) free book.stands
 
   -- an event with nothing in flight
-  pub carried : (j' : JournalView) (events' : List Happened) (s' : State) (w' : WriterState) (caller moment : ℕ) (event : Event) (outcome : Outcome) (reply : Reply) (calls : Calls) (plan : Plan)
+  pub carried : (j' : JournalView) (events' : List Happened) (s' : State) (w' : WriterView) (caller moment : ℕ) (event : Event) (outcome : Outcome) (reply : Reply) (calls : Calls) (plan : PreparedView)
       → v.state.flight ≡ None → Fits v.state caller moment event → IsPrepared v.state caller moment event plan
       → Wrote v.state.kept (made_in plan.effect) outcome v.journal j' → IsShown (made_in plan.effect) outcome v.shown w' → calls ≡ calls_of j' → s' ≡ applied plan outcome v.state → reply ≡ replied plan.effect plan.reply outcome
       → events' ≡ v.events ++ noted caller moment event outcome calls ∷ [] → Comes caller moment event outcome reply v (next v j' events' s' w')
@@ -165,7 +165,7 @@ module _ (v : DatabaseView) (book : IsBook v)
     made_sound = subst (λ f. IfSome f (IsSoundMade v.state.kept v.state.greatest)) is_made book.sound.flight
 
     -- a settling
-    pub settled_so : (j' : JournalView) (events' : List Happened) (s' : State) (w' : WriterState) (caller moment : ℕ) (is_kept : Bool) (calls : Calls)
+    pub settled_so : (j' : JournalView) (events' : List Happened) (s' : State) (w' : WriterView) (caller moment : ℕ) (is_kept : Bool) (calls : Calls)
         → v.state.greatest ≤ moment → IsFoundOut (Some is_kept) v.journal j' → ShowsSettled is_kept v.shown w' → calls ≡ calls_of j' → (by : IsSettledBy caller moment is_kept v.state s')
         → events' ≡ v.events ++ noted caller moment (Settle is_kept) Done calls ∷ []
         → Comes caller moment (Settle is_kept) Done (replied by.plan.effect by.plan.reply Done) v (next v j' events' s' w')
@@ -194,7 +194,7 @@ module _ (v : DatabaseView) (book : IsBook v)
     unsettled_so j' found = record { state = refl; events = refl; same = record { opening = refl; users = refl }; goes = found.goes; called = λ t. called_left v.journal j' (WasLeft (a_of v.journal) (b_of v.journal)) t found.counts (found.crash t); rose = found.cause refl; shown = refl }
 
     -- a command while an entry is in flight
-    pub put_off_so : (events' : List Happened) (s' : State) (caller moment : ℕ) (event : Event) (reply : Reply) (calls : Calls) (plan : Plan)
+    pub put_off_so : (events' : List Happened) (s' : State) (caller moment : ℕ) (event : Event) (reply : Reply) (calls : Calls) (plan : PreparedView)
         → is_command event ≡ true → Fits v.state caller moment event → IsPrepared v.state caller moment event plan
         → calls ≡ calls_of v.journal → s' ≡ applied plan Fault v.state → reply ≡ replied plan.effect plan.reply Fault
         → events' ≡ v.events ++ noted caller moment event Fault calls ∷ [] → Comes caller moment event Fault reply v (next v v.journal events' s' v.shown)

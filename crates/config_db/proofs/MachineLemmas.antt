@@ -20,7 +20,7 @@ use Rattle.config_core.specs.declared.reply.Reply.TheVariants.{Done as SaysDone}
 use Rattle.config_core.specs.Callers.{caller_of, with_caller, without_mode}
 use Rattle.config_core.specs.Entries.{taken}
 use Rattle.config_core.specs.Levels.{Position, at_top}
-use Rattle.config_core.specs.Plan.{Plan, made_in, made_of}
+use Rattle.config_core.specs.Plan.{PreparedView, made_in, made_of}
 use Rattle.config_core.specs.Machine.{Fits, FitsIn, Free, InFlight, Missed, Steps, StepsFrom, Waiting, is_logout, later, left_by, reverted, settled, waiting_for, waiting_of}
 use Rattle.config_core.specs.Prepared.{CanEnd, IsPrepared, applied, effected, ended, need_in, replied, settled_in}
 use Rattle.config_core.specs.Serving.{Turned, answered, left_if, refused}
@@ -65,7 +65,7 @@ effect_leaves (effect.Append a) caller Done s free calm = left_leaves a.quit cal
 effect_leaves (effect.Append a) caller Fault s free calm = record { kept_is = refl; flight_is = refl; callers = refl }
 
 -- a prepared step, where nothing was in flight
-pub plan_leaves : (plan : Plan) (outcome : Outcome) (s : State) → s.flight ≡ None → (made_in plan.effect ≡ None → outcome ≡ Done)
+pub plan_leaves : (plan : PreparedView) (outcome : Outcome) (s : State) → s.flight ≡ None → (made_in plan.effect ≡ None → outcome ≡ Done)
     → Leaves s (applied plan outcome s) (kept_after s.kept (made_in plan.effect) outcome) (flight_after (made_in plan.effect) outcome)
 plan_leaves plan outcome s free calm =
     let leaves = effect_leaves plan.effect plan.caller outcome (later s plan.moment) free calm in
@@ -90,23 +90,23 @@ can_end s moment event made outcome free fits calm =
     let same : waiting_of s moment ≡ waiting_for None (is_revert_due s.kept moment) = ap (λ flight. waiting_for flight (is_revert_due s.kept moment)) free in
     subst (λ w. CanEnd w event made outcome) (sym same) (can_end_in (is_revert_due s.kept moment) event made outcome (subst (λ w. FitsIn w event) same fits) calm)
 
-turns_by : (s : State) (caller moment : ℕ) (event : Event) (plan : Plan) (outcome : Outcome) → Fits s caller moment event → IsPrepared s caller moment event plan
+turns_by : (s : State) (caller moment : ℕ) (event : Event) (plan : PreparedView) (outcome : Outcome) → Fits s caller moment event → IsPrepared s caller moment event plan
     → CanEnd (waiting_of s moment) event (made_in plan.effect) outcome → Turns s caller moment event outcome (replied plan.effect plan.reply outcome) (applied plan outcome s)
 turns_by s caller moment event plan outcome fits prepared ends =
     record { fits = fits; turned = ended plan outcome s; steps = prepared.steps outcome ends; state = refl; replied = refl }
 
-pub free_turns : (s : State) (caller moment : ℕ) (event : Event) (plan : Plan) (outcome : Outcome) → s.flight ≡ None → Fits s caller moment event → IsPrepared s caller moment event plan
+pub free_turns : (s : State) (caller moment : ℕ) (event : Event) (plan : PreparedView) (outcome : Outcome) → s.flight ≡ None → Fits s caller moment event → IsPrepared s caller moment event plan
     → (made_in plan.effect ≡ None → outcome ≡ Done) → Turns s caller moment event outcome (replied plan.effect plan.reply outcome) (applied plan outcome s)
 free_turns s caller moment event plan outcome free fits prepared calm =
     turns_by s caller moment event plan outcome fits prepared (can_end s moment event (made_in plan.effect) outcome free fits.fits calm)
 
 -- the step itself
-pub free_steps : (s : State) (caller moment : ℕ) (event : Event) (plan : Plan) (outcome : Outcome) → s.flight ≡ None → Fits s caller moment event → IsPrepared s caller moment event plan
+pub free_steps : (s : State) (caller moment : ℕ) (event : Event) (plan : PreparedView) (outcome : Outcome) → s.flight ≡ None → Fits s caller moment event → IsPrepared s caller moment event plan
     → (made_in plan.effect ≡ None → outcome ≡ Done) → Steps s caller moment event outcome (ended plan outcome s)
 free_steps s caller moment event plan outcome free fits prepared calm = prepared.steps outcome (can_end s moment event (made_in plan.effect) outcome free fits.fits calm)
 
 -- the entry that it makes may be the next one
-pub made_is_sound : (s : State) (caller moment : ℕ) (event : Event) (plan : Plan) → IsSoundState s → s.flight ≡ None → Fits s caller moment event
+pub made_is_sound : (s : State) (caller moment : ℕ) (event : Event) (plan : PreparedView) → IsSoundState s → s.flight ≡ None → Fits s caller moment event
     → IsPrepared s caller moment event plan → IfSome (made_in plan.effect) (IsSoundMade s.kept moment)
 made_is_sound s caller moment event plan sound free fits prepared =
     (steps_keep s caller moment event Done (ended plan Done s) sound fits (prepared.steps Done (can_end s moment event (made_in plan.effect) Done free fits.fits (λ none. refl)))).1
@@ -141,7 +141,7 @@ settling_fits s caller moment is_kept some no_earlier =
     let made = flying s.flight some in
     record { no_earlier = no_earlier; askable = tt; fits = subst (λ w. FitsIn w (Settle is_kept)) (sym (waits s moment made.0 made.1)) tt }
 
-pub settling_turns : (s : State) (caller moment : ℕ) (is_kept : Bool) (plan : Plan) (made : Made) → s.flight ≡ Some made → Fits s caller moment (Settle is_kept)
+pub settling_turns : (s : State) (caller moment : ℕ) (is_kept : Bool) (plan : PreparedView) (made : Made) → s.flight ≡ Some made → Fits s caller moment (Settle is_kept)
     → IsPrepared s caller moment (Settle is_kept) plan → Turns s caller moment (Settle is_kept) Done (replied plan.effect plan.reply Done) (applied plan Done s)
 settling_turns s caller moment is_kept plan made is fits prepared =
     turns_by s caller moment (Settle is_kept) plan Done fits prepared
@@ -182,7 +182,7 @@ settling_makes_none s caller moment is_kept turned made is steps =
     ap (λ t. t.made) answer
 
 -- a command while an entry is in flight
-pub put_off_turns : (s : State) (caller moment : ℕ) (event : Event) (plan : Plan) (made : Made) → is_command event ≡ true → s.flight ≡ Some made → Fits s caller moment event
+pub put_off_turns : (s : State) (caller moment : ℕ) (event : Event) (plan : PreparedView) (made : Made) → is_command event ≡ true → s.flight ≡ Some made → Fits s caller moment event
     → IsPrepared s caller moment event plan → Turns s caller moment event Fault (replied plan.effect plan.reply Fault) (applied plan Fault s)
 put_off_turns s caller moment (Settle is_kept) plan made asks is fits prepared = absurd (cc)
 put_off_turns s caller moment Revert plan made asks is fits prepared = absurd (cc)

@@ -11,7 +11,7 @@ use Rattle.config_core.specs.declared.event.Outcome.TheVariants.{Fault}
 use Rattle.config_core.specs.declared.reply.Reply.{Reply}
 use Rattle.session_history.specs.declared.history.Happened.{Happened}
 use Rattle.session_history.proofs.EventLemmas.{Leads-append}
-use Rattle.active_snapshot.specs.States.{WriterState}
+use Rattle.active_snapshot.specs.States.{WriterView}
 use Rattle.config_db.specs.View.{DatabaseView, IsSameRun}
 use Rattle.config_db.specs.Numbers.{calls_of}
 use Rattle.config_db.specs.Disks.{GoesOn}
@@ -53,7 +53,7 @@ module _ (caller moment : ℕ) where
     same = un.same;
     goes = un.goes;
     called = un.called;
-    shown = still_shown v.shown v'.shown (ap (λ (w : WriterState). w.list) un.shown) (ap (λ (w : WriterState). w.published) un.shown);
+    shown = still_shown v.shown v'.shown (ap (λ (w : WriterView). w.list) un.shown) (ap (λ (w : WriterView). w.published) un.shown);
   }
 
   causes_first : (u v w : DatabaseView) (own : List Happened) → AllByRecursion (HasCause u.journal v.journal) own → GoesOn v.journal w.journal

@@ -23,7 +23,7 @@ use Rattle.session_history.specs.declared.history.Happened.{Happened}
 use Rattle.session_history.specs.Events.{Leads}
 use Rattle.session_history.specs.Kept.{WasKept}
 use Rattle.session_history.proofs.KeptLemmas.{WasKept-append, WasKept-last, WasKept-opening}
-use Rattle.active_snapshot.specs.States.{WriterState, all_published, first_written, with_kept}
+use Rattle.active_snapshot.specs.States.{WriterView, all_published, first_written, with_kept}
 use Rattle.active_snapshot.specs.Views.{IsLast, with_proposal}
 use Rattle.config_db.specs.Writing.{flight_after, kept_after}
 use Rattle.config_db.specs.Shown.{CanFollow, CanFollowLast, IsShown, Keeps, Proposes, ProposesNext, Shows, ShowsOn, ShowsSettled, waiting_view}
@@ -42,50 +42,50 @@ pub last_is_one : (views : List Kept) (one other : Kept) → IsLast views one �
 last_is_one views one other is_one is_other = same_some one other (sym is_one ∙ is_other)
 
 -- nothing waits where nothing is in flight
-pub nothing_proposed : (first : State) (events : List Happened) (s : State) (w : WriterState) → Shows first events s w → s.flight ≡ None → w.proposal ≡ None
+pub nothing_proposed : (first : State) (events : List Happened) (s : State) (w : WriterView) → Shows first events s w → s.flight ≡ None → w.proposal ≡ None
 nothing_proposed first events s w shows free = shows.proposed ∙ ap (waiting_view s.kept) free
 
 -- a writer with nothing that waits keeps what it kept
-kept_none : (w : WriterState) → w.proposal ≡ None → with_kept w ≡ w
+kept_none : (w : WriterView) → w.proposal ≡ None → with_kept w ≡ w
 kept_none w none =
     ap (λ (p : Option Kept). record w { list = with_proposal w.list p; proposal = None }) none ∙ ap (λ (p : Option Kept). record w { proposal = p }) (sym none)
 
 -- a late writer published all, or memory ran out for that
-pub late_published : {E : Type 0} (result : Result (Unit {0}) E) (w w' : WriterState) → w.proposal ≡ None → OnOk result (w' ≡ all_published (with_kept w)) → OnOk result (w' ≡ all_published w)
+pub late_published : {E : Type 0} (result : Result (Unit {0}) E) (w w' : WriterView) → w.proposal ≡ None → OnOk result (w' ≡ all_published (with_kept w)) → OnOk result (w' ≡ all_published w)
 late_published (Ok done) w w' none is = is ∙ ap all_published (kept_none w none)
 late_published (Err fault) w w' none is = tt
 
-pub late_still : {E : Type 0} (result : Result (Unit {0}) E) (w w' : WriterState) → w.late ≡ true → w.proposal ≡ None → OnErr result (w' ≡ record (with_kept w) { late = true }) → OnErr result (w' ≡ w)
+pub late_still : {E : Type 0} (result : Result (Unit {0}) E) (w w' : WriterView) → w.late ≡ true → w.proposal ≡ None → OnErr result (w' ≡ record (with_kept w) { late = true }) → OnErr result (w' ≡ w)
 late_still (Ok done) w w' late none is = tt
 late_still (Err fault) w w' late none is =
-    is ∙ ap (λ (x : WriterState). record x { late = true }) (kept_none w none) ∙ ap (λ (b : Bool). record w { late = b }) (sym late)
+    is ∙ ap (λ (x : WriterView). record x { late = true }) (kept_none w none) ∙ ap (λ (b : Bool). record w { late = b }) (sym late)
 
 -- a writer that isn't late has published all
-pub published_all : (w : WriterState) → w.late ≡ false → w.published ≡ length w.list → w ≡ all_published w
+pub published_all : (w : WriterView) → w.late ≡ false → w.published ≡ length w.list → w ≡ all_published w
 published_all w late published = ap (λ (b : Bool). record w { late = b }) late ∙ ap (λ (n : ℕ). record w { late = false; published = n }) published
 
 -- what waits is kept, whether it could be published or not
-pub keeps_of : {E : Type 0} (result : Result (Unit {0}) E) (w w' : WriterState) → OnOk result (w' ≡ all_published (with_kept w))
+pub keeps_of : {E : Type 0} (result : Result (Unit {0}) E) (w w' : WriterView) → OnOk result (w' ≡ all_published (with_kept w))
     → OnErr result (w' ≡ record (with_kept w) { late = true }) → Keeps w w'
 keeps_of (Ok done) w w' ok err =
-    let list : w'.list ≡ with_proposal w.list w.proposal = ap (λ (x : WriterState). x.list) ok in
+    let list : w'.list ≡ with_proposal w.list w.proposal = ap (λ (x : WriterView). x.list) ok in
     record {
       list = list;
-      proposal = ap (λ (x : WriterState). x.proposal) ok;
-      published = inr (ap (λ (x : WriterState). x.published) ok ∙ sym (ap length list));
+      proposal = ap (λ (x : WriterView). x.proposal) ok;
+      published = inr (ap (λ (x : WriterView). x.published) ok ∙ sym (ap length list));
     }
 keeps_of (Err fault) w w' ok err = record {
-  list = ap (λ (x : WriterState). x.list) err;
-  proposal = ap (λ (x : WriterState). x.proposal) err;
-  published = inl (ap (λ (x : WriterState). x.published) err);
+  list = ap (λ (x : WriterView). x.list) err;
+  proposal = ap (λ (x : WriterView). x.proposal) err;
+  published = inl (ap (λ (x : WriterView). x.published) err);
 }
 
 -- the same is shown
-pub still_shown : (w w' : WriterState) → w'.list ≡ w.list → w'.published ≡ w.published → ShowsOn w w'
+pub still_shown : (w w' : WriterView) → w'.list ≡ w.list → w'.published ≡ w.published → ShowsOn w w'
 still_shown w w' list published = record { longer = omega (arith, ap length list); published = inl published }
 
 -- more is shown, and then more
-pub shown_further : (u v w : WriterState) → ShowsOn u v → ShowsOn v w → ShowsOn u w
+pub shown_further : (u v w : WriterView) → ShowsOn u v → ShowsOn v w → ShowsOn u w
 shown_further u v w first next = record {
   longer = omega (arith, first.longer, next.longer);
   published = ⊎_elim (λ same. ⊎_elim (λ before. inl (same ∙ before)) (λ all. inr (omega (arith, same, all))) first.published)
@@ -97,34 +97,34 @@ longer_with views None = omega arith
 longer_with views (Some next) = omega (arith, length-append views (next ∷ []))
 
 -- what waits is kept
-keeps_on : (w w' : WriterState) → Keeps w w' → ShowsOn w w'
+keeps_on : (w w' : WriterView) → Keeps w w' → ShowsOn w w'
 keeps_on w w' keeps =
     let longer : length w.list ≤ length w'.list = omega (arith, ap length keeps.list, longer_with w.list w.proposal) in
     record { longer = longer; published = ⊎_elim (λ same. inl same) (λ all. inr (omega (arith, all, longer))) keeps.published }
 
-proposed_on : (entry : Entry) (w ready : WriterState) → ProposesNext entry w ready → ShowsOn w ready
-proposed_on entry w ready next = still_shown w ready (ap (λ (x : WriterState). x.list) next.is) (ap (λ (x : WriterState). x.published) next.is)
+proposed_on : (entry : Entry) (w ready : WriterView) → ProposesNext entry w ready → ShowsOn w ready
+proposed_on entry w ready next = still_shown w ready (ap (λ (x : WriterView). x.list) next.is) (ap (λ (x : WriterView). x.published) next.is)
 
 -- what an event makes was written
-pub written_on : (made : Option Made) (outcome : Outcome) (w w' : WriterState) → IsShown made outcome w w' → ShowsOn w w'
+pub written_on : (made : Option Made) (outcome : Outcome) (w w' : WriterView) → IsShown made outcome w w' → ShowsOn w w'
 written_on None outcome w w' shown =
     let same = shown.publishes ∙ shown.proposes in
-    still_shown w w' (ap (λ (x : WriterState). x.list) same) (ap (λ (x : WriterState). x.published) same)
+    still_shown w w' (ap (λ (x : WriterView). x.list) same) (ap (λ (x : WriterView). x.published) same)
 written_on (Some made) Done w w' shown = shown_further w shown.ready w' (proposed_on made.entry w shown.ready shown.proposes) (keeps_on shown.ready w' shown.publishes)
 written_on (Some made) Fault w w' shown =
     shown_further w shown.ready w' (proposed_on made.entry w shown.ready shown.proposes)
-    (still_shown shown.ready w' (ap (λ (x : WriterState). x.list) shown.publishes) (ap (λ (x : WriterState). x.published) shown.publishes))
+    (still_shown shown.ready w' (ap (λ (x : WriterView). x.list) shown.publishes) (ap (λ (x : WriterView). x.published) shown.publishes))
 
 -- what was in flight was settled
-pub settled_on : (is_kept : Bool) (w w' : WriterState) → ShowsSettled is_kept w w' → ShowsOn w w'
+pub settled_on : (is_kept : Bool) (w w' : WriterView) → ShowsSettled is_kept w w' → ShowsOn w w'
 settled_on true w w' keeps = keeps_on w w' keeps
-settled_on false w w' withdrawn = still_shown w w' (ap (λ (x : WriterState). x.list) withdrawn) (ap (λ (x : WriterState). x.published) withdrawn)
+settled_on false w w' withdrawn = still_shown w w' (ap (λ (x : WriterView). x.list) withdrawn) (ap (λ (x : WriterView). x.published) withdrawn)
 
 -- all that was kept was published first
-pub all_since : (w w' : WriterState) → ShowsOn (all_published w) w' → length w.list ≤ w'.published
+pub all_since : (w w' : WriterView) → ShowsOn (all_published w) w' → length w.list ≤ w'.published
 all_since w w' on = ⊎_elim (λ (same : w'.published ≡ length w.list). omega (arith, same)) (λ all. all) on.published
 
-pub shown_since : (w w' : WriterState) → ShowsOn (all_published w) w' → ShowsOn w w'
+pub shown_since : (w w' : WriterView) → ShowsOn (all_published w) w' → ShowsOn w w'
 shown_since w w' on = record { longer = on.longer; published = inr (all_since w w' on) }
 
 -- how a database begins to show
@@ -134,7 +134,7 @@ shows_begin opening users =
 
 module _ (first : State) where
   -- the list of views stays
-  shows_same_list : (events' : List Happened) (s s' : State) (more : List Kept) (w w' : WriterState) → w.list ≡ first.kept ∷ more → IsLast w.list s.kept → w'.list ≡ w.list → s'.kept ≡ s.kept
+  shows_same_list : (events' : List Happened) (s s' : State) (more : List Kept) (w w' : WriterView) → w.list ≡ first.kept ∷ more → IsLast w.list s.kept → w'.list ≡ w.list → s'.kept ≡ s.kept
       → AllByRecursion (WasKept first events') w.list → w'.proposal ≡ waiting_view s'.kept s'.flight → (w'.late ≡ true → s'.flight ≡ None) → Shows first events' s' w'
   shows_same_list events' s s' more w w' begins last list kept all proposed late = record {
     more = more;
@@ -146,7 +146,7 @@ module _ (first : State) where
   }
 
   -- what is kept now is its new last view
-  shows_longer : (events' : List Happened) (s' : State) (more : List Kept) (w w' : WriterState) → w.list ≡ first.kept ∷ more → w'.list ≡ w.list ++ s'.kept ∷ []
+  shows_longer : (events' : List Happened) (s' : State) (more : List Kept) (w w' : WriterView) → w.list ≡ first.kept ∷ more → w'.list ≡ w.list ++ s'.kept ∷ []
       → AllByRecursion (WasKept first events') w.list → Leads first events' s' → w'.proposal ≡ None → s'.flight ≡ None → Shows first events' s' w'
   shows_longer events' s' more w w' begins list all leads none free = record {
     more = more ++ s'.kept ∷ [];
@@ -158,7 +158,7 @@ module _ (first : State) where
     late = λ is. free;
   }
 
-  module _ (events : List Happened) (s : State) (w : WriterState) (shows : Shows first events s w) where
+  module _ (events : List Happened) (s : State) (w : WriterView) (shows : Shows first events s w) where
     all_more : (more : List Happened) → AllByRecursion (WasKept first (events ++ more)) w.list
     all_more more = All-map (WasKept first events) (WasKept first (events ++ more)) w.list (λ view was. WasKept-append first events more view was) shows.all
 
@@ -167,7 +167,7 @@ module _ (first : State) where
     late_waits late = nothing_proposed first events s w shows (shows.late late)
 
     -- all that is kept was published
-    pub shows_published : (w' : WriterState) → w' ≡ all_published w → Shows first events s w'
+    pub shows_published : (w' : WriterView) → w' ≡ all_published w → Shows first events s w'
     shows_published w' is =
         subst (Shows first events s) (sym is) (shows_same_list events s s shows.more w (all_published w) shows.begins shows.last refl refl shows.all shows.proposed (λ late. absurd (cc)))
 
@@ -179,48 +179,48 @@ module _ (first : State) where
 
     module _ (more : List Happened) (s' : State) (leads : Leads first (events ++ more) s') where
       -- nothing was made
-      written_none : (w' : WriterState) → s.flight ≡ None → s'.kept ≡ s.kept → s'.flight ≡ None → w' ≡ w → Shows first (events ++ more) s' w'
+      written_none : (w' : WriterView) → s.flight ≡ None → s'.kept ≡ s.kept → s'.flight ≡ None → w' ≡ w → Shows first (events ++ more) s' w'
       written_none w' free kept flight same = subst (Shows first (events ++ more) s') (sym same) (shows_on more s' kept (flight ∙ sym free))
 
       -- the view after what was made is kept
-      written_done : (made : Made) (ready w' : WriterState) → ProposesNext made.entry w ready → Keeps ready w' → s'.kept ≡ append_entry s.kept made.entry → s'.flight ≡ None
+      written_done : (made : Made) (ready w' : WriterView) → ProposesNext made.entry w ready → Keeps ready w' → s'.kept ≡ append_entry s.kept made.entry → s'.flight ≡ None
           → Shows first (events ++ more) s' w'
       written_done made ready w' proposes keeps kept flight =
           let here = last_is_one w.list proposes.view s.kept proposes.last shows.last in
-          let list : ready.list ≡ w.list = ap (λ (x : WriterState). x.list) proposes.is in
+          let list : ready.list ≡ w.list = ap (λ (x : WriterView). x.list) proposes.is in
           let waits : ready.proposal ≡ Some s'.kept =
-          ap (λ (x : WriterState). x.proposal) proposes.is ∙ ap (λ k. Some (append_entry k made.entry)) here ∙ ap Some (sym kept) in
+          ap (λ (x : WriterView). x.proposal) proposes.is ∙ ap (λ k. Some (append_entry k made.entry)) here ∙ ap Some (sym kept) in
           shows_longer (events ++ more) s' shows.more w w' shows.begins
           (keeps.list ∙ ap (with_proposal ready.list) waits ∙ ap (λ l. l ++ s'.kept ∷ []) list) (all_more more) leads keeps.proposal flight
 
       -- or it waits
-      written_fault : (made : Made) (ready w' : WriterState) → ProposesNext made.entry w ready → w' ≡ ready → s'.kept ≡ s.kept → s'.flight ≡ Some made
+      written_fault : (made : Made) (ready w' : WriterView) → ProposesNext made.entry w ready → w' ≡ ready → s'.kept ≡ s.kept → s'.flight ≡ Some made
           → Shows first (events ++ more) s' w'
       written_fault made ready w' proposes same kept flight =
           let here = last_is_one w.list proposes.view s.kept proposes.last shows.last in
           let is = same ∙ proposes.is in
           let waits : w'.proposal ≡ Some (append_entry s.kept made.entry) =
-          ap (λ (x : WriterState). x.proposal) is ∙ ap (λ k. Some (append_entry k made.entry)) here in
-          let on_time : w'.late ≡ false = ap (λ (x : WriterState). x.late) is ∙ proposes.on_time in
-          shows_same_list (events ++ more) s s' shows.more w w' shows.begins shows.last (ap (λ (x : WriterState). x.list) is) kept (all_more more)
+          ap (λ (x : WriterView). x.proposal) is ∙ ap (λ k. Some (append_entry k made.entry)) here in
+          let on_time : w'.late ≡ false = ap (λ (x : WriterView). x.late) is ∙ proposes.on_time in
+          shows_same_list (events ++ more) s s' shows.more w w' shows.begins shows.last (ap (λ (x : WriterView). x.list) is) kept (all_more more)
           (waits ∙ (λ i. waiting_view (sym kept i) (sym flight i))) (λ late. absurd (cc (late, on_time)))
 
       -- after the writing of what an event makes
-      pub shows_written : (made : Option Made) (outcome : Outcome) (w' : WriterState) → s.flight ≡ None → IsShown made outcome w w' → s'.kept ≡ kept_after s.kept made outcome
+      pub shows_written : (made : Option Made) (outcome : Outcome) (w' : WriterView) → s.flight ≡ None → IsShown made outcome w w' → s'.kept ≡ kept_after s.kept made outcome
           → s'.flight ≡ flight_after made outcome → Shows first (events ++ more) s' w'
       shows_written None outcome w' free shown kept flight = written_none w' free kept flight (shown.publishes ∙ shown.proposes)
       shows_written (Some made) Done w' free shown kept flight = written_done made shown.ready w' shown.proposes shown.publishes kept flight
       shows_written (Some made) Fault w' free shown kept flight = written_fault made shown.ready w' shown.proposes shown.publishes kept flight
 
       -- after a settling
-      pub shows_settled : (made : Made) (is_kept : Bool) (w' : WriterState) → s.flight ≡ Some made → ShowsSettled is_kept w w' → s'.kept ≡ kept_settled s.kept made is_kept → s'.flight ≡ None
+      pub shows_settled : (made : Made) (is_kept : Bool) (w' : WriterView) → s.flight ≡ Some made → ShowsSettled is_kept w w' → s'.kept ≡ kept_settled s.kept made is_kept → s'.flight ≡ None
           → Shows first (events ++ more) s' w'
       shows_settled made true w' flying keeps kept flight =
           let waits : w.proposal ≡ Some s'.kept = shows.proposed ∙ ap (waiting_view s.kept) flying ∙ ap Some (sym kept) in
           shows_longer (events ++ more) s' shows.more w w' shows.begins (keeps.list ∙ ap (with_proposal w.list) waits) (all_more more) leads keeps.proposal flight
       shows_settled made false w' flying withdrawn kept flight =
-          shows_same_list (events ++ more) s s' shows.more w w' shows.begins shows.last (ap (λ (x : WriterState). x.list) withdrawn) kept (all_more more)
-          (ap (λ (x : WriterState). x.proposal) withdrawn ∙ sym (ap (waiting_view s'.kept) flight)) (λ late. flight)
+          shows_same_list (events ++ more) s s' shows.more w w' shows.begins shows.last (ap (λ (x : WriterView). x.list) withdrawn) kept (all_more more)
+          (ap (λ (x : WriterView). x.proposal) withdrawn ∙ sym (ap (waiting_view s'.kept) flight)) (λ late. flight)
 
 -- a configuration that is accepted has no expansion with more paths than it may have
 pub not_wide : (m : Statements) → Accepts m → ((m : Statements) (full other : Expansion) → IsExpansion m full → IsExpansion m other → full ≡ other)
@@ -230,20 +230,20 @@ not_wide m accepted one fits wide =
     omega (arith, few, wide.2)
 
 -- a view that was proposed is that after the entry
-pub proposes_next : {E : Type 0} → (result : Result (Unit {0}) E) (entry : Entry) (w w' : WriterState) (view next : Kept) → w.late ≡ false → IsLast w.list view → next ≡ append_entry view entry
+pub proposes_next : {E : Type 0} → (result : Result (Unit {0}) E) (entry : Entry) (w w' : WriterView) (view next : Kept) → w.late ≡ false → IsLast w.list view → next ≡ append_entry view entry
     → OnOk result (w' ≡ record w { proposal = Some next }) → OnOk result (ProposesNext entry w w')
 proposes_next (Ok done) entry w w' view next on_time last is proposed =
     record { on_time = on_time; view = view; last = last; is = proposed ∙ ap (λ k. record w { proposal = Some k }) is }
 proposes_next (Err fault) entry w w' view next on_time last is proposed = tt
 
 -- a proposal that is withdrawn leaves the writer as it was
-pub taken_back : (made : Option Made) (w ready back : WriterState) → w.proposal ≡ None → Proposes made w ready → back ≡ record ready { proposal = None } → back ≡ w
+pub taken_back : (made : Option Made) (w ready back : WriterView) → w.proposal ≡ None → Proposes made w ready → back ≡ record ready { proposal = None } → back ≡ w
 taken_back made w ready back none proposes is =
     is ∙ without made proposes ∙ ap (λ (p : Option Kept). record w { proposal = p }) (sym none)
   where
     without : (m : Option Made) → Proposes m w ready → record ready { proposal = None } ≡ record w { proposal = None }
-    without None same = ap (λ (x : WriterState). record x { proposal = None }) same
-    without (Some m) next = ap (λ (x : WriterState). record x { proposal = None }) next.is
+    without None same = ap (λ (x : WriterView). record x { proposal = None }) same
+    without (Some m) next = ap (λ (x : WriterView). record x { proposal = None }) next.is
 
 -- the entry that a step makes may follow what is kept
 brings : (kept : Kept) (entry : Entry) → IsSoundEntry kept entry → BringsMap Accepts entry

@@ -10,7 +10,7 @@ use Rattle.config_core.specs.declared.event.Outcome.{Outcome}
 use Rattle.config_core.specs.declared.event.Outcome.TheVariants.{Done, Fault}
 use Rattle.config_core.specs.declared.reply.Reply.{Reply}
 use Rattle.config_core.specs.Machine.{Fits, Steps}
-use Rattle.config_core.specs.Plan.{Plan}
+use Rattle.config_core.specs.Plan.{PreparedView}
 use Rattle.config_core.specs.Prepared.{IsPrepared, applied}
 use Rattle.config_core.specs.Serving.{Turned}
 use Rattle.config_core.specs.State.{State}
@@ -66,7 +66,7 @@ pub record IsUnsettled (v v' : DatabaseView) : Type 0 where
 
 -- what was in flight was settled in the state, as it was found out
 pub record IsSettledBy (caller moment : ℕ) (is_kept : Bool) (s s' : State) : Type 0 where
-  pub plan : Plan
+  pub plan : PreparedView
   pub prepared : IsPrepared s caller moment (Settle is_kept) plan
   pub is : s' ≡ applied plan Done s
 

@@ -9,7 +9,7 @@ use Rattle.config_core.specs.declared.event.Outcome.TheVariants.{Done, Fault}
 use Rattle.config_core.specs.State.{State, Made}
 use Rattle.session_history.specs.declared.history.Happened.{Happened}
 use Rattle.session_history.specs.Kept.{WasKept}
-use Rattle.active_snapshot.specs.States.{WriterState}
+use Rattle.active_snapshot.specs.States.{WriterView}
 use Rattle.active_snapshot.specs.Views.{IsLast, with_proposal}
 
 -- the view that waits to be kept: that after the entry in flight
@@ -18,7 +18,7 @@ waiting_view kept None = None
 waiting_view kept (Some made) = Some (append_entry kept made.entry)
 
 -- a writer shows a run that began in the first state, with these events and this state after them
-pub record Shows (first : State) (events : List Happened) (s : State) (shown : WriterState) : Type 0 where
+pub record Shows (first : State) (events : List Happened) (s : State) (shown : WriterView) : Type 0 where
   -- its views begin with the opening's, and the last one is what is kept
   pub more : List Kept
   pub begins : shown.list ≡ first.kept ∷ more
@@ -41,41 +41,41 @@ abbrev pub CanFollowLast : List Kept → Entry → Type 0
 CanFollowLast views entry = (view : Kept) → IsLast views view → CanFollow view entry
 
 -- the view after an entry waits to be kept
-pub record ProposesNext (entry : Entry) (w w' : WriterState) : Type 0 where
+pub record ProposesNext (entry : Entry) (w w' : WriterView) : Type 0 where
   pub on_time : w.late ≡ false
   pub view : Kept
   pub last : IsLast w.list view
   pub is : w' ≡ record w { proposal = Some (append_entry view entry) }
 
 -- the view after the entry that an event makes, if it makes one, waits to be kept
-abbrev pub Proposes : Option Made → WriterState → WriterState → Type 0
+abbrev pub Proposes : Option Made → WriterView → WriterView → Type 0
 Proposes None w w' = w' ≡ w
 Proposes (Some made) w w' = ProposesNext made.entry w w'
 
 -- the view that waits is kept, and all are published, or none more than before
-pub record Keeps (w w' : WriterState) : Type 0 where
+pub record Keeps (w w' : WriterView) : Type 0 where
   pub list : w'.list ≡ with_proposal w.list w.proposal
   pub proposal : w'.proposal ≡ None
   pub published : (w'.published ≡ w.published) ⊎ (w'.published ≡ length w'.list)
 
 -- what waits is kept once the entry is written, and waits on where a disk failed
-abbrev pub Publishes : Option Made → Outcome → WriterState → WriterState → Type 0
+abbrev pub Publishes : Option Made → Outcome → WriterView → WriterView → Type 0
 Publishes None outcome w w' = w' ≡ w
 Publishes (Some made) Done w w' = Keeps w w'
 Publishes (Some made) Fault w w' = w' ≡ w
 
 -- the entry that an event makes, if it makes one, is shown by the outcome of its writing
-pub record IsShown (made : Option Made) (outcome : Outcome) (w w' : WriterState) : Type 0 where
-  pub ready : WriterState
+pub record IsShown (made : Option Made) (outcome : Outcome) (w w' : WriterView) : Type 0 where
+  pub ready : WriterView
   pub proposes : Proposes made w ready
   pub publishes : Publishes made outcome ready w'
 
 -- what waited is kept with the entry that was in flight, or withdrawn with it
-abbrev pub ShowsSettled : Bool → WriterState → WriterState → Type 0
+abbrev pub ShowsSettled : Bool → WriterView → WriterView → Type 0
 ShowsSettled true w w' = Keeps w w'
 ShowsSettled false w w' = w' ≡ record w { proposal = None }
 
 -- no view is lost, and none that was published is taken back: as many are published as before, or at least all that were kept then
-pub record ShowsOn (w w' : WriterState) : Type 0 where
+pub record ShowsOn (w w' : WriterView) : Type 0 where
   pub longer : length w.list ≤ length w'.list
   pub published : (w'.published ≡ w.published) ⊎ (length w.list ≤ w'.published)

@@ -4,7 +4,7 @@ use Rattle.commit_journal.specs.Journal.{JournalView}
 use Rattle.commit_ledger.specs.Kept.{Kept}
 use Rattle.config_core.specs.State.{State, opening_of}
 use Rattle.session_history.specs.declared.history.Happened.{Happened}
-use Rattle.active_snapshot.specs.States.{ReaderState, WriterState}
+use Rattle.active_snapshot.specs.States.{ReaderView, WriterView}
 
 pub record DatabaseView : Type 0 where
   pub journal : JournalView
@@ -15,8 +15,8 @@ pub record DatabaseView : Type 0 where
   pub events : List Happened
   pub state : State
   -- what readers are shown, and the readers that nobody has taken yet
-  pub shown : WriterState
-  pub readers : List ReaderState
+  pub shown : WriterView
+  pub readers : List ReaderView
 
 -- the state in which it began
 abbrev pub opened : DatabaseView → State

@@ -11,7 +11,7 @@ use Rattle.cfg_entries.proofs.PlaceLemmas.{within_take, within_drop}
 use Rattle.cfg_tree.specs.Statements.{last_of}
 use Rattle.cfg_tree.specs.Children.{is_inside, is_child}
 use Rattle.cfg_tree.proofs.MapLemmas.{same_step, is_equal}
-use Rattle.group_expand.specs.Row.{Stated, is_under, Counted, AreBehind, Ordered}
+use Rattle.group_expand.specs.Row.{StatementView, is_under, Counted, AreBehind, Ordered}
 use Rattle.group_expand.specs.Node.{Node, AreInside, node_of, is_live_child, live_children}
 use Rattle.group_expand.specs.Cut.{is_earlier, is_before}
 use Rattle.group_expand.proofs.ClosedLemmas.{both}
@@ -56,12 +56,12 @@ steps_rise (u ∷ above) (s ∷ p) (t ∷ q) h k l less bound e =
     in let same : step_cmp s t ≡ Equal = is_equal _ ((same_step s t).1 st)
     in steps_rise above p q a.1 b.1 (omega (arith, l)) (sym (ap (λ (o : Ordering). ordering_then o (path_cmp p q)) same) ∙ less) bound e
 
-read_inside : (above : List Step) (xs : List Stated) (j : ℕ) (d : Stated) → AreInside above xs → j < length xs → is_inside above (get_or xs j d).path ≡ true
+read_inside : (above : List Step) (xs : List StatementView) (j : ℕ) (d : StatementView) → AreInside above xs → j < length xs → is_inside above (get_or xs j d).path ≡ true
 read_inside above [] j d h l = absurd (omega (arith, l))
 read_inside above (x ∷ xs) zero d h l = h.0
 read_inside above (x ∷ xs) (suc j) d h l = read_inside above xs j d h.1 (omega (arith, l))
 
-read_behind : (p : List Step) (xs : List Stated) (j : ℕ) (d : Stated) → AreBehind p xs → j < length xs → path_cmp p (get_or xs j d).path ≡ Less
+read_behind : (p : List Step) (xs : List StatementView) (j : ℕ) (d : StatementView) → AreBehind p xs → j < length xs → path_cmp p (get_or xs j d).path ≡ Less
 read_behind p [] j d h l = absurd (omega (arith, l))
 read_behind p (x ∷ xs) zero d h l = h.0
 read_behind p (x ∷ xs) (suc j) d h l = read_behind p xs j d h.1 (omega (arith, l))
@@ -91,12 +91,12 @@ parted {X} t xs n l h =
     )
 
 module _ (above : List Step) (bound : Step) where
-  earlier_too : (x y : Stated) → is_inside above x.path ≡ true → is_inside above y.path ≡ true → path_cmp x.path y.path ≡ Less
+  earlier_too : (x y : StatementView) → is_inside above x.path ≡ true → is_inside above y.path ≡ true → path_cmp x.path y.path ≡ Less
       → is_before above bound y ≡ true → is_before above bound x ≡ true
   earlier_too x y h k less e = steps_rise above x.path y.path (both _ _ h).0 (both _ _ k).0 (inside_longer above x.path h) less bound e
 
   -- the statements before a step stand before the others
-  pub is_parted : (xs : List Stated) → Ordered xs → AreInside above xs → IsPartitionedBy (is_before above bound) xs
+  pub is_parted : (xs : List StatementView) → Ordered xs → AreInside above xs → IsPartitionedBy (is_before above bound) xs
   is_parted [] o h i j d le l e = absurd (omega (arith, l))
   is_parted (x ∷ xs) o h zero zero d le l e = e
   is_parted (x ∷ xs) o h zero (suc j) d le l e =
@@ -106,40 +106,40 @@ module _ (above : List Step) (bound : Step) where
 
 -- those below a path whose step right below it passes a test
 module _ (above : List Step) (test : Option Step → Bool) where
-  abbrev passes : Stated → Bool
+  abbrev passes : StatementView → Bool
   passes x = test (slice_get x.path (length above))
 
-  under_too : (x y : Stated) → is_inside above x.path ≡ true → passes x ≡ true → is_under x.path y ≡ true → passes y ≡ true
+  under_too : (x y : StatementView) → is_inside above x.path ≡ true → passes x ≡ true → is_under x.path y ≡ true → passes y ≡ true
   under_too x y h e u = ap test (step_kept x.path y.path (length above) u (inside_longer above x.path h)) ∙ e
 
-  pub counted_kept : (xs : List Stated) → AreInside above xs → Counted xs → Counted (filter passes xs)
+  pub counted_kept : (xs : List StatementView) → AreInside above xs → Counted xs → Counted (filter passes xs)
   counted_kept [] h c = tt
   counted_kept (x ∷ xs) h c = by_test (passes x) refl (counted_kept xs h.1 c.1)
     where
       by_test : (b : Bool) → passes x ≡ b → Counted (filter passes xs) → Counted (cond b (x ∷ filter passes xs) (filter passes xs))
       by_test true e k =
-          (c.0 ∙ ap (λ (ys : List Stated). length ys + 1) (sym (filter_within (is_under x.path) passes xs (λ y u. under_too x y h.0 e u))), k)
+          (c.0 ∙ ap (λ (ys : List StatementView). length ys + 1) (sym (filter_within (is_under x.path) passes xs (λ y u. under_too x y h.0 e u))), k)
       by_test false e k = k
 
-  pub inside_kept : (xs : List Stated) → AreInside above xs → AreInside above (filter passes xs)
+  pub inside_kept : (xs : List StatementView) → AreInside above xs → AreInside above (filter passes xs)
   inside_kept xs h = all_kept (λ y. is_inside above y.path ≡ true) passes xs h
 
-  module _ (below : List Stated) where
-    child_alike : (x : Stated) → is_child above x.path ≡ true → passes x ≡ true → node_of (filter passes below) x ≡ node_of below x
+  module _ (below : List StatementView) where
+    child_alike : (x : StatementView) → is_child above x.path ≡ true → passes x ≡ true → node_of (filter passes below) x ≡ node_of below x
     child_alike x child e =
-        ap (λ (ys : List Stated). record { path = x.path; value = x.value; below = ys })
+        ap (λ (ys : List StatementView). record { path = x.path; value = x.value; below = ys })
         (filter_within (λ y. is_inside x.path y.path) passes below (λ y h. under_too x y (child_inside above x.path child) e (both _ _ h).0))
 
     abbrev tested : List Node → List Node
     tested nodes = filter (λ n. test (Some (last_of n.path))) nodes
 
-    abbrev of_part : List Stated → List Node
+    abbrev of_part : List StatementView → List Node
     of_part ys = map (node_of (filter passes below)) (filter (is_live_child above) (filter passes ys))
 
-    abbrev of_all : List Stated → List Node
+    abbrev of_all : List StatementView → List Node
     of_all ys = tested (map (node_of below) (filter (is_live_child above) ys))
 
-    each_child : (ys : List Stated) → of_part ys ≡ of_all ys
+    each_child : (ys : List StatementView) → of_part ys ≡ of_all ys
     each_child [] = refl
     each_child (y ∷ ys) = by_tests (passes y) (is_live_child above y) refl refl (each_child ys)
       where

@@ -15,7 +15,7 @@ use Rattle.cfg_tree.specs.Statements.{Statements}
 use Rattle.cfg_tree.specs.Tree.{IsTree}
 use Rattle.cfg_tree.proofs.MapLemmas.{same_path, same_step}
 use Rattle.cfg_tree.proofs.BelowLemmas.{below_between}
-use Rattle.group_expand.specs.Row.{Stated, is_under, AreBehind, Ordered, path_in, beside_of, pairs_of, IsToldByDepth, AreToldByDepth}
+use Rattle.group_expand.specs.Row.{StatementView, is_under, AreBehind, Ordered, path_in, beside_of, pairs_of, IsToldByDepth, AreToldByDepth}
 use Rattle.group_expand.proofs.ApartLemmas.{parent_is}
 use Rattle.group_expand.proofs.ClosedLemmas.{both}
 use Rattle.group_expand.proofs.NodeLemmas.{append_nothing, below_same, under_longer, less_apart}
@@ -27,7 +27,7 @@ clash : true ≡ false → ⊥
 clash e = cc
 
 -- a path that is found among statements has what each of their paths has
-found_has : (Q : List Step → Type 0) (xs : List Stated) → AllByRecursion (λ x. Q x.path) xs → (q : List Step) → IsSome (find path_cmp q (pairs_of xs)) → Q q
+found_has : (Q : List Step → Type 0) (xs : List StatementView) → AllByRecursion (λ x. Q x.path) xs → (q : List Step) → IsSome (find path_cmp q (pairs_of xs)) → Q q
 found_has Q [] h q e = cc
 found_has Q (x ∷ xs) h q e = by_test (eq_by_cmp path_cmp q x.path) refl e (found_has Q xs h.1 q)
   where
@@ -36,7 +36,7 @@ found_has Q (x ∷ xs) h q e = by_test (eq_by_cmp path_cmp q x.path) refl e (fou
     by_test false k f go = go f
 
 -- a path that is found is the first one, or is found after it
-first_or_later : (x : Stated) (xs : List Stated) (q : List Step) → IsSome (find path_cmp q (pairs_of (x ∷ xs))) → (q ≡ x.path) ⊎ IsSome (find path_cmp q (pairs_of xs))
+first_or_later : (x : StatementView) (xs : List StatementView) (q : List Step) → IsSome (find path_cmp q (pairs_of (x ∷ xs))) → (q ≡ x.path) ⊎ IsSome (find path_cmp q (pairs_of xs))
 first_or_later x xs q e = by_test (eq_by_cmp path_cmp q x.path) refl e
   where
     by_test : (b : Bool) → eq_by_cmp path_cmp q x.path ≡ b → IsSome (cond b (Some x.value) (find path_cmp q (pairs_of xs))) → (q ≡ x.path) ⊎ IsSome (find path_cmp q (pairs_of xs))
@@ -71,15 +71,15 @@ equal_le Equal e = refl
 equal_le Greater e = cc
 
 -- each path above one of these is there
-abbrev AreHeld : (List Step → Type 0) → List Stated → Type 0
+abbrev AreHeld : (List Step → Type 0) → List StatementView → Type 0
 AreHeld There xs = AllByRecursion (λ y. (q : List Step) → is_below q y.path ≡ true → 0 < length q → There q) xs
 
 module _ (There : List Step → Type 0) where
   -- what is there and as long as a path isn't after it, or is among these
-  abbrev IsSought : List Step → List Stated → Type 0
+  abbrev IsSought : List Step → List StatementView → Type 0
   IsSought p ys = (q : List Step) → length q ≡ length p → There q → (is_le (path_cmp q p) ≡ true) ⊎ IsSome (find path_cmp q (pairs_of ys))
 
-  told : (p : List Step) → 0 < length p → (ys : List Stated) → AreBehind p ys → Ordered ys → AreHeld There ys → IsSought p ys → IsToldByDepth p ys
+  told : (p : List Step) → 0 < length p → (ys : List StatementView) → AreBehind p ys → Ordered ys → AreHeld There ys → IsSought p ys → IsToldByDepth p ys
   told p long [] behind order held sought = tt
   told p long (y ∷ ys) behind order held sought =
       (by_depth (nat_lt (length p) (length y.path)) refl, λ e. told p long ys behind.1 order.1 held.1 (fewer e))
@@ -116,10 +116,10 @@ module _ (There : List Step → Type 0) where
               let m : length p < length y.path = under_longer p y.path behind.0 k in let n : length y.path ≤ length p = grind arith in absurd (omega (arith, m, n))
           by_below false k = refl
 
-  abbrev AreLong : List Stated → Type 0
+  abbrev AreLong : List StatementView → Type 0
   AreLong xs = AllByRecursion (λ x. 0 < length x.path) xs
 
-  all_told : (xs : List Stated) → Ordered xs → AreLong xs → AreHeld There xs
+  all_told : (xs : List StatementView) → Ordered xs → AreLong xs → AreHeld There xs
       → ((q : List Step) → There q → AllByRecursion (λ x. path_cmp q x.path ≡ Less) xs ⊎ IsSome (find path_cmp q (pairs_of xs))) → AreToldByDepth xs
   all_told [] order long held sought = tt
   all_told (x ∷ xs) order long held sought = (told x.path long.0 xs order.0 order.1 held.1 here, all_told xs order.1 long.1 held.1 later)
@@ -170,12 +170,12 @@ module _ (m : Statements) (tree : IsTree m) where
       by_value (Some v) e = refl
 
 -- of a row of a tree, what is below each statement is known by depth
-pub row_told : (row : List Stated) → IsTree (map_of row) → Ordered row → AreToldByDepth row
+pub row_told : (row : List StatementView) → IsTree (map_of row) → Ordered row → AreToldByDepth row
 row_told row tree order =
     all_told (λ q. IsSome (finite.get (map_of row) q)) row order (each_long row (row_there row order)) (each_held row (row_there row order))
     (λ q there. inr (ap is_some (sym (finite.get-from_entries paths_total (pairs_of row) q)) ∙ there))
   where
-    each_long : (xs : List Stated) → AllByRecursion (λ x. finite.get (map_of row) x.path ≡ Some x.value) xs → AllByRecursion (λ x. 0 < length x.path) xs
+    each_long : (xs : List StatementView) → AllByRecursion (λ x. finite.get (map_of row) x.path ≡ Some x.value) xs → AllByRecursion (λ x. 0 < length x.path) xs
     each_long [] h = tt
     each_long (x ∷ xs) h = ((tree.statements.parents x.path (ap is_some h.0)).steps, each_long xs h.1)
 
@@ -183,7 +183,7 @@ row_told row tree order =
     some_steps [] l k = absurd (omega (arith, l))
     some_steps (s ∷ q) l k = cc
 
-    each_held : (xs : List Stated) → AllByRecursion (λ x. finite.get (map_of row) x.path ≡ Some x.value) xs
+    each_held : (xs : List StatementView) → AllByRecursion (λ x. finite.get (map_of row) x.path ≡ Some x.value) xs
         → AllByRecursion (λ x. (q : List Step) → is_below q x.path ≡ true → 0 < length q → IsSome (finite.get (map_of row) q)) xs
     each_held [] h = tt
     each_held (x ∷ xs) h = (
@@ -192,23 +192,23 @@ row_told row tree order =
     )
 
 -- what is known so is known of the rest
-told_drop : (p : List Step) (xs : List Stated) (n : ℕ) → AllByRecursion (λ x. is_below p x.path ≡ true) (take n xs) → IsToldByDepth p xs → IsToldByDepth p (drop n xs)
+told_drop : (p : List Step) (xs : List StatementView) (n : ℕ) → AllByRecursion (λ x. is_below p x.path ≡ true) (take n xs) → IsToldByDepth p xs → IsToldByDepth p (drop n xs)
 told_drop p xs zero h t = t
 told_drop p [] (suc n) h t = tt
 told_drop p (x ∷ xs) (suc n) h t = told_drop p xs n h.1 (t.1 h.0)
 
-pub told_first : (p : List Step) (xs : List Stated) → 0 < length xs → IsToldByDepth p xs → is_below p (path_in xs) ≡ nat_lt (length p) (length (path_in xs))
+pub told_first : (p : List Step) (xs : List StatementView) → 0 < length xs → IsToldByDepth p xs → is_below p (path_in xs) ≡ nat_lt (length p) (length (path_in xs))
 told_first p [] some t = absurd (omega (arith, some))
 told_first p (x ∷ xs) some t = t.0
 
-pub told_next : (p : List Step) (xs next : List Stated) → 0 < length xs → is_below p (path_in xs) ≡ true → Ordered xs → IsToldByDepth p xs → next ≡ beside_of xs → IsToldByDepth p next
+pub told_next : (p : List Step) (xs next : List StatementView) → 0 < length xs → is_below p (path_in xs) ≡ true → Ordered xs → IsToldByDepth p xs → next ≡ beside_of xs → IsToldByDepth p next
 told_next p [] next some e o t is = absurd (omega (arith, some))
 told_next p (x ∷ xs) next some e o t is =
-    subst (λ (ys : List Stated). IsToldByDepth p ys) (apart_from x.path xs o.0 o.1 ∙ sym is)
+    subst (λ (ys : List StatementView). IsToldByDepth p ys) (apart_from x.path xs o.0 o.1 ∙ sym is)
     (told_drop p xs (length (filter (is_under x.path) xs))
-    (subst (λ (ys : List Stated). AllByRecursion (λ y. is_below p y.path ≡ true) ys) (sym (together x.path xs o.0 o.1)) (all_under xs)) (t.1 e))
+    (subst (λ (ys : List StatementView). AllByRecursion (λ y. is_below p y.path ≡ true) ys) (sym (together x.path xs o.0 o.1)) (all_under xs)) (t.1 e))
   where
-    all_under : (ys : List Stated) → AllByRecursion (λ y. is_below p y.path ≡ true) (filter (is_under x.path) ys)
+    all_under : (ys : List StatementView) → AllByRecursion (λ y. is_below p y.path ≡ true) (filter (is_under x.path) ys)
     all_under [] = tt
     all_under (y ∷ ys) = by_test (is_under x.path y) refl (all_under ys)
       where
@@ -218,25 +218,25 @@ told_next p (x ∷ xs) next some e o t is =
         by_test false k go = go
 
 -- it is known by the paths alone
-told_by : (p : List Step) (xs ys : List Stated) → pairs_of xs ≡ pairs_of ys → IsToldByDepth p xs → IsToldByDepth p ys
+told_by : (p : List Step) (xs ys : List StatementView) → pairs_of xs ≡ pairs_of ys → IsToldByDepth p xs → IsToldByDepth p ys
 told_by p xs [] e t = tt
 told_by p [] (y ∷ ys) e t = cc
 told_by p (x ∷ xs) (y ∷ ys) e t =
     let first : x.path ≡ y.path = first_path x y (pairs_of xs) (pairs_of ys) e in let more : pairs_of xs ≡ pairs_of ys = ap (λ (zs : List (Pair Value)). drop 1 zs) e
     in (subst (λ (q : List Step). is_below p q ≡ nat_lt (length p) (length q)) first t.0, λ b. told_by p xs ys more (t.1 (ap (is_below p) first ∙ b)))
 
-pub all_told_by : (xs ys : List Stated) → pairs_of xs ≡ pairs_of ys → AreToldByDepth xs → AreToldByDepth ys
+pub all_told_by : (xs ys : List StatementView) → pairs_of xs ≡ pairs_of ys → AreToldByDepth xs → AreToldByDepth ys
 all_told_by xs [] e t = tt
 all_told_by [] (y ∷ ys) e t = cc
 all_told_by (x ∷ xs) (y ∷ ys) e t =
     let first : x.path ≡ y.path = first_path x y (pairs_of xs) (pairs_of ys) e in let more : pairs_of xs ≡ pairs_of ys = ap (λ (zs : List (Pair Value)). drop 1 zs) e
     in (subst (λ (q : List Step). IsToldByDepth q ys) first (told_by x.path xs ys more t.0), all_told_by xs ys more t.1)
 
-told_at : (xs : List Stated) (at : ℕ) (d : Stated) → at < length xs → AreToldByDepth xs → IsToldByDepth (get_or xs at d).path (drop (at + 1) xs)
+told_at : (xs : List StatementView) (at : ℕ) (d : StatementView) → at < length xs → AreToldByDepth xs → IsToldByDepth (get_or xs at d).path (drop (at + 1) xs)
 told_at [] at d l t = absurd (omega (arith, l))
 told_at (x ∷ xs) zero d l t = t.0
-told_at (x ∷ xs) (suc at) d l t = subst (λ (ys : List Stated). IsToldByDepth (get_or xs at d).path ys) (sym (drop_suc x xs at)) (told_at xs at d (omega (arith, l)) t.1)
+told_at (x ∷ xs) (suc at) d l t = subst (λ (ys : List StatementView). IsToldByDepth (get_or xs at d).path ys) (sym (drop_suc x xs at)) (told_at xs at d (omega (arith, l)) t.1)
 
-pub told_behind : (xs rest : List Stated) (at : ℕ) (d : Stated) → at < length xs → d ≡ get_or xs at d → rest ≡ drop (at + 1) xs → AreToldByDepth xs → IsToldByDepth d.path rest
+pub told_behind : (xs rest : List StatementView) (at : ℕ) (d : StatementView) → at < length xs → d ≡ get_or xs at d → rest ≡ drop (at + 1) xs → AreToldByDepth xs → IsToldByDepth d.path rest
 told_behind xs rest at d l is cut t =
-    subst (λ (ys : List Stated). IsToldByDepth d.path ys) (sym cut) (subst (λ (x : Stated). IsToldByDepth x.path (drop (at + 1) xs)) (sym is) (told_at xs at d l t))
+    subst (λ (ys : List StatementView). IsToldByDepth d.path ys) (sym cut) (subst (λ (x : StatementView). IsToldByDepth x.path (drop (at + 1) xs)) (sym is) (told_at xs at d l t))

@@ -15,7 +15,7 @@ use Rattle.group_expand.specs.Expansion.{Gift, gift_at}
 use Rattle.group_expand.specs.Front.{raw, front, applied_at, kept_at, steps_at}
 use Rattle.group_expand.specs.Listed.{entry_and, listed}
 use Rattle.group_expand.specs.Made.{with_order, order_of, given_at}
-use Rattle.group_expand.specs.Row.{Stated}
+use Rattle.group_expand.specs.Row.{StatementView}
 use Rattle.group_expand.specs.Node.{Node, children_of}
 use Rattle.group_expand.specs.Fronts.{front_of}
 use Rattle.group_expand.specs.Offer.{Offer, own_offer, offered}
@@ -69,7 +69,7 @@ module _ (look : Look) (kids : List Step → List Step) where
       by_test true k = (h.0, k)
       by_test false k = k
 
-own_of_run : (look : Look) (kids : List Step → List Step) (row : List Stated) (p : List Step) (s : Step)
+own_of_run : (look : Look) (kids : List Step → List Step) (row : List StatementView) (p : List Step) (s : Step)
     → own_of (run_at look kids row p s) ≡ cond (is_live look (p ++ s ∷ [])) (Some (node_at look row (p ++ s ∷ []))) None
 own_of_run look kids row p s = by_live (is_live look (p ++ s ∷ [])) (raw look kids (p ++ s ∷ []))
   where
@@ -80,7 +80,7 @@ own_of_run look kids row p s = by_live (is_live look (p ++ s ∷ [])) (raw look 
     by_live false (x ∷ xs) = refl
 
 -- a run's own node has the path of its step
-pub own_path : (row : List Stated) (p : List Step) (s : Step) (run : List Offer) (node : Node) → run ≡ run_at (look_of row) (kids_of row) row p s → Some node ≡ own_of run → node.path ≡ p ++ s ∷ []
+pub own_path : (row : List StatementView) (p : List Step) (s : Step) (run : List Offer) (node : Node) → run ≡ run_at (look_of row) (kids_of row) row p s → Some node ≡ own_of run → node.path ≡ p ++ s ∷ []
 own_path row p s run node is own = by_live (is_live (look_of row) (p ++ s ∷ [])) (own ∙ ap own_of is ∙ own_of_run (look_of row) (kids_of row) row p s)
   where
     path_or : Option Node → List Step
@@ -96,7 +96,7 @@ outside_more [] s t e = e
 outside_more (u ∷ p) s t e = e
 
 -- what a run gives, and a path that isn't there
-module _ (row : List Stated) (p : List Step) (s : Step) (run : List Offer) (path : List Step) (is : path ≡ p ++ s ∷ []) (run_is : run ≡ run_at (look_of row) (kids_of row) row p s)
+module _ (row : List StatementView) (p : List Step) (s : Step) (run : List Offer) (path : List Step) (is : path ≡ p ++ s ∷ []) (run_is : run ≡ run_at (look_of row) (kids_of row) row p s)
     (plain : is_plain (p ++ s ∷ []) ≡ true) where
   pub gift_is : run_gift path s run ≡ gift_at (look_of row) (kids_of row) (p ++ s ∷ [])
   gift_is = ap (λ (q : List Step). run_gift q s run) is ∙ ap (run_gift (p ++ s ∷ []) s) run_is ∙ gift_told (look_of row) (kids_of row) row p s plain
@@ -107,7 +107,7 @@ module _ (row : List Stated) (p : List Step) (s : Step) (run : List Offer) (path
       sym (append_nothing made)
       ∙ ap (λ (o : Option Gift). made ++ entry_and (p ++ s ∷ []) (option_map (with_order (order_of (look_of row) (kids_of row) (p ++ s ∷ []) (ordered_head (place_of (p ++ s ∷ []))))) o) (given_below row n (p ++ s ∷ []))) (e ∙ gift_is)
 
-module _ (row : List Stated) (h : IsRow row)
+module _ (row : List StatementView) (h : IsRow row)
     (tame : (p : List Step) (s : Step) → is_live (look_of row) (p ++ s ∷ []) ≡ true → is_outside (p ++ s ∷ []) ≡ true → is_wildcard s.name ≡ false) where
   abbrev L : Look
   L = look_of row
@@ -189,7 +189,7 @@ module _ (row : List Stated) (h : IsRow row)
           ∙ ap (λ (o : List (List ℕ)). Some (with_order o gift)) (sym order) ∙ ap Some (sym is_g)
 
 -- a path that is there, and all below it
-module _ (row : List Stated) (p : List Step) (s : Step) (path : List Step) (is : path ≡ p ++ s ∷ []) (n : ℕ) (g : Given) (given_there : given_at (look_of row) (kids_of row) path ≡ Some g) where
+module _ (row : List StatementView) (p : List Step) (s : Step) (path : List Step) (is : path ≡ p ++ s ∷ []) (n : ℕ) (g : Given) (given_there : given_at (look_of row) (kids_of row) path ≡ Some g) where
   some_is : (path, g) ∷ given_below row n path ≡ given_for row n p s
   some_is =
       ap (λ (q : List Step). (q, g) ∷ given_below row n q) is
@@ -210,7 +210,7 @@ module _ (row : List Stated) (p : List Step) (s : Step) (path : List Step) (is :
   one_wide made limit k = let b = ap (λ (xs : List (List Step × Given)). length xs) some_is in omega (arith, k, b)
 
 -- one level
-module _ (row : List Stated) (path : List Step) where
+module _ (row : List StatementView) (path : List Step) where
   pub nothing_below : (n : ℕ) → n ≡ 0 → given_below row n path ≡ []
   unfolding listed
   nothing_below n e = ap (λ (k : ℕ). given_below row k path) e
@@ -269,7 +269,7 @@ module _ (row : List Stated) (path : List Step) where
     pub run_plain : (left run rest : List Ranked) (step : IsRunStep level.plain left run rest) (s : Step) → s ≡ first_step left no_step → is_plain (path ++ s ∷ []) ≡ true
     run_plain left run rest step s e = ap (λ (t : Step). is_plain (path ++ t ∷ [])) (e ∙ step.ahead no_step) ∙ (run_right left run rest step).plain
 
-pub tame_row : (row : List Stated) → IsRow row → (p : List Step) (s : Step) → is_live (look_of row) (p ++ s ∷ []) ≡ true → is_outside (p ++ s ∷ []) ≡ true → is_wildcard s.name ≡ false
+pub tame_row : (row : List StatementView) → IsRow row → (p : List Step) (s : Step) → is_live (look_of row) (p ++ s ∷ []) ≡ true → is_outside (p ++ s ∷ []) ≡ true → is_wildcard s.name ≡ false
 tame_row row h p s live outside = tree_tame (map_of row) h.tree p s (there (look_of row (p ++ s ∷ [])) (both (is_live (look_of row) p) _ (sym (live_more (look_of row) p s) ∙ live)).1) outside
   where
     there : (o : Option Value) → is_active o ≡ true → IsSome o
@@ -277,7 +277,7 @@ tame_row row h p s live outside = tree_tame (map_of row) h.tree p s (there (look
     there (Some v) e = refl
 
 -- the level of the top
-pub top_level_is : (row : List Stated) → IsRow row → (own : List Node) (level : Level) (top : List Step) → top ≡ [] → own ≡ kids_at (look_of row) (kids_of row) row []
+pub top_level_is : (row : List StatementView) → IsRow row → (own : List Node) (level : Level) (top : List Step) → top ≡ [] → own ≡ kids_at (look_of row) (kids_of row) row []
     → IsLevel (offered own (front_of (kids_at (look_of row) (kids_of row) row (groups_step ∷ [])) top own [])) level → IsLevelAt (look_of row) (kids_of row) row [] level
 top_level_is row h own level top none e made =
     level_at (look_of row) (kids_of row) row (once_at row) [] refl

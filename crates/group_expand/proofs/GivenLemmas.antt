@@ -16,7 +16,7 @@ use Rattle.group_expand.specs.Live.{Look, is_active, is_live, live_from, words_o
 use Rattle.group_expand.specs.Sources as given
 use Rattle.group_expand.specs.Sources.{same_step, groups_step, apply_step, except_step, has_word, fits_wildcard, fitting_below, fitting_from, fitting, live_ones, applied, excepted}
 use Rattle.group_expand.specs.Front.{raw, front, applied_at, kept_at, live_kids}
-use Rattle.group_expand.specs.Row.{Stated}
+use Rattle.group_expand.specs.Row.{StatementView}
 use Rattle.group_expand.specs.Node.{Node, children_of}
 use Rattle.group_expand.specs.Fitting.{exact, wild, fits_of, down, fitting_of}
 use Rattle.group_expand.specs.Offer.{Source, Offer, own_offer}
@@ -53,7 +53,7 @@ find_first {X} t (x ∷ xs) = by_test (t x) (find_first t xs)
     by_test true e = refl
     by_test false e = e
 
-module _ (look : Look) (kids : List Step → List Step) (row : List Stated)
+module _ (look : Look) (kids : List Step → List Step) (row : List StatementView)
     (once : (q : List Step) (s : Step) → filter (eq_by_cmp step_cmp s) (kids q) ≡ step_if (is_some (look (q ++ s ∷ []))) s)
     (below : (q : List Step) → is_live look q ≡ true → children_of (node_at look row q) ≡ kids_at look kids row q) where
   abbrev at : List Step → Node

@@ -16,7 +16,7 @@ use Rattle.group_expand.specs.Live.{Look, is_live}
 use Rattle.group_expand.specs.Sources as given
 use Rattle.group_expand.specs.Sources.{is_wildcard, is_plain}
 use Rattle.group_expand.specs.Front.{front, live_kids, sorted, steps_at}
-use Rattle.group_expand.specs.Row.{Stated}
+use Rattle.group_expand.specs.Row.{StatementView}
 use Rattle.group_expand.specs.Node.{Node, children_of}
 use Rattle.group_expand.specs.Offer.{Source, Offer, own_offer, node_offer, has_wildcard, plain_offers, wild_offers, offers_of, offered, is_for, is_wild}
 use Rattle.group_expand.specs.Level.{Ranked, Level, with_ranks, is_wild_at, is_unmatched, is_at, Climbs, IsLevel}
@@ -150,7 +150,7 @@ plain_more p s plain tame = ap not (none p (back (list_any (λ (t : Step). is_wi
         by_test true e go = cc
         by_test false e go = go e
 
-module _ (look : Look) (kids : List Step → List Step) (row : List Stated)
+module _ (look : Look) (kids : List Step → List Step) (row : List StatementView)
     (once : (q : List Step) (s : Step) → filter (eq_by_cmp step_cmp s) (kids q) ≡ step_if (is_some (look (q ++ s ∷ []))) s) where
   abbrev at : List Step → Node
   at q = node_at look row q

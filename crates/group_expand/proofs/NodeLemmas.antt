@@ -12,7 +12,7 @@ use Rattle.cfg_base.specs.declared.path.Step.{Step}
 use Rattle.cfg_tree.specs.Children.{is_inside, is_child}
 use Rattle.cfg_tree.proofs.MapLemmas.{same_step}
 use Rattle.cfg_tree.proofs.BelowLemmas.{below_le, below_self}
-use Rattle.group_expand.specs.Row.{Stated, is_under, Counted, AreBehind, Ordered, path_in, below_of, beside_of}
+use Rattle.group_expand.specs.Row.{StatementView, is_under, Counted, AreBehind, Ordered, path_in, below_of, beside_of}
 use Rattle.group_expand.specs.Node.{Node, inside_of, AreInside, node_of, is_live_child, begins_live, FirstNode, first_child, live_children, IsPart}
 use Rattle.group_expand.proofs.ClosedLemmas.{both}
 use Rattle.group_expand.proofs.RowLemmas.{below_trans, beside_kept}
@@ -81,7 +81,7 @@ under_longer p q less h = by_order (nat_lt (length p) (length q)) refl
         in absurd (less_apart p q less (subst (λ (r : List Step). is_below r p ≡ true) same (below_self p)))
 
 -- after a path, what is below it is inside it
-pub inside_behind : (p : List Step) (xs : List Stated) → AreBehind p xs → inside_of p xs ≡ filter (is_under p) xs
+pub inside_behind : (p : List Step) (xs : List StatementView) → AreBehind p xs → inside_of p xs ≡ filter (is_under p) xs
 inside_behind p [] h = refl
 inside_behind p (x ∷ xs) h = by_test (is_below p x.path) refl (inside_behind p xs h.1)
   where
@@ -89,7 +89,7 @@ inside_behind p (x ∷ xs) h = by_test (is_below p x.path) refl (inside_behind p
         → cond (b && nat_lt (length p) (length x.path)) (x ∷ inside_of p xs) (inside_of p xs) ≡ cond b (x ∷ filter (is_under p) xs) (filter (is_under p) xs)
     by_test true e go =
         ap (λ (c : Bool). cond c (x ∷ inside_of p xs) (inside_of p xs)) (lt_is _ _ (under_longer p x.path h.0 e))
-        ∙ ap (λ (ys : List Stated). x ∷ ys) go
+        ∙ ap (λ (ys : List StatementView). x ∷ ys) go
     by_test false e go = go
 
 too_long : (above path : List Step) → length above + 1 < length path → is_child above path ≡ false
@@ -130,10 +130,10 @@ all_kept P t (x ∷ xs) h = by_test (t x) (all_kept P t xs h.1)
     by_test false k = k
 
 -- what is left has its parts whole
-abbrev pub AreWhole : List Stated → List Stated → Type 0
+abbrev pub AreWhole : List StatementView → List StatementView → Type 0
 AreWhole below left = AllByRecursion (λ y. inside_of y.path below ≡ inside_of y.path left) left
 
-module _ (x : Stated) (xs : List Stated) (behind : AreBehind x.path xs) where
+module _ (x : StatementView) (xs : List StatementView) (behind : AreBehind x.path xs) where
   -- a hop leaves the part of each statement that isn't hopped over
   hop_whole : (y : List Step) → path_cmp x.path y ≡ Less → is_below x.path y ≡ false → inside_of y (x ∷ xs) ≡ inside_of y (filter (λ z. not (is_under x.path z)) xs)
   hop_whole y less apart =
@@ -152,7 +152,7 @@ module _ (x : Stated) (xs : List Stated) (behind : AreBehind x.path xs) where
   hop_children : (above : List Step) → is_inside above x.path ≡ true → filter (is_live_child above) xs ≡ filter (is_live_child above) (filter (λ z. not (is_under x.path z)) xs)
   hop_children above inside = filter_left (is_live_child above) (is_under x.path) xs (deeper xs behind)
     where
-      deeper : (ys : List Stated) → AreBehind x.path ys → AllByRecursion (λ y. is_under x.path y ≡ true → is_live_child above y ≡ false) ys
+      deeper : (ys : List StatementView) → AreBehind x.path ys → AllByRecursion (λ y. is_under x.path y ≡ true → is_live_child above y ≡ false) ys
       deeper [] b = tt
       deeper (y ∷ ys) b = (
         (λ e. ap (λ (t : Bool). t && not y.value.inactive)
@@ -161,28 +161,28 @@ module _ (x : Stated) (xs : List Stated) (behind : AreBehind x.path xs) where
       )
 
   -- what the first statement brings
-  pub first_more : (below : List Stated) (above : List Step) (node : Node) → is_inside above x.path ≡ true → AreWhole below (x ∷ xs) → FirstNode (x ∷ xs) node → node_of below x ≡ node
+  pub first_more : (below : List StatementView) (above : List Step) (node : Node) → is_inside above x.path ≡ true → AreWhole below (x ∷ xs) → FirstNode (x ∷ xs) node → node_of below x ≡ node
   first_more below above node inside whole first =
-      ap (λ (ys : List Stated). record { path = x.path; value = x.value; below = ys })
+      ap (λ (ys : List StatementView). record { path = x.path; value = x.value; below = ys })
       (whole.0 ∙ ap (λ (b : Bool). cond b (x ∷ inside_of x.path xs) (inside_of x.path xs)) (not_inside_itself x.path x.path (below_self x.path)) ∙ inside_behind x.path xs behind)
       ∙ sym first
 
 -- how far the walk has come
-pub record IsOnWay (above : List Step) (below left : List Stated) (met : List Node) : Type 0 where
+pub record IsOnWay (above : List Step) (below left : List StatementView) (met : List Node) : Type 0 where
   pub met_all : met ++ map (node_of below) (filter (is_live_child above) left) ≡ live_children above below
   pub counted : Counted left
   pub ordered : Ordered left
   pub inside : AreInside above left
   pub whole : AreWhole below left
 
-module _ (above : List Step) (below : List Stated) where
+module _ (above : List Step) (below : List StatementView) where
   pub way_begins : Counted below → Ordered below → AreInside above below → IsOnWay above below below []
   way_begins c o i = record { met_all = refl; counted = c; ordered = o; inside = i; whole = all_of _ (λ y. refl) below }
 
-  hop_all : (x : Stated) (xs : List Stated) → AreBehind x.path xs → AreWhole below (x ∷ xs) → AreWhole below (filter (λ z. not (is_under x.path z)) xs)
+  hop_all : (x : StatementView) (xs : List StatementView) → AreBehind x.path xs → AreWhole below (x ∷ xs) → AreWhole below (filter (λ z. not (is_under x.path z)) xs)
   hop_all x xs behind whole = each xs behind whole.1
     where
-      each : (ys : List Stated) → AreBehind x.path ys → AllByRecursion (λ y. inside_of y.path below ≡ inside_of y.path (x ∷ xs)) ys
+      each : (ys : List StatementView) → AreBehind x.path ys → AllByRecursion (λ y. inside_of y.path below ≡ inside_of y.path (x ∷ xs)) ys
           → AllByRecursion (λ y. inside_of y.path below ≡ inside_of y.path (filter (λ z. not (is_under x.path z)) xs)) (filter (λ z. not (is_under x.path z)) ys)
       each [] b h = tt
       each (y ∷ ys) b h = by_test (is_under x.path y) refl (each ys b.1 h.1)
@@ -194,18 +194,18 @@ module _ (above : List Step) (below : List Stated) where
           by_test false e go = (h.0 ∙ hop_whole x xs behind y.path b.0 e, go)
 
   -- one statement more is met
-  pub way_on : (left next : List Stated) (met : List Node) (node : Node) → IsOnWay above below left met → 0 < length left → begins_live above left ≡ true → FirstNode left node
+  pub way_on : (left next : List StatementView) (met : List Node) (node : Node) → IsOnWay above below left met → 0 < length left → begins_live above left ≡ true → FirstNode left node
       → next ≡ beside_of left → IsOnWay above below next (met ++ node ∷ [])
   way_on [] next met node way some live first e = absurd first
   way_on (x ∷ xs) next met node way some live first e =
-      subst (λ (ys : List Stated). IsOnWay above below ys (met ++ node ∷ [])) (sym e)
+      subst (λ (ys : List StatementView). IsOnWay above below ys (met ++ node ∷ [])) (sym e)
       (let kept = beside_kept (x ∷ xs) some way.counted way.ordered in let o = way.ordered in let i = way.inside
       in record {
         met_all = append_assoc met (node ∷ []) _
             ∙ ap (λ (ns : List Node). met ++ ns)
             (sym (ap (λ (b : Bool). map (node_of below) (cond b (x ∷ filter (is_live_child above) xs) (filter (is_live_child above) xs))) live
             ∙ ap (λ (n : Node). n ∷ map (node_of below) (filter (is_live_child above) xs)) (first_more x xs o.0 below above node i.0 way.whole first)
-            ∙ ap (λ (ys : List Stated). node ∷ map (node_of below) ys) (hop_children x xs o.0 above i.0)))
+            ∙ ap (λ (ys : List StatementView). node ∷ map (node_of below) ys) (hop_children x xs o.0 above i.0)))
             ∙ way.met_all;
         counted = kept.0;
         ordered = kept.1;
@@ -214,16 +214,16 @@ module _ (above : List Step) (below : List Stated) where
       })
 
   -- one is passed over
-  pub way_past : (left next : List Stated) (met : List Node) → IsOnWay above below left met → 0 < length left → begins_live above left ≡ false
+  pub way_past : (left next : List StatementView) (met : List Node) → IsOnWay above below left met → 0 < length left → begins_live above left ≡ false
       → next ≡ beside_of left → IsOnWay above below next met
   way_past [] next met way some live e = absurd (omega (arith, some))
   way_past (x ∷ xs) next met way some live e =
-      subst (λ (ys : List Stated). IsOnWay above below ys met) (sym e)
+      subst (λ (ys : List StatementView). IsOnWay above below ys met) (sym e)
       (let kept = beside_kept (x ∷ xs) some way.counted way.ordered in let o = way.ordered in let i = way.inside
       in record {
         met_all = ap (λ (ns : List Node). met ++ ns)
             (sym (ap (λ (b : Bool). map (node_of below) (cond b (x ∷ filter (is_live_child above) xs) (filter (is_live_child above) xs))) live
-            ∙ ap (λ (ys : List Stated). map (node_of below) ys) (hop_children x xs o.0 above i.0)))
+            ∙ ap (λ (ys : List StatementView). map (node_of below) ys) (hop_children x xs o.0 above i.0)))
             ∙ way.met_all;
         counted = kept.0;
         ordered = kept.1;
@@ -231,31 +231,31 @@ module _ (above : List Step) (below : List Stated) where
         whole = hop_all x xs o.0 way.whole;
       })
 
-  pub way_ends : (left : List Stated) (met : List Node) → IsOnWay above below left met → length left ≡ 0 → met ≡ live_children above below
+  pub way_ends : (left : List StatementView) (met : List Node) → IsOnWay above below left met → length left ≡ 0 → met ≡ live_children above below
   way_ends [] met way e = sym (append_nothing met) ∙ way.met_all
   way_ends (x ∷ xs) met way e = absurd (omega (arith, e))
 
 -- the part of a statement has its sizes too
-counted_under : (p : List Step) (xs : List Stated) → Counted xs → Counted (filter (is_under p) xs)
+counted_under : (p : List Step) (xs : List StatementView) → Counted xs → Counted (filter (is_under p) xs)
 counted_under p [] h = tt
 counted_under p (x ∷ xs) h = by_test (is_under p x) refl (counted_under p xs h.1)
   where
-    kept : is_below p x.path ≡ true → (ys : List Stated) → filter (is_under x.path) (filter (is_under p) ys) ≡ filter (is_under x.path) ys
+    kept : is_below p x.path ≡ true → (ys : List StatementView) → filter (is_under x.path) (filter (is_under p) ys) ≡ filter (is_under x.path) ys
     kept e [] = refl
     kept e (y ∷ ys) = by_tests (is_under p y) (is_under x.path y) refl refl (kept e ys)
       where
         by_tests : (a b : Bool) → is_under p y ≡ a → is_under x.path y ≡ b → filter (is_under x.path) (filter (is_under p) ys) ≡ filter (is_under x.path) ys
             → filter (is_under x.path) (cond a (y ∷ filter (is_under p) ys) (filter (is_under p) ys)) ≡ cond b (y ∷ filter (is_under x.path) ys) (filter (is_under x.path) ys)
-        by_tests true b m k go = ap (λ (t : Bool). cond t (y ∷ filter (is_under x.path) (filter (is_under p) ys)) (filter (is_under x.path) (filter (is_under p) ys))) k ∙ ap (λ (zs : List Stated). cond b (y ∷ zs) zs) go
+        by_tests true b m k go = ap (λ (t : Bool). cond t (y ∷ filter (is_under x.path) (filter (is_under p) ys)) (filter (is_under x.path) (filter (is_under p) ys))) k ∙ ap (λ (zs : List StatementView). cond b (y ∷ zs) zs) go
         by_tests false true m k go = let c = sym m ∙ below_trans p x.path y.path e k in cc
         by_tests false false m k go = go
 
     by_test : (b : Bool) → is_under p x ≡ b → Counted (filter (is_under p) xs) → Counted (cond b (x ∷ filter (is_under p) xs) (filter (is_under p) xs))
-    by_test true e go = (h.0 ∙ ap (λ (ys : List Stated). length ys + 1) (sym (kept e xs)), go)
+    by_test true e go = (h.0 ∙ ap (λ (ys : List StatementView). length ys + 1) (sym (kept e xs)), go)
     by_test false e go = go
 
 -- what is left of a row is in order
-pub ordered_kept : (t : Stated → Bool) (xs : List Stated) → Ordered xs → Ordered (filter t xs)
+pub ordered_kept : (t : StatementView → Bool) (xs : List StatementView) → Ordered xs → Ordered (filter t xs)
 ordered_kept t [] h = tt
 ordered_kept t (x ∷ xs) h = by_test (t x) (ordered_kept t xs h.1)
   where
@@ -263,7 +263,7 @@ ordered_kept t (x ∷ xs) h = by_test (t x) (ordered_kept t xs h.1)
     by_test true go = (all_kept (λ y. path_cmp x.path y.path ≡ Less) t xs h.0, go)
     by_test false go = go
 
-inside_under : (p : List Step) (xs : List Stated) → AreBehind p xs → AreInside p (filter (is_under p) xs)
+inside_under : (p : List Step) (xs : List StatementView) → AreBehind p xs → AreInside p (filter (is_under p) xs)
 inside_under p [] h = tt
 inside_under p (x ∷ xs) h = by_test (is_under p x) refl (inside_under p xs h.1)
   where
@@ -274,7 +274,7 @@ inside_under p (x ∷ xs) h = by_test (is_under p x) refl (inside_under p xs h.1
     )
     by_test false e go = go
 
-pub part_of_first : (xs : List Stated) → 0 < length xs → 0 < length (path_in xs) → Counted xs → Ordered xs → IsPart (path_in xs) (below_of xs)
+pub part_of_first : (xs : List StatementView) → 0 < length xs → 0 < length (path_in xs) → Counted xs → Ordered xs → IsPart (path_in xs) (below_of xs)
 part_of_first [] some long c o = absurd (omega (arith, some))
 part_of_first (x ∷ xs) some long c o = record {
   long = long;
@@ -283,16 +283,16 @@ part_of_first (x ∷ xs) some long c o = record {
   inside = inside_under x.path xs o.0;
 }
 
-pub first_long : (above : List Step) (xs : List Stated) → 0 < length xs → AreInside above xs → 0 < length (path_in xs)
+pub first_long : (above : List Step) (xs : List StatementView) → 0 < length xs → AreInside above xs → 0 < length (path_in xs)
 first_long above [] some i = absurd (omega (arith, some))
 first_long above (x ∷ xs) some i = let k = inside_longer above x.path i.0 in omega (arith, k)
 
-pub first_path : (xs : List Stated) (x : Stated) → 0 < length xs → x ≡ get_or xs 0 x → x.path ≡ path_in xs
+pub first_path : (xs : List StatementView) (x : StatementView) → 0 < length xs → x ≡ get_or xs 0 x → x.path ≡ path_in xs
 first_path [] x some e = absurd (omega (arith, some))
-first_path (y ∷ xs) x some e = ap (λ (z : Stated). z.path) e
+first_path (y ∷ xs) x some e = ap (λ (z : StatementView). z.path) e
 
 -- the first statement as a node, where it is live and right below a path
-pub first_is : (above : List Step) (xs : List Stated) (node : Node) → Counted xs → Ordered xs → AreInside above xs → begins_live above xs ≡ true → FirstNode xs node
+pub first_is : (above : List Step) (xs : List StatementView) (node : Node) → Counted xs → Ordered xs → AreInside above xs → begins_live above xs ≡ true → FirstNode xs node
     → node ∷ [] ≡ first_child above xs
 first_is above [] node c o i live first = absurd first
 first_is above (x ∷ xs) node c o i live first =

@@ -16,7 +16,7 @@ use Rattle.group_expand.specs.Sources.{same_step, apply_step, except_step, is_ou
 use Rattle.group_expand.specs.Expansion.{Gift, is_apply, is_own, first_gift, gift_at}
 use Rattle.group_expand.specs.Front.{raw, live_kids, steps_at}
 use Rattle.group_expand.specs.Made.{order_of}
-use Rattle.group_expand.specs.Row.{Stated}
+use Rattle.group_expand.specs.Row.{StatementView}
 use Rattle.group_expand.specs.Node.{Node}
 use Rattle.group_expand.specs.Offer.{Offer, own_offer}
 use Rattle.group_expand.specs.Level.{Level, is_at}
@@ -39,7 +39,7 @@ apply_last : (p : List Step) (s : Step) → is_apply (p ++ s ∷ []) ≡ is_appl
 apply_last [] s = ap is_apply_step (last_is [] s)
 apply_last (t ∷ p) s = ap is_apply_step (last_is (t ∷ p) s)
 
-module _ (look : Look) (kids : List Step → List Step) (row : List Stated) where
+module _ (look : Look) (kids : List Step → List Step) (row : List StatementView) where
   abbrev at : List Step → Node
   at q = node_at look row q
 

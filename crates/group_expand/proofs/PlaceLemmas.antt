@@ -10,7 +10,7 @@ use Rattle.cfg_tree.proofs.TypedLemmas.{place_snoc}
 use Rattle.group_expand.specs.Node.{Node}
 use Rattle.group_expand.specs.Level.{Ranked, Level}
 use Rattle.group_expand.specs.Runs.{order_for}
-use Rattle.group_expand.specs.Row.{Stated}
+use Rattle.group_expand.specs.Row.{StatementView}
 use Rattle.group_expand.specs.Placed.{given_for}
 use Rattle.group_expand.proofs.WalkLemmas.{nothing_ordered}
 
@@ -41,7 +41,7 @@ longer path p s is = let k = length-append p (s ∷ []) in let l = ap (λ (q : L
 pub ends : (path p : List Step) (s : Step) → path ≡ p ++ s ∷ [] → (p ≡ parent_of path) × (s ≡ last_of path)
 ends path p s is = same_ends p (parent_of path) s (last_of path) (sym is ∙ split path (longer path p s is))
 
-pub given_by_ends : (row : List Stated) (n : ℕ) (path p : List Step) (s : Step) → path ≡ p ++ s ∷ [] → given_for row n (parent_of path) (last_of path) ≡ given_for row n p s
+pub given_by_ends : (row : List StatementView) (n : ℕ) (path p : List Step) (s : Step) → path ≡ p ++ s ∷ [] → given_for row n (parent_of path) (last_of path) ≡ given_for row n p s
 given_by_ends row n path p s is =
     let e = ends path p s is
     in ap (λ (q : List Step). given_for row n q (last_of path)) (sym e.0) ∙ ap (λ (t : Step). given_for row n p t) (sym e.1)

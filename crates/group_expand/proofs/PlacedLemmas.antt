@@ -17,7 +17,7 @@ use Rattle.cfg_tree.specs.Statements.{last_of}
 use Rattle.cfg_tree.specs.Children.{is_inside, is_child, steps_below}
 use Rattle.cfg_tree.proofs.MapLemmas.{same_path, same_step, entries_is}
 use Rattle.group_expand.specs.Live.{Look, is_active, live_from, is_live}
-use Rattle.group_expand.specs.Row.{Stated, AreBehind, Ordered, pairs_of}
+use Rattle.group_expand.specs.Row.{StatementView, AreBehind, Ordered, pairs_of}
 use Rattle.group_expand.specs.Node.{Node, inside_of, node_of, is_live_child, live_children}
 use Rattle.group_expand.specs.Placed.{map_of, value_in, node_at, kids_at}
 use Rattle.group_expand.proofs.ClosedLemmas.{both}
@@ -95,27 +95,27 @@ all_pass t [] h = refl
 all_pass {X} t (x ∷ xs) h = ap (λ (b : Bool). cond b (x ∷ filter t xs) (filter t xs)) h.0 ∙ ap (λ (ys : List X). x ∷ ys) (all_pass t xs h.1)
 
 -- what the map of a row has at the path of a statement
-pub sorted_pairs : (row : List Stated) → Ordered row → IsStrictlySortedBy path_cmp (keys_of (pairs_of row))
+pub sorted_pairs : (row : List StatementView) → Ordered row → IsStrictlySortedBy path_cmp (keys_of (pairs_of row))
 unfolding IsStrictlySortedBy
 sorted_pairs [] h = tt
 sorted_pairs (x ∷ xs) h = (behind xs h.0, sorted_pairs xs h.1)
   where
-    behind : (ys : List Stated) → AreBehind x.path ys → AllByRecursion (λ k. path_cmp x.path k ≡ Less) (keys_of (pairs_of ys))
+    behind : (ys : List StatementView) → AreBehind x.path ys → AllByRecursion (λ k. path_cmp x.path k ≡ Less) (keys_of (pairs_of ys))
     behind [] b = tt
     behind (y ∷ ys) b = (b.0, behind ys b.1)
 
-pub entries_of_row : (row : List Stated) → Ordered row → finite.entries (map_of row) ≡ pairs_of row
+pub entries_of_row : (row : List StatementView) → Ordered row → finite.entries (map_of row) ≡ pairs_of row
 entries_of_row row h = entries_is (pairs_of row) (sorted_pairs row h)
 
-abbrev IsThere : Look → Stated → Type 0
+abbrev IsThere : Look → StatementView → Type 0
 IsThere look x = look x.path ≡ Some x.value
 
-found_all : (row : List Stated) → Ordered row → AllByRecursion (λ x. find path_cmp x.path (pairs_of row) ≡ Some x.value) row
+found_all : (row : List StatementView) → Ordered row → AllByRecursion (λ x. find path_cmp x.path (pairs_of row) ≡ Some x.value) row
 found_all [] h = tt
 found_all (y ∷ ys) h =
     (ap (λ (b : Bool). cond b (Some y.value) (find path_cmp y.path (pairs_of ys))) ((same_path y.path y.path).1 refl), later ys h.0 (found_all ys h.1))
   where
-    later : (zs : List Stated) → AreBehind y.path zs → AllByRecursion (λ x. find path_cmp x.path (pairs_of ys) ≡ Some x.value) zs
+    later : (zs : List StatementView) → AreBehind y.path zs → AllByRecursion (λ x. find path_cmp x.path (pairs_of ys) ≡ Some x.value) zs
         → AllByRecursion (λ x. find path_cmp x.path (pairs_of (y ∷ ys)) ≡ Some x.value) zs
     later [] b k = tt
     later (z ∷ zs) b k = (
@@ -124,32 +124,32 @@ found_all (y ∷ ys) h =
       later zs b.1 k.1,
     )
 
-pub row_there : (row : List Stated) → Ordered row → AllByRecursion (IsThere (finite.get (map_of row))) row
+pub row_there : (row : List StatementView) → Ordered row → AllByRecursion (IsThere (finite.get (map_of row))) row
 row_there row h = each row (found_all row h)
   where
-    each : (xs : List Stated) → AllByRecursion (λ x. find path_cmp x.path (pairs_of row) ≡ Some x.value) xs → AllByRecursion (IsThere (finite.get (map_of row))) xs
+    each : (xs : List StatementView) → AllByRecursion (λ x. find path_cmp x.path (pairs_of row) ≡ Some x.value) xs → AllByRecursion (IsThere (finite.get (map_of row))) xs
     each [] k = tt
     each (x ∷ xs) k = (finite.get-from_entries paths_total (pairs_of row) x.path ∙ k.0, each xs k.1)
 
 -- the live children, stated by nodes of the whole row
-module _ (look : Look) (row : List Stated) (q : List Step) (live : is_live look q ≡ true) where
-  child_live : (x : Stated) → IsThere look x → is_child q x.path ≡ true → is_live look (q ++ last_of x.path ∷ []) ≡ not x.value.inactive
+module _ (look : Look) (row : List StatementView) (q : List Step) (live : is_live look q ≡ true) where
+  child_live : (x : StatementView) → IsThere look x → is_child q x.path ≡ true → is_live look (q ++ last_of x.path ∷ []) ≡ not x.value.inactive
   child_live x there child =
       live_more look q (last_of x.path)
       ∙ ap (λ (b : Bool). b && is_active (look (q ++ last_of x.path ∷ []))) live
       ∙ ap (λ (p : List Step). is_active (look p)) (sym (child_split q x.path child))
       ∙ ap is_active there
 
-  whole_child : (x : Stated) → is_child q x.path ≡ true → inside_of x.path (inside_of q row) ≡ inside_of x.path row
+  whole_child : (x : StatementView) → is_child q x.path ≡ true → inside_of x.path (inside_of q row) ≡ inside_of x.path row
   whole_child x child = filter_within (λ y. is_inside x.path y.path) (λ y. is_inside q y.path) row (λ y h. inside_trans q x.path y.path (child_inside q x.path child) h)
 
-  abbrev rest_steps : List Stated → List Step
+  abbrev rest_steps : List StatementView → List Step
   rest_steps ys = map last_of (filter (is_child q) (map (λ y. y.path) ys))
 
   abbrev placed : List Step → List Node
   placed ss = map (λ s. node_at look row (q ++ s ∷ [])) ss
 
-  each_child : (xs : List Stated) → AllByRecursion (IsThere look) xs
+  each_child : (xs : List StatementView) → AllByRecursion (IsThere look) xs
       → map (node_of (inside_of q row)) (filter (is_live_child q) xs)
       ≡ map (λ s. node_at look row (q ++ s ∷ [])) (filter (λ s. is_live look (q ++ s ∷ [])) (map last_of (filter (is_child q) (map (λ x. x.path) xs))))
   each_child [] h = refl
@@ -157,7 +157,7 @@ module _ (look : Look) (row : List Stated) (q : List Step) (live : is_live look 
     where
       here : is_child q x.path ≡ true → node_of (inside_of q row) x ≡ node_at look row (q ++ last_of x.path ∷ [])
       here child =
-          ap (λ (ys : List Stated). record { path = x.path; value = x.value; below = ys }) (whole_child x child)
+          ap (λ (ys : List StatementView). record { path = x.path; value = x.value; below = ys }) (whole_child x child)
           ∙ ap (λ (v : Value). record { path = x.path; value = v; below = inside_of x.path row }) (sym (ap value_in h.0))
           ∙ ap (node_at look row) (child_split q x.path child)
 
@@ -176,18 +176,18 @@ module _ (look : Look) (row : List Stated) (q : List Step) (live : is_live look 
           (sym (child_live x h.0 e ∙ f))
       by_tests false b e f go = go
 
-pub paths_of_row : (row : List Stated) → Ordered row → finite.keys (map_of row) ≡ map (λ x. x.path) row
+pub paths_of_row : (row : List StatementView) → Ordered row → finite.keys (map_of row) ≡ map (λ x. x.path) row
 paths_of_row row h = ap (λ (es : List (Pair Value)). map (λ (e : Pair Value). e.0) es) (entries_of_row row h) ∙ firsts row
   where
-    firsts : (xs : List Stated) → map (λ (e : Pair Value). e.0) (pairs_of xs) ≡ map (λ (x : Stated). x.path) xs
+    firsts : (xs : List StatementView) → map (λ (e : Pair Value). e.0) (pairs_of xs) ≡ map (λ (x : StatementView). x.path) xs
     firsts [] = refl
     firsts (x ∷ xs) = ap (λ (ps : List (List Step)). x.path ∷ ps) (firsts xs)
 
 -- the live children of a live path, as the code meets them
-pub children_at : (row : List Stated) (q : List Step) → Ordered row → is_live (finite.get (map_of row)) q ≡ true
+pub children_at : (row : List StatementView) (q : List Step) → Ordered row → is_live (finite.get (map_of row)) q ≡ true
     → live_children q (inside_of q row) ≡ kids_at (finite.get (map_of row)) (steps_below (map_of row)) row q
 children_at row q h live =
-    ap (λ (xs : List Stated). map (node_of (inside_of q row)) xs)
+    ap (λ (xs : List StatementView). map (node_of (inside_of q row)) xs)
     (filter_within (is_live_child q) (λ x. is_inside q x.path) row (λ x k. child_inside q x.path (both _ _ k).0))
     ∙ each_child (finite.get (map_of row)) row q live row (row_there row h)
     ∙ ap (λ (ks : List (List Step)). map (λ s. node_at (finite.get (map_of row)) row (q ++ s ∷ []))

@@ -14,7 +14,7 @@ use Rattle.group_expand.specs.Sources as given
 use Rattle.glob_name.specs.Glob.{glob}
 use Rattle.group_expand.specs.Sources.{inner_of, is_wildcard, fits_wildcard, fitting_below, live_ones}
 use Rattle.group_expand.specs.Front.{grown, front, live_kids}
-use Rattle.group_expand.specs.Row.{Stated}
+use Rattle.group_expand.specs.Row.{StatementView}
 use Rattle.group_expand.specs.Node.{Node, children_of}
 use Rattle.group_expand.specs.Offer.{Source, Offer, own_offer, group_offer, node_offer, offer_for, has_wildcard, plain_offers, wild_offers, offers_of, offered, is_for}
 use Rattle.group_expand.specs.Placed.{node_at, kids_at, offer_at, run_at}
@@ -25,10 +25,10 @@ use Rattle.group_expand.proofs.ListLemmas.{filter_map, filter_swap, flat_same_al
 use Rattle.group_expand.proofs.RankLemmas.{picked}
 
 -- a source as a node of the row
-abbrev pub placed : Look → List Stated → given.Source → Source
+abbrev pub placed : Look → List StatementView → given.Source → Source
 placed look row x = record { group = x.group; node = node_at look row x.from }
 
-module _ (look : Look) (kids : List Step → List Step) (row : List Stated)
+module _ (look : Look) (kids : List Step → List Step) (row : List StatementView)
     (once : (q : List Step) (s : Step) → filter (eq_by_cmp step_cmp s) (kids q) ≡ step_if (is_some (look (q ++ s ∷ []))) s) where
   abbrev at : List Step → Node
   at q = node_at look row q

@@ -15,7 +15,7 @@ use Rattle.cfg_tree.specs.Children.{is_inside, is_child}
 use Rattle.cfg_tree.proofs.MapLemmas as maps
 use Rattle.cfg_tree.proofs.MapLemmas.{word_same, is_equal, ties_decide}
 use Rattle.group_expand.specs.Sources.{same_step, is_wildcard, fits_wildcard}
-use Rattle.group_expand.specs.Row.{Stated, AreBehind, Ordered}
+use Rattle.group_expand.specs.Row.{StatementView, AreBehind, Ordered}
 use Rattle.group_expand.specs.Node.{Node, AreInside, node_of, is_live_child, live_children, children_of, first_child, IsPart}
 use Rattle.group_expand.specs.Fitting.{exact, wild, wildcards_of}
 use Rattle.group_expand.specs.Cut.{comes_before, is_earlier, is_before, before_of, from_of}
@@ -45,12 +45,12 @@ none_between (u ∷ above) (t ∷ p) s h l less e =
     in let equal : step_cmp t u ≡ Equal = is_equal _ ((maps.same_step t u).1 (sym ut))
     in none_between above p s a.1 (omega (arith, l)) (sym (ap (λ (o : Ordering). ordering_then o (path_cmp p (above ++ s ∷ []))) equal) ∙ less) e
 
-module _ (above : List Step) (bound : Step) (zs : List Stated) where
-  abbrev kids : List Stated → List Node
+module _ (above : List Step) (bound : Step) (zs : List StatementView) where
+  abbrev kids : List StatementView → List Node
   kids ys = map (node_of zs) (filter (is_live_child above) ys)
 
   -- of what isn't before a step, only the first can have it
-  only_first : (x : Stated) → is_inside above x.path ≡ true → is_before above bound x ≡ false → (ys : List Stated) → AreBehind x.path ys → exact bound (kids ys) ≡ []
+  only_first : (x : StatementView) → is_inside above x.path ≡ true → is_before above bound x ≡ false → (ys : List StatementView) → AreBehind x.path ys → exact bound (kids ys) ≡ []
   only_first x h e [] b = refl
   only_first x h e (y ∷ ys) b = by_live (is_live_child above y) refl (only_first x h e ys b.1)
     where
@@ -67,7 +67,7 @@ module _ (above : List Step) (bound : Step) (zs : List Stated) where
       by_live false k go = go
 
 module _ (above : List Step) (bound : Step) where
-  first_alone : (xs : List Stated) → Ordered xs → AreInside above xs → AllByRecursion (λ x. is_before above bound x ≡ false) xs
+  first_alone : (xs : List StatementView) → Ordered xs → AreInside above xs → AllByRecursion (λ x. is_before above bound x ≡ false) xs
       → exact bound (live_children above xs) ≡ exact bound (first_child above xs)
   first_alone [] o h e = refl
   first_alone (x ∷ xs) o h e = by_live (is_live_child above x) (only_first above bound (x ∷ xs) x h.0 e.0 xs o.0)
@@ -78,7 +78,7 @@ module _ (above : List Step) (bound : Step) where
       by_live true go = ap (λ (ns : List Node). cond (same_step bound (last_of x.path)) (node_of (x ∷ xs) x ∷ ns) ns) go
       by_live false go = go
 
-  not_before : (xs : List Stated) → AllByRecursion (λ x. is_before above bound x ≡ false) (from_of above bound xs)
+  not_before : (xs : List StatementView) → AllByRecursion (λ x. is_before above bound x ≡ false) (from_of above bound xs)
   not_before [] = tt
   not_before (x ∷ xs) = by_test (is_before above bound x) refl (not_before xs)
     where
@@ -92,7 +92,7 @@ module _ (above : List Step) (bound : Step) where
       ap (λ (o : Ordering). not (is_lt o)) (is_equal (step_cmp s bound) ((maps.same_step s bound).1 (sym (step_is bound s e))))
 
   -- the child with a step is the first of what isn't before it, if that is one and has it
-  pub child_found : (below : List Stated) → Ordered (from_of above bound below) → AreInside above (from_of above bound below)
+  pub child_found : (below : List StatementView) → Ordered (from_of above bound below) → AreInside above (from_of above bound below)
       → exact bound (first_child above (from_of above bound below)) ≡ exact bound (live_children above below)
   child_found below o h =
       sym (first_alone (from_of above bound below) o h (not_before below))
@@ -148,7 +148,7 @@ filter_both {X} t u (x ∷ xs) = by_test (u x) (filter_both t u xs)
     by_test false go = go
 
 -- the wildcards with a head are the children from `<` up to `=`
-pub wildcards_found : (above : List Step) (head : List ℕ) (below : List Stated)
+pub wildcards_found : (above : List Step) (head : List ℕ) (below : List StatementView)
     → live_children above (before_of above (step_of head (61 ∷ [])) (from_of above (step_of head (60 ∷ [])) below))
     ≡ filter (λ n. same_word head (last_of n.path).head && is_wildcard (last_of n.path).name) (live_children above below)
 wildcards_found above head below =
@@ -167,17 +167,17 @@ wild_among step node =
 
 module _ (node : Node) (part : IsPart node.path node.below) where
   -- the child with a step, where what isn't before it begins with this
-  pub child_told : (bound : Step) (from : List Stated) (o : Option Node) → from ≡ from_of node.path bound node.below → option_to_list o ≡ first_child node.path from
+  pub child_told : (bound : Step) (from : List StatementView) (o : Option Node) → from ≡ from_of node.path bound node.below → option_to_list o ≡ first_child node.path from
       → exact bound (option_to_list o) ≡ exact bound (children_of node)
   child_told bound from o e f =
       ap (exact bound) (f ∙ ap (first_child node.path) e)
       ∙ child_found node.path bound node.below (ordered_kept (λ x. not (is_before node.path bound x)) node.below part.ordered)
       (inside_kept node.path (λ s. not (is_earlier bound s)) node.below part.inside)
 
-  pub child_there : (bound : Step) (from : List Stated) (child : Node) → from ≡ from_of node.path bound node.below → child ∷ [] ≡ first_child node.path from
+  pub child_there : (bound : Step) (from : List StatementView) (child : Node) → from ≡ from_of node.path bound node.below → child ∷ [] ≡ first_child node.path from
       → same_step bound (last_of child.path) ≡ true → child ∷ [] ≡ exact bound (children_of node)
   child_there bound from child e f is = sym (ap (λ (b : Bool). cond b (child ∷ []) []) is) ∙ child_told bound from (Some child) e f
 
-  pub child_other : (bound : Step) (from : List Stated) (child : Node) → from ≡ from_of node.path bound node.below → child ∷ [] ≡ first_child node.path from
+  pub child_other : (bound : Step) (from : List StatementView) (child : Node) → from ≡ from_of node.path bound node.below → child ∷ [] ≡ first_child node.path from
       → same_step bound (last_of child.path) ≡ false → [] ≡ exact bound (children_of node)
   child_other bound from child e f is = sym (ap (λ (b : Bool). cond b (child ∷ []) []) is) ∙ child_told bound from (Some child) e f

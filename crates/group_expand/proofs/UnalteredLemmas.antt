@@ -26,7 +26,7 @@ use Rattle.group_expand.specs.Expansion.{Gift, is_apply, is_own, gift_from, firs
 use Rattle.group_expand.specs.Front.{grown, raw, front, kept_at, steps_at}
 use Rattle.group_expand.specs.Listed.{entry_and}
 use Rattle.group_expand.specs.Made.{with_order, present, order_of, given_at}
-use Rattle.group_expand.specs.Row.{Stated, pairs_of}
+use Rattle.group_expand.specs.Row.{StatementView, pairs_of}
 use Rattle.group_expand.specs.Node.{Node, inside_of}
 use Rattle.group_expand.specs.Offer.{Offer, own_offer}
 use Rattle.group_expand.specs.Runs.{is_apply_step}
@@ -139,7 +139,7 @@ all_inside p [] h = tt
 all_inside p (e ∷ es) h = (ap (is_inside p) h.0.2 ∙ inside_more p h.0.0 h.0.1, all_inside p es h.1)
 
 -- entries of statements as they stand
-find_entries : (q : List Step) (xs : List Stated) → find path_cmp q (map own_entry xs) ≡ option_map own_given (find path_cmp q (pairs_of xs))
+find_entries : (q : List Step) (xs : List StatementView) → find path_cmp q (map own_entry xs) ≡ option_map own_given (find path_cmp q (pairs_of xs))
 find_entries q [] = refl
 find_entries q (x ∷ xs) = by_test (eq_by_cmp path_cmp q x.path) (find_entries q xs)
   where
@@ -148,11 +148,11 @@ find_entries q (x ∷ xs) = by_test (eq_by_cmp path_cmp q x.path) (find_entries 
     by_test true go = refl
     by_test false go = go
 
-keys_alike : (xs : List Stated) → keys_of (map own_entry xs) ≡ keys_of (pairs_of xs)
+keys_alike : (xs : List StatementView) → keys_of (map own_entry xs) ≡ keys_of (pairs_of xs)
 keys_alike [] = refl
 keys_alike (x ∷ xs) = ap (λ (ks : List (List Step)). x.path ∷ ks) (keys_alike xs)
 
-find_kept : (t : List Step → Bool) (q : List Step) → t q ≡ true → (xs : List Stated) → find path_cmp q (pairs_of (filter (λ x. t x.path) xs)) ≡ find path_cmp q (pairs_of xs)
+find_kept : (t : List Step → Bool) (q : List Step) → t q ≡ true → (xs : List StatementView) → find path_cmp q (pairs_of (filter (λ x. t x.path) xs)) ≡ find path_cmp q (pairs_of xs)
 find_kept t q e [] = refl
 find_kept t q e (x ∷ xs) = by_tests (eq_by_cmp path_cmp q x.path) (t x.path) refl refl (find_kept t q e xs)
   where
@@ -163,7 +163,7 @@ find_kept t q e (x ∷ xs) = by_tests (eq_by_cmp path_cmp q x.path) (t x.path) r
     by_tests false true k l go = ap (λ (c : Bool). cond c (Some x.value) (find path_cmp q (pairs_of (filter (λ y. t y.path) xs)))) k ∙ go
     by_tests false false k l go = go
 
-found_all : (Q : List Step → Value → Type 0) (xs : List Stated) → AllByRecursion (λ x. Q x.path x.value) xs → (q : List Step) (v : Value) → find path_cmp q (pairs_of xs) ≡ Some v → Q q v
+found_all : (Q : List Step → Value → Type 0) (xs : List StatementView) → AllByRecursion (λ x. Q x.path x.value) xs → (q : List Step) (v : Value) → find path_cmp q (pairs_of xs) ≡ Some v → Q q v
 found_all Q [] h q v e = cc
 found_all Q (x ∷ xs) h q v e = by_test (eq_by_cmp path_cmp q x.path) refl e (found_all Q xs h.1 q v)
   where
@@ -175,11 +175,11 @@ found_all Q (x ∷ xs) h q v e = by_test (eq_by_cmp path_cmp q x.path) refl e (f
 abbrev Stands : List Step → Value → Type 0
 Stands q v = (v.inactive ≡ false) × (is_apply q ≡ false)
 
-each_stands : (xs : List Stated) → list_all is_unaltered xs ≡ true → AllByRecursion (λ x. Stands x.path x.value) xs
+each_stands : (xs : List StatementView) → list_all is_unaltered xs ≡ true → AllByRecursion (λ x. Stands x.path x.value) xs
 each_stands [] h = tt
 each_stands (x ∷ xs) h = let k = both _ _ h in let m = both _ _ k.0 in ((negated _ m.0, negated _ m.1), each_stands xs k.1)
 
-inside_entries : (p : List Step) (xs : List Stated) → AllByRecursion (λ e. is_inside p e.0 ≡ true) (map own_entry (inside_of p xs))
+inside_entries : (p : List Step) (xs : List StatementView) → AllByRecursion (λ e. is_inside p e.0 ≡ true) (map own_entry (inside_of p xs))
 inside_entries p [] = tt
 inside_entries p (x ∷ xs) = by_test (is_inside p x.path) refl (inside_entries p xs)
   where
@@ -195,7 +195,7 @@ some_map f (Some x) = refl
 abbrev own_gift : Value → Gift
 own_gift v = record { words = v.words; group = [] }
 
-module _ (row : List Stated) (h : IsRow row) where
+module _ (row : List StatementView) (h : IsRow row) where
   abbrev L : Look
   L = look_of row
 
@@ -443,10 +443,10 @@ module _ (row : List Stated) (h : IsRow row) where
             ∙ ap (λ (o : Option Given). entry_and (p ++ s ∷ []) o (given_below row n (p ++ s ∷ []))) (sym there)
 
 -- a node and what stands below it are put after others
-pub node_more : (node : Node) (made more new : List (List Step × Given)) (path : List Step) (value : Value) (below : List Stated)
+pub node_more : (node : Node) (made more new : List (List Step × Given)) (path : List Step) (value : Value) (below : List StatementView)
     → path ≡ node.path → value ≡ node.value → below ≡ node.below → more ≡ made ++ (path, own_given value) ∷ [] → new ≡ more ++ map own_entry below → new ≡ made ++ own_entries node
 node_more node made more new path value below a b c e f =
     f ∙ ap (λ (xs : List (List Step × Given)). xs ++ map own_entry below) e ∙ append_assoc made ((path, own_given value) ∷ []) (map own_entry below)
     ∙ ap (λ (q : List Step). made ++ (q, own_given value) ∷ map own_entry below) a
     ∙ ap (λ (v : Value). made ++ (node.path, own_given v) ∷ map own_entry below) b
-    ∙ ap (λ (xs : List Stated). made ++ (node.path, own_given node.value) ∷ map own_entry xs) c
+    ∙ ap (λ (xs : List StatementView). made ++ (node.path, own_given node.value) ∷ map own_entry xs) c

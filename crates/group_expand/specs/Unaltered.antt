@@ -6,12 +6,12 @@ use Rattle.cfg_base.specs.declared.value.Value.{Value}
 use Rattle.cfg_tree.specs.declared.full.Given.{Given}
 use Rattle.group_expand.specs.Sources.{is_outside}
 use Rattle.group_expand.specs.Expansion.{is_apply}
-use Rattle.group_expand.specs.Row.{Stated}
+use Rattle.group_expand.specs.Row.{StatementView}
 use Rattle.group_expand.specs.Node.{Node}
 use Rattle.group_expand.specs.Offer.{Offer}
 
 -- a statement has no inactive mark and is no apply statement
-abbrev pub is_unaltered : Stated → Bool
+abbrev pub is_unaltered : StatementView → Bool
 is_unaltered x = not x.value.inactive && not (is_apply x.path)
 
 -- a node stands outside `groups`, and neither it nor what stands below it is an apply statement, nor is any of these inactive
@@ -32,7 +32,7 @@ unaltered_of (o ∷ other ∷ os) = None
 abbrev pub own_given : Value → Given
 own_given value = record { words = value.words; order = value.order; group = [] }
 
-abbrev pub own_entry : Stated → List Step × Given
+abbrev pub own_entry : StatementView → List Step × Given
 own_entry x = (x.path, own_given x.value)
 
 abbrev pub own_entries : Node → List (List Step × Given)

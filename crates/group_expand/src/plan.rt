@@ -23,7 +23,7 @@ impl<'a> Model for Plan<'a> {
     ghost use Rattle.group_expand.specs.Row as stated;
     ghost use Rattle.group_expand.specs.Placed.{IsPlan};
 
-    ghost Value = { List stated.Stated };
+    ghost Value = { List stated.StatementView };
 
     ghost view = { λ p. p.row.now };
 

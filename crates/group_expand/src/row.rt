@@ -25,7 +25,7 @@ impl<'a> Model for Statement<'a> {
     ghost use Rattle.std.specs.Prelude.{◌≡◌, length};
     ghost use Rattle.group_expand.specs.Row as row;
 
-    ghost Value = { row.Stated };
+    ghost Value = { row.StatementView };
 
     ghost view = { λ s. record { path = s.path.now; value = s.value.now; size = s.size } };
 

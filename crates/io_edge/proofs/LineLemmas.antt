@@ -13,7 +13,7 @@ use Rattle.io_edge.specs.declared.lines.Stop.{Stop}
 use Rattle.io_edge.specs.declared.lines.Stop.TheVariants.{Lf, End, Full, Failed}
 use Rattle.io_edge.specs.declared.lines.TheConstants.{MAX_LINE}
 use Rattle.io_edge.specs.Ends.{onto, IsUsedUp, HasMore}
-use Rattle.io_edge.specs.Feed.{Feed}
+use Rattle.io_edge.specs.Feed.{LinesView}
 use Rattle.io_edge.specs.Line.{HasNoLf, without_last_cr, ended_line, last_line_of, IsEndedLine}
 use Rattle.io_edge.specs.Line.{IsLastLine, Gives, TellsBoth, GivesLine}
 use Rattle.io_edge.specs.Reader.{GathersTo, answer_of, end_of}
@@ -102,7 +102,7 @@ end_gives (x ∷ xs) rest old_room now_room no_lf used_up room =
     }))
 
 -- the answer after what was taken up to a stop
-pub gives_line : (stop : Stop) (kept : List ℕ) (old now : Feed) → GathersTo stop kept old now →
+pub gives_line : (stop : Stop) (kept : List ℕ) (old now : LinesView) → GathersTo stop kept old now →
     GivesLine (answer_of stop kept) old.left old.room now.left now.room
 gives_line Lf kept old now g =
     let bytes : old.left ≡ onto (g.gathered.part ++ 10 ∷ []) now.left =

@@ -9,7 +9,7 @@ use Rattle.io_edge.specs.declared.lines.Taken.TheVariants.{Byte, Stop as stop_of
 use Rattle.io_edge.specs.declared.lines.Stop.TheVariants.{Lf, End, Full, Failed}
 use Rattle.io_edge.specs.declared.lines.TheConstants.{KEPT}
 use Rattle.io_edge.specs.Ends.{onto}
-use Rattle.io_edge.specs.Feed.{Feed, feed_of}
+use Rattle.io_edge.specs.Feed.{LinesView, feed_of}
 use Rattle.io_edge.specs.Reader.{TakesByte, Takes, IsTakenAs, Gathered}
 use Rattle.io_edge.proofs.EndLemmas.{onto-onto}
 
@@ -48,7 +48,7 @@ ahead_onto chunk from to byte left some within is_byte =
     ∙ sym (onto-onto (byte ∷ []) (take (to - (from + 1)) (drop (from + 1) chunk)) left)
 
 -- a byte that was taken, as what it is
-pub takes_as : (taken : Taken) (byte : ℕ) (old now : Feed) → IsTakenAs taken byte → TakesByte byte old now → Takes taken old now
+pub takes_as : (taken : Taken) (byte : ℕ) (old now : LinesView) → IsTakenAs taken byte → TakesByte byte old now → Takes taken old now
 takes_as (Byte b) byte old now is takes = (λ e. is.1 (sym is.0 ∙ e), subst (λ x. TakesByte x old now) (sym is.0) takes)
 takes_as (stop_of Lf) byte old now is takes = subst (λ x. TakesByte x old now) is takes
 takes_as (stop_of End) byte old now is takes = absurd is
@@ -56,7 +56,7 @@ takes_as (stop_of Full) byte old now is takes = absurd is
 takes_as (stop_of Failed) byte old now is takes = absurd is
 
 -- the byte ahead was taken, where one may still be taken
-pub takes_ahead : (taken : Taken) (chunk : List ℕ) (from to room faults : ℕ) (left : Option (List ℕ)) (old : Feed) →
+pub takes_ahead : (taken : Taken) (chunk : List ℕ) (from to room faults : ℕ) (left : Option (List ℕ)) (old : LinesView) →
     feed_of chunk from to room left faults ≡ old → 0 < old.ahead → to ≤ length chunk → to - from ≤ max room 1 → room ≢ 0 →
     IsTakenAs taken (get_or chunk from 0) → Takes taken old (feed_of chunk (from + 1) to (room - 1) left faults)
 takes_ahead taken chunk from to room faults left old is_old some within ahead may is =
@@ -71,7 +71,7 @@ takes_ahead taken chunk from to room faults left old is_old some within ahead ma
     })
 
 -- one more byte of the line
-pub gathered_more : (kept more : List ℕ) (byte : ℕ) (old mid now : Feed) → Gathered kept old mid →
+pub gathered_more : (kept more : List ℕ) (byte : ℕ) (old mid now : LinesView) → Gathered kept old mid →
     byte ≢ 10 → TakesByte byte mid now → mid.faults ≤ now.faults → more ≡ take KEPT (kept ++ byte ∷ []) →
     Gathered more old now
 gathered_more kept more byte old mid now gathered no_lf takes later is_more = record {

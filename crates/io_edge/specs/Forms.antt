@@ -4,18 +4,18 @@ use Rattle.std.specs.Prelude.{false, true, ◌⊎◌}
 use Rattle.io_edge.specs.Calls.{Calls, is_next_failing}
 
 -- a source in memory: the bytes that are left, and its calls
-pub record ListedSource : Type 0 where
+pub record ListSourceView : Type 0 where
   pub left : List ℕ
   pub calls : Calls
 
 -- a sink in memory: the bytes that it holds, for how many more it has room, and its calls
-pub record KeptSink : Type 0 where
+pub record VecSinkView : Type 0 where
   pub held : List ℕ
   pub room : ℕ
   pub calls : Calls
 
 -- the next write to it fails: its number is one of those that are to fail, or there is no room
-abbrev pub IsRefused : KeptSink → Type 0
+abbrev pub IsRefused : VecSinkView → Type 0
 IsRefused sink = (is_next_failing sink.calls ≡ true) ⊎ (sink.room ≡ 0)
 
 -- the answer of a clock at a place of its list: past the list the last one, and 0 of an empty list

@@ -3,7 +3,7 @@
 use Rattle.std.specs.Prelude.{◌≡◌, ◌≢◌, ◌<◌, ◌≤◌, ◌+◌, ◌-◌, ◌==◌, ◌↔◌, ℕ, List, [], ◌∷◌, ◌++◌, length, max}
 use Rattle.std.specs.Prelude.{take, slice_index, nat_lt, if◌then◌else◌, ◌⊎◌, Option, None, Some}
 use Rattle.std.specs.List.{All}
-use Rattle.io_edge.specs.Feed.{Feed}
+use Rattle.io_edge.specs.Feed.{LinesView}
 use Rattle.io_edge.specs.declared.lines.TheConstants.{MAX_LINE}
 use Rattle.io_edge.specs.declared.lines.Line.{Line}
 use Rattle.io_edge.specs.declared.lines.Line.TheVariants.{Text, TooLong, End, Failed, InputFull}
@@ -92,6 +92,6 @@ Falls Failed old_room now_room = now_room ≤ old_room
 
 -- what was read ahead once a line was given: no more than may be taken, and one byte where none may be; the source gave a byte
 -- more than may be taken exactly where the input is full
-pub record ReadAhead (line : Line) (now : Feed) : Type 0 where
+pub record ReadAhead (line : Line) (now : LinesView) : Type 0 where
   pub within : now.ahead ≤ max now.room 1
   pub full : line ≡ InputFull ↔ (now.room < now.ahead)

@@ -82,9 +82,9 @@ pub struct Lines<S: Source> {
 
 impl<S: Source> Model for Lines<S> {
     ghost use Rattle.std.specs.Prelude.{◌≤◌, ◌-◌, max};
-    ghost use Rattle.io_edge.specs.Feed.{Feed, feed_of};
+    ghost use Rattle.io_edge.specs.Feed.{LinesView, feed_of};
 
-    ghost Value = { Feed };
+    ghost Value = { LinesView };
 
     ghost view = { λ l. feed_of l.chunk l.from l.to l.room ((S.view l.source).left) ((S.view l.source).faults) };
 

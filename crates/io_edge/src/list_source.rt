@@ -28,10 +28,10 @@ pub struct ListSource {
 }
 
 impl Model for ListSource {
-    ghost use Rattle.io_edge.specs.Forms.{ListedSource};
+    ghost use Rattle.io_edge.specs.Forms.{ListSourceView};
     ghost use Rattle.io_edge.specs.Places.{left_from, IsPlaceOf};
 
-    ghost Value = { ListedSource };
+    ghost Value = { ListSourceView };
 
     ghost view = { λ s. record { left = left_from s.pieces.items s.place.piece s.place.at; calls = s.calls } };
 

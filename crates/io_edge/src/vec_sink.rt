@@ -22,9 +22,9 @@ pub struct VecSink {
 impl Model for VecSink {
     ghost use Rattle.std.specs.Prelude.{◌+◌, ◌≤◌, vec_len};
     ghost use Rattle.std.specs.Vec.{vec_capacity};
-    ghost use Rattle.io_edge.specs.Forms.{KeptSink};
+    ghost use Rattle.io_edge.specs.Forms.{VecSinkView};
 
-    ghost Value = { KeptSink };
+    ghost Value = { VecSinkView };
 
     ghost view = { λ s. record { held = s.bytes.items; room = s.room; calls = s.calls } };
 

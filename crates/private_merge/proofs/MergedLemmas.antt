@@ -18,7 +18,7 @@ use Rattle.cfg_tree.proofs.PutLemmas.{order_same}
 use Rattle.cfg_tree.proofs.UnionLemmas.{no_child}
 use Rattle.cfg_tree.proofs.ValuesLemmas.{value_or_not}
 use Rattle.private_merge.specs.Merge.{IsMergedValue, IsMergedAt, IsMergeOf, IsChangedTwice, Conflicts, Agree, IsTooMany}
-use Rattle.private_merge.specs.Walking.{Standing, StandsIn, IsUntouched, AreTwo, HasNoParent, IsOwn}
+use Rattle.private_merge.specs.Walking.{PlaceView, StandsIn, IsUntouched, AreTwo, HasNoParent, IsOwn}
 use Rattle.private_merge.proofs.ValueLemmas.{one_of_both, merged_once, stays}
 
 no_value : (o : Option Value) → o ≡ None → is_some o ≡ true → ⊥
@@ -143,7 +143,7 @@ module _ (base active mine merged : Statements) (old : IsTree base) (now : IsTre
   }
 
 -- whether a path conflicts, by what stands there
-module _ (base active mine : Statements) (place : Standing) (stands : StandsIn base active mine place) where
+module _ (base active mine : Statements) (place : PlaceView) (stands : StandsIn base active mine place) where
   -- where neither side changed it, it has its parent on both
   pub untouched_agrees : IsTree active → IsTree mine → IsUntouched place → ¬ (Conflicts base active mine place.path)
   untouched_agrees now own same (inl twice) = twice.by_me (sym stands.mine_has ∙ same.0 ∙ stands.base_has)

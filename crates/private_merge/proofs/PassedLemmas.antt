@@ -11,41 +11,41 @@ use Rattle.cfg_tree.specs.Values.{Stand, with_value, with_values}
 use Rattle.cfg_tree.proofs.PathLemmas.{same_or_not}
 use Rattle.cfg_tree.proofs.ValuesLemmas.{value_or_not, with_values-push, value_here, value_other}
 use Rattle.private_merge.specs.Merge.{IsMergedAt, Conflicts, IsLeastConflict}
-use Rattle.private_merge.specs.Walking.{Ahead, Standing, StandsIn, IsNextPlace, IsChanged, IsOwn, path_ahead, value_ahead, first_of, next_path, all_ahead, all_behind}
+use Rattle.private_merge.specs.Walking.{SidesView, PlaceView, StandsIn, IsNextPlace, IsChanged, IsOwn, path_ahead, value_ahead, first_of, next_path, all_ahead, all_behind}
 use Rattle.private_merge.proofs.ValueLemmas as values
 use Rattle.private_merge.proofs.WalkLemmas.{IsUpTo, find_ahead, none_behind, others_behind, sorted_behind, not_before, first_up, up_to_itself, first_is, first_none, nothing_ahead, found_ahead, behind_length, behind_shorter}
 
 -- a path that is still to come: the walks find what the maps have there, and what is made so far has the active value
-pub record IsAhead (base active mine made : Statements) (ahead : Ahead) (q : List Step) : Type 0 where
+pub record IsAhead (base active mine made : Statements) (ahead : SidesView) (q : List Step) : Type 0 where
   pub base_has : find path_cmp q ahead.base ≡ map.get base q
   pub active_has : find path_cmp q ahead.active ≡ map.get active q
   pub mine_has : find path_cmp q ahead.mine ≡ map.get mine q
   pub made_has : map.get made q ≡ map.get active q
 
 -- a path that was passed: it doesn't conflict, and what is made has what is merged there
-pub record IsSettled (base active mine made : Statements) (ahead : Ahead) (q : List Step) : Type 0 where
+pub record IsSettled (base active mine made : Statements) (ahead : SidesView) (q : List Step) : Type 0 where
   pub no_base : find path_cmp q ahead.base ≡ None
   pub no_active : find path_cmp q ahead.active ≡ None
   pub no_mine : find path_cmp q ahead.mine ≡ None
   pub agrees : ¬ (Conflicts base active mine q)
   pub merged : IsMergedAt base active mine q (map.get made q)
 
-pub record Passed (base active mine made : Statements) (ahead : Ahead) : Type 0 where
+pub record Passed (base active mine made : Statements) (ahead : SidesView) : Type 0 where
   pub base_sorted : T (is_sorted path_cmp ahead.base)
   pub active_sorted : T (is_sorted path_cmp ahead.active)
   pub mine_sorted : T (is_sorted path_cmp ahead.mine)
   pub each : (q : List Step) → IsAhead base active mine made ahead q ⊎ IsSettled base active mine made ahead q
 
 -- how many entries the walks have still to go through
-abbrev pub left : Ahead → ℕ
+abbrev pub left : SidesView → ℕ
 left ahead = length ahead.base + length ahead.active + length ahead.mine
 
-pub passed_none : (base active mine : Statements) (own : List Stand) (ahead : Ahead) → own ≡ []
+pub passed_none : (base active mine : Statements) (own : List Stand) (ahead : SidesView) → own ≡ []
     → ahead ≡ all_ahead base active mine
     → Passed base active mine (with_values active own) ahead
 passed_none base active mine own ahead none all =
     subst (λ (xs : List Stand). Passed base active mine (with_values active xs) ahead) (sym none)
-    (subst (λ (a : Ahead). Passed base active mine active a) (sym all) record {
+    (subst (λ (a : SidesView). Passed base active mine active a) (sym all) record {
       base_sorted = map.entries_sorted base;
       active_sorted = map.entries_sorted active;
       mine_sorted = map.entries_sorted mine;
@@ -68,7 +68,7 @@ no_conflict base active mine q b a c (inr loses) = never (values.one_of_both _ _
     never (inr e) = let f = e ∙ a in cc
 
 -- a path of which something is found on a side isn't before the one that comes next
-module _ (base active mine made : Statements) (before : Ahead) (p : List Step) (passed : Passed base active mine made before) (next : next_path before ≡ Some p) where
+module _ (base active mine made : Statements) (before : SidesView) (p : List Step) (passed : Passed base active mine made before) (next : next_path before ≡ Some p) where
   ups : (IsUpTo p before.base × IsUpTo p before.active) × IsUpTo p before.mine
   ups =
       let three = first_up p (first_of (path_ahead before.base) (path_ahead before.active)) (path_ahead before.mine) (up_to_itself p _ next)
@@ -119,10 +119,10 @@ module _ (base active mine made : Statements) (before : Ahead) (p : List Step) (
           absurd (no_conflict base active mine q b a c other))))
 
   -- a path that doesn't conflict is passed, where what is made then differs from what was made there alone
-  pub passed_more : (after : Ahead) (now : Statements) → after ≡ all_behind p before → ¬ (Conflicts base active mine p)
+  pub passed_more : (after : SidesView) (now : Statements) → after ≡ all_behind p before → ¬ (Conflicts base active mine p)
       → IsMergedAt base active mine p (map.get now p) → ((q : List Step) → q ≢ p → map.get now q ≡ map.get made q)
       → Passed base active mine now after
-  passed_more after now is agrees merged others = subst (λ (a : Ahead). Passed base active mine now a) (sym is) record {
+  passed_more after now is agrees merged others = subst (λ (a : SidesView). Passed base active mine now a) (sym is) record {
     base_sorted = sorted_behind p before.base passed.base_sorted;
     active_sorted = sorted_behind p before.active passed.active_sorted;
     mine_sorted = sorted_behind p before.mine passed.mine_sorted;
@@ -171,18 +171,18 @@ module _ (base active mine made : Statements) (before : Ahead) (p : List Step) (
   made_is : map.get made p ≡ map.get active p
   made_is = coming.made_has
 
-module _ (base active mine : Statements) (own : List Stand) (before after : Ahead) (place : Standing)
+module _ (base active mine : Statements) (own : List Stand) (before after : SidesView) (place : PlaceView)
     (passed : Passed base active mine (with_values active own) before) (next : IsNextPlace before after place) where
   pub stands_in : StandsIn base active mine place
   stands_in = record {
-    base_has = ap (λ (s : Standing). s.base) next.stands ∙ base_is base active mine _ before place.path passed next.next;
-    active_has = ap (λ (s : Standing). s.active) next.stands ∙ active_is base active mine _ before place.path passed next.next;
-    mine_has = ap (λ (s : Standing). s.mine) next.stands ∙ mine_is base active mine _ before place.path passed next.next;
+    base_has = ap (λ (s : PlaceView). s.base) next.stands ∙ base_is base active mine _ before place.path passed next.next;
+    active_has = ap (λ (s : PlaceView). s.active) next.stands ∙ active_is base active mine _ before place.path passed next.next;
+    mine_has = ap (λ (s : PlaceView). s.mine) next.stands ∙ mine_is base active mine _ before place.path passed next.next;
   }
 
   pub less_left : left after < left before
   less_left =
-      subst (λ (a : Ahead). left a < left before) (sym next.rest) (shorter base active mine (with_values active own) before place.path passed next.next)
+      subst (λ (a : SidesView). left a < left before) (sym next.rest) (shorter base active mine (with_values active own) before place.path passed next.next)
 
   -- a path at which the own value is put
   pub passed_changed : (entry : Stand) (more : List Stand) → ¬ (Conflicts base active mine place.path) → IsChanged place → entry ≡ (place.path, place.mine)
@@ -228,7 +228,7 @@ module _ (base active mine : Statements) (own : List Stand) (before after : Ahea
   first_conflict = least base active mine (with_values active own) before place.path passed next.next
 
 -- where nothing is left, all is merged
-pub passed_all : (base active mine : Statements) (own : List Stand) (ahead : Ahead) → Passed base active mine (with_values active own) ahead
+pub passed_all : (base active mine : Statements) (own : List Stand) (ahead : SidesView) → Passed base active mine (with_values active own) ahead
     → next_path ahead ≡ None → IsOwn base active mine own
 passed_all base active mine own ahead passed none = record {
   agree = λ q. ⊎_elim (λ still. no_conflict base active mine q (base_none q still) (active_none q still) (mine_none q still)) (λ settled. settled.agrees) (passed.each q);

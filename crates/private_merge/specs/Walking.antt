@@ -39,21 +39,21 @@ first_of (Some path) None = Some path
 first_of (Some path) (Some other) = cond (is_lt (path_cmp other path)) (Some other) (Some path)
 
 -- what three walks still have to go through
-pub record Ahead : Type 0 where
+pub record SidesView : Type 0 where
   pub base : List (Pair Value)
   pub active : List (Pair Value)
   pub mine : List (Pair Value)
 
 -- all statements of three maps
-abbrev pub all_ahead : Statements → Statements → Statements → Ahead
+abbrev pub all_ahead : Statements → Statements → Statements → SidesView
 all_ahead base active mine = record { base = map.entries base; active = map.entries active; mine = map.entries mine }
 
 -- the path that comes next in any of them
-abbrev pub next_path : Ahead → Option (List Step)
+abbrev pub next_path : SidesView → Option (List Step)
 next_path ahead = first_of (first_of (path_ahead ahead.base) (path_ahead ahead.active)) (path_ahead ahead.mine)
 
 -- the same after a path
-abbrev pub all_behind : List Step → Ahead → Ahead
+abbrev pub all_behind : List Step → SidesView → SidesView
 all_behind path ahead = record {
   base = rest_behind path ahead.base;
   active = rest_behind path ahead.active;
@@ -61,14 +61,14 @@ all_behind path ahead = record {
 }
 
 -- a path, and what stands there on each side
-pub record Standing : Type 0 where
+pub record PlaceView : Type 0 where
   pub path : List Step
   pub base : Option Value
   pub active : Option Value
   pub mine : Option Value
 
 -- what stands at a path that comes next
-abbrev pub standing_at : List Step → Ahead → Standing
+abbrev pub standing_at : List Step → SidesView → PlaceView
 standing_at path ahead = record {
   path = path;
   base = value_ahead path ahead.base;
@@ -77,32 +77,32 @@ standing_at path ahead = record {
 }
 
 -- a place comes next, and what is ahead then is after it
-pub record IsNextPlace (before after : Ahead) (place : Standing) : Type 0 where
+pub record IsNextPlace (before after : SidesView) (place : PlaceView) : Type 0 where
   pub next : next_path before ≡ Some place.path
   pub stands : place ≡ standing_at place.path before
   pub rest : after ≡ all_behind place.path before
 
 -- a path with these values
-abbrev pub standing : List Step → Option Value → Option Value → Option Value → Standing
+abbrev pub standing : List Step → Option Value → Option Value → Option Value → PlaceView
 standing path base active mine = record { path = path; base = base; active = active; mine = mine }
 
 -- it stands there in three maps
-pub record StandsIn (base active mine : Statements) (standing : Standing) : Type 0 where
+pub record StandsIn (base active mine : Statements) (standing : PlaceView) : Type 0 where
   pub base_has : standing.base ≡ map.get base standing.path
   pub active_has : standing.active ≡ map.get active standing.path
   pub mine_has : standing.mine ≡ map.get mine standing.path
 
 -- neither side changed it
-abbrev pub IsUntouched : Standing → Type 0
+abbrev pub IsUntouched : PlaceView → Type 0
 IsUntouched standing = (standing.mine ≡ standing.base) × (standing.active ≡ standing.base)
 
 -- both sides changed it, and not to the same
-abbrev pub AreTwo : Standing → Type 0
+abbrev pub AreTwo : PlaceView → Type 0
 AreTwo standing =
     (standing.mine ≢ standing.base) × (standing.active ≢ standing.base) × (standing.mine ≢ standing.active)
 
 -- what is merged isn't what is active
-abbrev pub IsChanged : Standing → Type 0
+abbrev pub IsChanged : PlaceView → Type 0
 IsChanged standing = (standing.mine ≢ standing.base) × (standing.mine ≢ standing.active)
 
 -- the parent of a path is gone

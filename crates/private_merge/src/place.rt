@@ -42,9 +42,9 @@ pub struct Place<'a> {
 
 impl<'a> Model for Place<'a> {
     ghost use Rattle.std.specs.Option.{option_copied};
-    ghost use Rattle.private_merge.specs.Walking.{Standing, standing};
+    ghost use Rattle.private_merge.specs.Walking.{PlaceView, standing};
 
-    ghost Value = { Standing };
+    ghost Value = { PlaceView };
 
     ghost view = { λ p. standing p.path.now (option_copied p.base) (option_copied p.active) (option_copied p.mine) };
 }

@@ -30,9 +30,9 @@ pub struct Sides<'a> {
 }
 
 impl<'a> Model for Sides<'a> {
-    ghost use Rattle.private_merge.specs.Walking.{Ahead};
+    ghost use Rattle.private_merge.specs.Walking.{SidesView};
 
-    ghost Value = { Ahead };
+    ghost Value = { SidesView };
 
     ghost view = { λ s. record { base = s.base; active = s.active; mine = s.mine } };
 }

@@ -6,7 +6,7 @@ use Rattle.config_core.specs.declared.effect.Effect.TheVariants.{Stay, Leave, En
 use Rattle.config_core.specs.declared.event.Outcome.{Outcome}
 use Rattle.config_core.specs.declared.event.Outcome.TheVariants.{Done, Fault}
 use Rattle.config_core.specs.State.{State, Made}
-use Rattle.config_core.specs.Plan.{Plan, made_of}
+use Rattle.config_core.specs.Plan.{PreparedView, made_of}
 use Rattle.config_core.specs.Entries.{taken}
 use Rattle.config_core.specs.Serving.{left_if}
 use Rattle.config_core.specs.Machine.{settled, later}
@@ -34,5 +34,5 @@ effected_callers (Settle is_kept) caller outcome s = settled_in_callers s s.flig
 effected_callers (Append a) caller Done s = left_callers (taken s (made_of a)) a.quit caller
 effected_callers (Append a) caller Fault s = refl
 
-pub callers_are_as_many : (plan : Plan) (outcome : Outcome) (s : State) → length (applied plan outcome s).callers ≡ length s.callers
+pub callers_are_as_many : (plan : PreparedView) (outcome : Outcome) (s : State) → length (applied plan outcome s).callers ≡ length s.callers
 callers_are_as_many plan outcome s = effected_callers plan.effect plan.caller outcome (later s plan.moment)

@@ -3,7 +3,7 @@ use Rattle.std.proofs.Common.{◌≡◌, ◌⊎◌, ◌≤◌, ℕ, zero, suc, L
 use Rattle.std.proofs.Math.Nat.{le-max_right}
 use Rattle.std.proofs.lemmas.List.{length-append, length-map, length-replicate}
 use Rattle.std.specs.List.{AllByRecursion}
-use Rattle.active_snapshot.specs.States.{ReaderState, first_read}
+use Rattle.active_snapshot.specs.States.{ReaderView, first_read}
 use Rattle.commit_ledger.specs.Kept.{Kept}
 use Rattle.command_line.specs.Asked.{Asks, user_in, users_of as users_asked}
 use Rattle.command_line.specs.declared.asked.Asked.{Asked}
@@ -36,12 +36,12 @@ few_users words asked asks = subst (λ n. n ≤ 64) (ap length (sym asks.meant.u
     few user [] most = omega arith
     few user (word ∷ words) most = omega (arith, most, length-map words user_in)
 
-all_alike : (reader : ReaderState) (count : ℕ) → AllByRecursion (λ (r : ReaderState). r ≡ reader) (replicate count reader)
+all_alike : (reader : ReaderView) (count : ℕ) → AllByRecursion (λ (r : ReaderView). r ≡ reader) (replicate count reader)
 all_alike reader zero = tt
 all_alike reader (suc count) = (refl, all_alike reader count)
 
 -- as many readers as sessions
-pub readers_are : (opening : Kept) (count users : ℕ) (readers : List ReaderState) → readers ≡ replicate (max 1 users) (first_read opening) → count ≡ users → HasReaders opening count readers
+pub readers_are : (opening : Kept) (count users : ℕ) (readers : List ReaderView) → readers ≡ replicate (max 1 users) (first_read opening) → count ≡ users → HasReaders opening count readers
 readers_are opening count users readers is as_many = subst (HasReaders opening count) (sym is)
     (omega (arith, as_many, le-max_right 1 users, length-replicate (max 1 users) (first_read opening)), all_alike (first_read opening) (max 1 users))
 

@@ -13,7 +13,7 @@ use Rattle.config_core.specs.Levels.{Position, at_top}
 use Rattle.config_core.specs.declared.reply.Reply.{Reply}
 use Rattle.commit_ledger.specs.Kept.{is_revert_due}
 use Rattle.config_core.specs.State.{State, Made}
-use Rattle.config_core.specs.Plan.{Plan, made_in, made_of}
+use Rattle.config_core.specs.Plan.{PreparedView, made_in, made_of}
 use Rattle.config_core.specs.Serving.{Turned, left_if}
 use Rattle.commands.specs.declared.command.Mode.{Mode}
 use Rattle.std.proofs.Math.ListN.{length-set}
@@ -60,7 +60,7 @@ keeps (effect.Settle is_kept) caller s free =
 keeps (effect.Append a) caller s free = left a.quit caller (taken s (made_of a)) refl
 
 -- a step that was prepared and carried out
-pub Happens-of : (caller moment : ℕ) (event : Event) (reply : Reply) (plan : Plan) (s s' : State) (events events' : List Happened) → Fits s caller moment event → s.flight ≡ None → IsPrepared s caller moment event plan →
+pub Happens-of : (caller moment : ℕ) (event : Event) (reply : Reply) (plan : PreparedView) (s s' : State) (events events' : List Happened) → Fits s caller moment event → s.flight ≡ None → IsPrepared s caller moment event plan →
     s' ≡ applied plan Done s → reply ≡ replied plan.effect plan.reply Done → events' ≡ events ++ done_event caller moment event ∷ [] → Happens caller moment event reply s s' events events'
 Happens-of caller moment event reply plan s s' events events' fits free prepared is replies grown = record {
   turned = ended plan Done s;

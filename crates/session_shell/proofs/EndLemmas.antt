@@ -7,7 +7,7 @@ use Rattle.std.proofs.lemmas.Option.{none-some}
 use Rattle.commands.specs.declared.command.Command.TheVariants.{Logout}
 use Rattle.cfg_base.specs.Counts.{Rose}
 use Rattle.io_edge.specs.Ends.{held_after, onto}
-use Rattle.io_edge.specs.Feed.{Feed}
+use Rattle.io_edge.specs.Feed.{LinesView}
 use Rattle.io_edge.specs.Line.{TellsBoth}
 use Rattle.io_edge.specs.Wrote.{Wrote as WroteAs}
 use Rattle.io_edge.specs.declared.lines.Line.{Line}
@@ -111,7 +111,7 @@ input_of lines reading how limit count ahead None None (Some now) so_many is inp
 input_of lines reading how limit count ahead (Some before) (Some left) None so_many is input = absurd (none-some _ (sym is))
 
 -- a session, from all but its last logout and that
-pub IsSession-of : {D : Type 0} (follows : Following D) (limit : ℕ) (how : How) (source source' : Option (List ℕ)) (feed : Feed) (ahead : List ℕ) (d m e : D) (reading : Reading) (old mid new : SessionView) →
+pub IsSession-of : {D : Type 0} (follows : Following D) (limit : ℕ) (how : How) (source source' : Option (List ℕ)) (feed : LinesView) (ahead : List ℕ) (d m e : D) (reading : Reading) (old mid new : SessionView) →
     Ends follows limit how source d old feed (standing m reading mid) → Finishes follows how m e reading mid new → length ahead ≡ feed.ahead → feed.left ≡ onto ahead source' → old.faults ≤ mid.faults → IsTranscript follows limit how (side source d old) (side source' e new)
 IsSession-of follows limit how source source' feed ahead d m e reading old mid new ends finishes so_many is later = record {
   lines = ends.lines;

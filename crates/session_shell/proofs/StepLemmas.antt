@@ -5,7 +5,7 @@ use Rattle.std.proofs.lemmas.List.{append-nil, length-append}
 use Rattle.std.proofs.lemmas.Bool.{false≢true}
 use Rattle.cfg_base.specs.Counts.{Rose}
 use Rattle.io_edge.specs.Ends.{held_after}
-use Rattle.io_edge.specs.Feed.{Feed}
+use Rattle.io_edge.specs.Feed.{LinesView}
 use Rattle.io_edge.specs.Line.{HasNoLf, TellsBoth, Gives, IsEndedLine, IsLastLine, IsFull, IsCutOff}
 use Rattle.io_edge.specs.Wrote.{WrotePart}
 use Rattle.io_edge.specs.declared.lines.Line.{Line}
@@ -97,7 +97,7 @@ module _ {D : Type 0} (follows : Following D) (limit : ℕ) (source : Option (Li
       back ∙ ap (λ h. held_after h (flat_map text_written more)) front ∙ behind-behind old.held (flat_map text_written exchanges) (flat_map text_written more) ∙ ap (held_after old.held) (sym (flat_map_over_append text_written exchanges more))
 
   -- a session that stops before a line
-  pub Ends-before : (how : How) (e : D) (feed feed' : Feed) (reading : Reading) (now : SessionView) (so : SoFar follows limit source d old feed (standing e reading now)) →
+  pub Ends-before : (how : How) (e : D) (feed feed' : LinesView) (reading : Reading) (now : SessionView) (so : SoFar follows limit source d old feed (standing e reading now)) →
       TellsBoth (λ before left. Stopped how reading feed.room feed'.room before left) feed.left feed'.left → (how ≡ InputFull) ↔ (feed'.room < feed'.ahead) → (how ≡ SourceFault → feed'.ahead ≡ 0) →
       (WroteTexts (flat_map text_written so.exchanges) [] old now → Texts how so.exchanges [] old now) → Ends follows limit how source d old feed' (standing e reading now)
   Ends-before how e feed feed' reading now so stop full none texts = record {
@@ -124,7 +124,7 @@ module _ {D : Type 0} (follows : Following D) (limit : ℕ) (source : Option (Li
       }
 
   -- a session that ends by a line
-  Ends-by : (how : How) (line : Line) (more : List Exchange) (m e : D) (feed feed' : Feed) (reading reading' : Reading) (mid now : SessionView) (so : SoFar follows limit source d old feed (standing m reading mid)) →
+  Ends-by : (how : How) (line : Line) (more : List Exchange) (m e : D) (feed feed' : LinesView) (reading reading' : Reading) (mid now : SessionView) (so : SoFar follows limit source d old feed (standing m reading mid)) →
       TellsBoth (λ before left. Took line feed.room feed'.room before left) feed.left feed'.left → feed'.ahead ≤ feed'.room → (how ≡ InputFull → ⊥) → (how ≡ SourceFault → ⊥) → ServesLine follows line more (standing m reading mid) (standing e reading' now) →
       ((rest : List Line) → (is_end line ≡ false) ⊎ (rest ≡ []) → EndsBy how reading' rest) → Texts how (so.exchanges ++ more) [] old now → Ends follows limit how source d old feed' (standing e reading' now)
   Ends-by how line more m e feed feed' reading reading' mid now so took within other heard came ends texts = record {
@@ -151,7 +151,7 @@ module _ {D : Type 0} (follows : Following D) (limit : ℕ) (source : Option (Li
       }
 
   -- a session that goes on after a line
-  pub SoFar-goes : (line : Line) (more : List Exchange) (m e : D) (feed feed' : Feed) (reading reading' : Reading) (mid now : SessionView) (so : SoFar follows limit source d old feed (standing m reading mid)) →
+  pub SoFar-goes : (line : Line) (more : List Exchange) (m e : D) (feed feed' : LinesView) (reading reading' : Reading) (mid now : SessionView) (so : SoFar follows limit source d old feed (standing m reading mid)) →
       TellsBoth (λ before left. Took line feed.room feed'.room before left) feed.left feed'.left → feed'.ahead ≤ feed'.room → ServesLine follows line more (standing m reading mid) (standing e reading' now) →
       now.held ≡ held_after mid.held (flat_map text_written more) → is_out reading' ≡ false → is_end line ≡ false → SoFar follows limit source d old feed' (standing e reading' now)
   SoFar-goes line more m e feed feed' reading reading' mid now so took within came held going not_end = record {
@@ -180,7 +180,7 @@ module _ {D : Type 0} (follows : Following D) (limit : ℕ) (source : Option (Li
     whole = inr (rose_since old.faults mid.faults now.faults later later' rose);
   }
 
-  pub Ends-line : (how : How) (line : Line) (m e : D) (feed feed' : Feed) (reading reading' : Reading) (mid now : SessionView) → old.faults ≤ mid.faults → mid.faults ≤ now.faults → (how ≡ SinkFault → Rose mid.faults now.faults) →
+  pub Ends-line : (how : How) (line : Line) (m e : D) (feed feed' : LinesView) (reading reading' : Reading) (mid now : SessionView) → old.faults ≤ mid.faults → mid.faults ≤ now.faults → (how ≡ SinkFault → Rose mid.faults now.faults) →
       SoFar follows limit source d old feed (standing m reading mid) → TellsBoth (λ before left. Took line feed.room feed'.room before left) feed.left feed'.left → feed'.ahead ≤ feed'.room →
       TakesLine follows line (Some how) (standing m reading mid) (standing e reading' now) → Ends follows limit how source d old feed' (standing e reading' now)
   Ends-line Clean line m e feed feed' reading reading' mid now later later' rose so took within takes =
@@ -205,7 +205,7 @@ module _ {D : Type 0} (follows : Following D) (limit : ℕ) (source : Option (Li
   Ends-line InputFull line m e feed feed' reading reading' mid now later later' rose so took within takes = absurd takes
 
 -- a line that was taken and served
-pub Steps-line : {D : Type 0} (follows : Following D) (how : Option How) (line : Line) (m e : D) (feed feed' : Feed) (reading reading' : Reading) (mid now : SessionView) → mid.faults ≤ now.faults → (how ≡ Some SinkFault → Rose mid.faults now.faults) → ReadsLine reading line →
+pub Steps-line : {D : Type 0} (follows : Following D) (how : Option How) (line : Line) (m e : D) (feed feed' : LinesView) (reading reading' : Reading) (mid now : SessionView) → mid.faults ≤ now.faults → (how ≡ Some SinkFault → Rose mid.faults now.faults) → ReadsLine reading line →
     TellsBoth (λ old left. Gives line old feed.room left feed'.room) feed.left feed'.left → feed'.ahead ≤ feed'.room → TakesLine follows line how (standing m reading mid) (standing e reading' now) → StepsOn follows how feed feed' (standing m reading mid) (standing e reading' now)
 Steps-line follows None line m e feed feed' reading reading' mid now later' rose read gives within takes =
     λ limit source d old so. SoFar-goes follows limit source d old line takes.0 m e feed feed' reading reading' mid now so (tells_took reading line feed.room feed'.room feed.left feed'.left read gives) within takes.1 takes.2 takes.3 takes.4
@@ -213,12 +213,12 @@ Steps-line follows (Some how) line m e feed feed' reading reading' mid now later
     λ limit source d old later so. Ends-line follows limit source d old how line m e feed feed' reading reading' mid now later later' (λ is. rose (ap Some is)) so (tells_took reading line feed.room feed'.room feed.left feed'.left read gives) within takes
 
 -- a step that left how the session reads and its view as they were
-moved : {D : Type 0} (follows : Following D) (how : How) (d : D) (feed feed' : Feed) (reading reading' : Reading) (view view' : SessionView) → reading ≡ reading' → view ≡ view' → StepsOn follows (Some how) feed feed' (standing d reading view) (standing d reading view) → StepsOn follows (Some how) feed feed' (standing d reading view) (standing d reading' view')
+moved : {D : Type 0} (follows : Following D) (how : How) (d : D) (feed feed' : LinesView) (reading reading' : Reading) (view view' : SessionView) → reading ≡ reading' → view ≡ view' → StepsOn follows (Some how) feed feed' (standing d reading view) (standing d reading view) → StepsOn follows (Some how) feed feed' (standing d reading view) (standing d reading' view')
 moved follows how d feed feed' reading reading' view view' same same' steps =
     subst (λ r. StepsOn follows (Some how) feed feed' (standing d reading view) (standing d r view')) same (subst (λ v. StepsOn follows (Some how) feed feed' (standing d reading view) (standing d reading v)) same' steps)
 
 -- no line was taken: the input is full
-pub Steps-full : {D : Type 0} (follows : Following D) (d : D) (feed feed' : Feed) (reading reading' : Reading) (view view' : SessionView) → reading ≡ reading' → view ≡ view' → TellsBoth (λ old left. IsFull old feed.room left feed'.room) feed.left feed'.left → feed'.room < feed'.ahead → StepsOn follows (Some InputFull) feed feed' (standing d reading view) (standing d reading' view')
+pub Steps-full : {D : Type 0} (follows : Following D) (d : D) (feed feed' : LinesView) (reading reading' : Reading) (view view' : SessionView) → reading ≡ reading' → view ≡ view' → TellsBoth (λ old left. IsFull old feed.room left feed'.room) feed.left feed'.left → feed'.room < feed'.ahead → StepsOn follows (Some InputFull) feed feed' (standing d reading view) (standing d reading' view')
 Steps-full follows d feed feed' reading reading' view view' same same' full over = moved follows InputFull d feed feed' reading reading' view view' same same' (λ limit source first old later so. Ends-before follows limit source first old InputFull d feed feed' reading view so (tells (in_by reading so.going) feed.left feed'.left full) (λ is. over, λ o. refl) (λ is. absurd (cc)) (λ w. w))
   where
     tells : (reading ≡ Out → ⊥) → (a b : Option (List ℕ)) → TellsBoth (λ old left. IsFull old feed.room left feed'.room) a b → TellsBoth (λ before left. Stopped InputFull reading feed.room feed'.room before left) a b
@@ -228,7 +228,7 @@ Steps-full follows d feed feed' reading reading' view view' same same' full over
     tells within (Some before) None is = absurd is
 
 -- no line was taken: the source failed
-pub Steps-failed : {D : Type 0} (follows : Following D) (d : D) (feed feed' : Feed) (reading reading' : Reading) (view view' : SessionView) → reading ≡ reading' → view ≡ view' → TellsBoth (λ old left. IsCutOff old feed.room left feed'.room) feed.left feed'.left → feed'.ahead ≡ 0 → StepsOn follows (Some SourceFault) feed feed' (standing d reading view) (standing d reading' view')
+pub Steps-failed : {D : Type 0} (follows : Following D) (d : D) (feed feed' : LinesView) (reading reading' : Reading) (view view' : SessionView) → reading ≡ reading' → view ≡ view' → TellsBoth (λ old left. IsCutOff old feed.room left feed'.room) feed.left feed'.left → feed'.ahead ≡ 0 → StepsOn follows (Some SourceFault) feed feed' (standing d reading view) (standing d reading' view')
 Steps-failed follows d feed feed' reading reading' view view' same same' cut none = moved follows SourceFault d feed feed' reading reading' view view' same same' (λ limit source first old later so. Ends-before follows limit source first old SourceFault d feed feed' reading view so (tells (in_by reading so.going) feed.left feed'.left cut) (λ is. cc, λ over. absurd (omega (arith, over, none))) (λ is. none) (λ w. w))
   where
     tells : (reading ≡ Out → ⊥) → (a b : Option (List ℕ)) → TellsBoth (λ old left. IsCutOff old feed.room left feed'.room) a b → TellsBoth (λ before left. Stopped SourceFault reading feed.room feed'.room before left) a b
@@ -238,7 +238,7 @@ Steps-failed follows d feed feed' reading reading' view view' same same' cut non
     tells within (Some before) None is = absurd is
 
 -- no line was taken for want of memory
-pub Steps-no_memory : {D : Type 0} (follows : Following D) (d : D) (feed feed' : Feed) (reading reading' : Reading) (view view' : SessionView) → feed ≡ feed' → reading ≡ reading' → view ≡ view' → StepsOn follows (Some NoMemory) feed feed' (standing d reading view) (standing d reading' view')
+pub Steps-no_memory : {D : Type 0} (follows : Following D) (d : D) (feed feed' : LinesView) (reading reading' : Reading) (view view' : SessionView) → feed ≡ feed' → reading ≡ reading' → view ≡ view' → StepsOn follows (Some NoMemory) feed feed' (standing d reading view) (standing d reading' view')
 Steps-no_memory follows d feed feed' reading reading' view view' still same same' =
     subst (λ f. StepsOn follows (Some NoMemory) feed f (standing d reading view) (standing d reading' view')) still (moved follows NoMemory d feed feed reading reading' view view' same same'
     (λ limit source first old later so. Ends-before follows limit source first old NoMemory d feed feed reading view so (tells (in_by reading so.going) feed.left) (λ is. cc, λ over. absurd (omega (arith, over, so.within))) (λ is. absurd (cc)) (λ w. w)))
@@ -248,7 +248,7 @@ Steps-no_memory follows d feed feed' reading reading' view view' still same same
     tells within (Some before) = record { part = []; is = refl; took = omega arith; ends = within; cut = λ failed. absurd (cc) }
 
 -- no session so far
-pub SoFar-begins : {D : Type 0} (follows : Following D) (d : D) (feed : Feed) (reading : Reading) (view : SessionView) → reading ≡ Operational → feed.ahead ≡ 0 → SoFar follows feed.room feed.left d view feed (standing d reading view)
+pub SoFar-begins : {D : Type 0} (follows : Following D) (d : D) (feed : LinesView) (reading : Reading) (view : SessionView) → reading ≡ Operational → feed.ahead ≡ 0 → SoFar follows feed.room feed.left d view feed (standing d reading view)
 SoFar-begins follows d feed reading view is none = record {
   lines = [];
   exchanges = [];

@@ -5,7 +5,7 @@ use Rattle.io_edge.specs.Ends.{SinkView, SourceView}
 use Rattle.session_shell.specs.Transcript.{EndView}
 
 -- a session before its first line: its number, its ends, and how many bytes of its source may be taken
-pub record Opened (S K C : Type 0) : Type 0 where
+pub record NewSessionView (S K C : Type 0) : Type 0 where
   pub number : ℕ
   pub end : End S K C
   pub limit : ℕ

@@ -2,7 +2,7 @@
 use Rattle.std.specs.Prelude.{◌≡◌, ◌≤◌, ℕ, List, [], ◌∷◌, ◌++◌, length, Bool, true, false, if◌then◌else◌, ◌⊎◌}
 use Rattle.std.specs.Prelude.{Result, Option, None, Some}
 use Rattle.std.specs.List.{flat_map}
-use Rattle.io_edge.specs.Feed.{Feed}
+use Rattle.io_edge.specs.Feed.{LinesView}
 use Rattle.io_edge.specs.Ends.{SinkView, held_after}
 use Rattle.io_edge.specs.Line.{TellsBoth}
 use Rattle.io_edge.specs.Wrote.{Wrote as WroteAs, WrotePart}
@@ -20,8 +20,8 @@ use Rattle.session_shell.specs.Cut.{lines_read, AreFirstLines}
 use Rattle.session_shell.specs.Transcript.{Following, IsInput, LogsOut, SessionView, Texts, TakesTurns, WroteTexts}
 
 -- what a session holds while it is served; `spare` is for how many more turns it has room
-pub record Held (C : Type 0) : Type 0 where
-  pub feed : Feed
+pub record ServingView (C : Type 0) : Type 0 where
+  pub feed : LinesView
   pub sink : SinkView
   pub clock : C
   pub turns : List Turn
@@ -29,7 +29,7 @@ pub record Held (C : Type 0) : Type 0 where
   pub reading : Reading
 
 -- its view, as its clock tells it
-abbrev pub view_of : {C : Type 0} → (C → Option (ℕ → ℕ)) → Held C → SessionView
+abbrev pub view_of : {C : Type 0} → (C → Option (ℕ → ℕ)) → ServingView C → SessionView
 view_of coming now = record { coming = coming now.clock; held = now.sink.held; faults = now.sink.faults; turns = now.turns }
 
 abbrev pub is_out : Reading → Bool
@@ -59,7 +59,7 @@ pub record ServesItem {D T E : Type 0} (follows : Following D) (item : Item) (pu
 
 -- a session so far: the lines that were served, from its first door and view to where it stands
 pub record SoFar {D : Type 0} (follows : Following D) (limit : ℕ) (source : Option (List ℕ)) (first : D) (from : SessionView)
-    (feed : Feed) (now : Standing D) : Type 0 where
+    (feed : LinesView) (now : Standing D) : Type 0 where
   pub lines : List Line
   pub exchanges : List Exchange
   pub reads : ReadsThrough lines Operational exchanges now.reading
@@ -91,7 +91,7 @@ TakesLine follows line (Some how) old new = ⊥
 
 -- a session has ended, but for its last logout; what its reader has left was read ahead or is the source's
 pub record Ends {D : Type 0} (follows : Following D) (limit : ℕ) (how : How) (source : Option (List ℕ)) (first : D)
-    (from : SessionView) (feed : Feed) (now : Standing D) : Type 0 where
+    (from : SessionView) (feed : LinesView) (now : Standing D) : Type 0 where
   pub lines : List Line
   pub asked : List Exchange
   pub reads : ReadsThrough lines Operational asked now.reading
@@ -101,7 +101,7 @@ pub record Ends {D : Type 0} (follows : Following D) (limit : ℕ) (how : How) (
   pub texts : Texts how asked [] from now.view
 
 -- whatever a session did before, a step goes on from there or ends it
-abbrev pub StepsOn : {D : Type 0} → Following D → Option How → Feed → Feed → Standing D → Standing D → Type 0
+abbrev pub StepsOn : {D : Type 0} → Following D → Option How → LinesView → LinesView → Standing D → Standing D → Type 0
 StepsOn {D} follows None feed feed' old new =
     (limit : ℕ) (source : Option (List ℕ)) (first : D) (from : SessionView)
     → SoFar follows limit source first from feed old → SoFar follows limit source first from feed' new

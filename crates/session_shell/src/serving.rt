@@ -42,9 +42,9 @@ pub(crate) struct Parts<S, K, C> {
 }
 
 impl<S: Source, K: Sink, C: Clock> Model for Serving<S, K, C> {
-    ghost use Rattle.session_shell.specs.Steps.{Held};
+    ghost use Rattle.session_shell.specs.Steps.{ServingView};
 
-    ghost Value = { Held C };
+    ghost Value = { ServingView C };
 
     ghost view = { λ s. record {
       feed = s.lines;

@@ -26,9 +26,9 @@ pub struct Session<S, K, C> {
 
 impl<S, K, C> Model for Session<S, K, C> {
     ghost use Rattle.std.specs.Prelude.{◌≡◌, ◌<◌, []};
-    ghost use Rattle.session_shell.specs.Opened.{Opened};
+    ghost use Rattle.session_shell.specs.Opened.{NewSessionView};
 
-    ghost Value = { Opened S K C };
+    ghost Value = { NewSessionView S K C };
 
     ghost view = { λ s. record { number = s.number; end = s.end; limit = s.limits.input } };
 

@@ -1,7 +1,7 @@
 -- What one ask makes of a pass and its reader.
 use Rattle.std.proofs.Common.{◌≡◌, ℕ, true, false, List, Option, Some, None, refl, sym, ap, subst, ◌∙◌}
 use mathlib.Core.List.{IsPrefix}
-use Rattle.active_snapshot.specs.States.{ReaderState}
+use Rattle.active_snapshot.specs.States.{ReaderView}
 use Rattle.active_snapshot.specs.Views.{IsLast, IsLonger}
 use Rattle.atomic_table.specs.Seated.{TableId}
 use Rattle.commands.specs.declared.command.Command.{Command}
@@ -25,22 +25,22 @@ use Rattle.session_threads.proofs.PassLemmas.{FollowsTurn-none, WentOn-same}
 use Rattle.session_threads.proofs.TraceLemmas.{ReadsOn-same, ReadsOn-then}
 
 -- what a read leaves of a reader
-pub ReadsOn-read : (old new : ReaderState) → IsPrefix old.list new.list → new.told ≡ old.told → ReadsOn old new
+pub ReadsOn-read : (old new : ReaderView) → IsPrefix old.list new.list → new.told ≡ old.told → ReadsOn old new
 ReadsOn-read old new later same = record {
   later = later;
   told = subst (λ l. IsPrefix old.told l) (sym same) (IsPrefix-same old.told);
 }
 
 -- what a reader knows that was told of a list
-pub Learns-told : (place : ℕ) (reply : Reply) (list : List Kept) (old new : ReaderState) → IsPrefix old.list new.list
+pub Learns-told : (place : ℕ) (reply : Reply) (list : List Kept) (old new : ReaderView) → IsPrefix old.list new.list
     → IsLonger old.told list new.told → Learns (Done place reply) list old new
 Learns-told place reply list old new later longer = record { reads = record { later = later; told = longer.0 }; told = longer.1 }
 
-pub Learns-none : (list : List Kept) (reader : ReaderState) → Learns Wanting list reader reader
+pub Learns-none : (list : List Kept) (reader : ReaderView) → Learns Wanting list reader reader
 Learns-none list reader = record { reads = ReadsOn-same reader; told = tt }
 
 -- what is given for the view that was read answers a show
-gives_read : (command : Command) (answer front : ℕ) (shown : Kept) (given : Given0) (reader : ReaderState)
+gives_read : (command : Command) (answer front : ℕ) (shown : Kept) (given : Given0) (reader : ReaderView)
     → (read : ReadsLast answer false reader) → read.view ≡ shown → front ≡ shown.count → GivesView command front shown given
     → GivesShow command answer (Some given) reader
 gives_read command answer front shown (KeptAt place reply) reader read same count gives = absurd gives
@@ -51,7 +51,7 @@ gives_read command answer front shown (Seen number reply) reader read same count
 }
 gives_read command answer front shown NoMemory reader read same count gives = tt
 
-module _ (command : Command) (answer : ℕ) (old new : ReaderState) (later : IsPrefix old.list new.list) (same : new.told ≡ old.told)
+module _ (command : Command) (answer : ℕ) (old new : ReaderView) (later : IsPrefix old.list new.list) (same : new.told ≡ old.told)
   where
     -- a reader has no answer to a show where a deadline has come
     pub ReadsShow-due : (view : Kept) → IsPrefix new.told new.list → IsLast new.list view → is_revert_due view answer ≡ true
@@ -75,7 +75,7 @@ module _ (command : Command) (answer : ℕ) (old new : ReaderState) (later : IsP
     pub ReadsShow-wanting : ReadsShow command answer (Some NoMemory) old new
     ReadsShow-wanting = record { reads = ReadsOn-read old new later same; gives = tt }
 
-looks_at : (d : GateView) (command : Command) (answer : ℕ) (given : Option Given0) (reader : ReaderState) → KnowsOwn d.pass
+looks_at : (d : GateView) (command : Command) (answer : ℕ) (given : Option Given0) (reader : ReaderView) → KnowsOwn d.pass
     → ((first : DatabaseView) → d.pass.fixed ≡ Some first → IsLegal (opened first) d.pass.seen) → IsActiveShow command
     → GivesShow command answer given reader → LooksAt d command answer given reader
 looks_at d command answer None reader own legal is gives = λ _. gives
@@ -83,7 +83,7 @@ looks_at d command answer (Some given) reader own legal is gives =
     record { is_show = is; gives = gives; own = own; legal = legal }
 
 -- a reader was asked for a show
-pub LooksIn-read : (lock : TableId) (pass : CallerPass) (old new : ReaderState) (command : Command) (answer : ℕ)
+pub LooksIn-read : (lock : TableId) (pass : CallerPass) (old new : ReaderView) (command : Command) (answer : ℕ)
     (given : Option Given0) → ((first : DatabaseView) × IsReady lock first pass) → IsActiveShow command
     → ReadsShow command answer given old new
     → LooksIn (record { pass = pass; reader = old }) command answer given (record { pass = pass; reader = new })
@@ -153,7 +153,7 @@ FollowsIn-took d mid e command answer answered given looked took is =
     subst (λ g. FollowsIn d command answer g e) (sym is) (by_answer d mid e command answer answered looked took)
 
 -- the turn of a command, and what its reader learns
-pub TookIn-turn : (old new : CallerPass) (reader reader' : ReaderState) (command : Command) (answer : ℕ) (answered : Answered)
+pub TookIn-turn : (old new : CallerPass) (reader reader' : ReaderView) (command : Command) (answer : ℕ) (answered : Answered)
     (list : List Kept) → Learns answered list reader reader'
     → WentOn old new × ((first : DatabaseView) → old.fixed ≡ Some first
     → FollowsTurn (opened first) old.caller old.seen command answer answered new.seen × TellsKept (opened first) new.seen list)

@@ -4,7 +4,7 @@ use Rattle.std.proofs.Common.{ne_eqb, refl, sym, ap, subst, ◌∙◌, append_as
 use Rattle.std.specs.List.{AllByRecursion}
 use Rattle.std.proofs.lemmas.List.{append-nil, length-append, length-map, map-append}
 use Rattle.std.proofs.lemmas.List.Elements.{All-pop}
-use Rattle.active_snapshot.specs.States.{ReaderState, first_read}
+use Rattle.active_snapshot.specs.States.{ReaderView, first_read}
 use Rattle.atomic_table.specs.Seated.{TableId}
 use Rattle.commit_ledger.specs.Kept.{Kept}
 use Rattle.config_db.specs.View.{DatabaseView}
@@ -169,8 +169,8 @@ module _ {S K C J : Type 0} where
       (PairsFrom-then (SitsIn opening first) 1 (1 + length ends) ends seats end (Some seat) sits refl (of_caller, is, starts)))
 
 -- a reader was taken for an end: there is one for each of the ends that are left
-pub HasReaders-taken : {E : Type 0} (opening : Kept) (ends ends' : List E) (end : E) (readers readers' : List ReaderState)
-    (reader : ReaderState) → ends' ≡ ends ++ end ∷ [] → readers' ≡ readers ++ reader ∷ [] → HasReaders opening (length ends') readers'
+pub HasReaders-taken : {E : Type 0} (opening : Kept) (ends ends' : List E) (end : E) (readers readers' : List ReaderView)
+    (reader : ReaderView) → ends' ≡ ends ++ end ∷ [] → readers' ≡ readers ++ reader ∷ [] → HasReaders opening (length ends') readers'
     → HasReaders opening (length ends) readers × (reader ≡ first_read opening)
 HasReaders-taken opening ends ends' end readers readers' reader ends_are readers_are has =
     let all : AllByRecursion (λ r. r ≡ first_read opening) (readers ++ reader ∷ []) =
@@ -179,9 +179,9 @@ HasReaders-taken opening ends ends' end readers readers' reader ends_are readers
     let more : length readers' ≡ length readers + 1 = ap length readers_are ∙ length-append readers (reader ∷ []) in (
       (
         omega (arith, has.0, many, more),
-        all_front (λ (r : ReaderState). r ≡ first_read opening) readers (reader ∷ []) all,
+        all_front (λ (r : ReaderView). r ≡ first_read opening) readers (reader ∷ []) all,
       ),
-      (all_back (λ (r : ReaderState). r ≡ first_read opening) readers (reader ∷ []) all).0,
+      (all_back (λ (r : ReaderView). r ≡ first_read opening) readers (reader ∷ []) all).0,
     )
 
 -- no session began

@@ -4,7 +4,7 @@ use Rattle.std.proofs.Common.{sym, ap, subst, ◌∙◌, refl}
 use mathlib.Core.List.{IsPrefix}
 use Rattle.std.specs.List.{AllByRecursion}
 use Rattle.std.proofs.lemmas.List.{append-nil, append_cancel_left}
-use Rattle.active_snapshot.specs.States.{ReaderState}
+use Rattle.active_snapshot.specs.States.{ReaderView}
 use Rattle.active_snapshot.specs.Views.{AreViews, IsLast}
 use Rattle.commit_ledger.specs.Kept.{Kept}
 use Rattle.config_db.specs.View.{DatabaseView, opened}
@@ -42,7 +42,7 @@ module _ (list : List Kept) (old new : CallerPass)
   }
 
   -- all that a reader has was kept by then
-  pub IsWithin-took : (reader : ReaderState) → IsPrefix reader.list list → (first : DatabaseView) → old.fixed ≡ Some first
+  pub IsWithin-took : (reader : ReaderView) → IsPrefix reader.list list → (first : DatabaseView) → old.fixed ≡ Some first
       → IsWithin first new reader
   IsWithin-took reader within first fixed = record {
     list = list;

@@ -3,7 +3,7 @@ use Rattle.std.proofs.Common.{◌≡◌, ◌⊎◌, ◌<◌, ◌≤◌, ℕ, Boo
 use Rattle.std.proofs.Common.{inl, inr, ⊎_elim, refl, sym, ap, subst, ◌∙◌, arith}
 use mathlib.Core.List.{IsPrefix}
 use Rattle.std.proofs.lemmas.Bool.{cases_lt}
-use Rattle.active_snapshot.specs.States.{ReaderState}
+use Rattle.active_snapshot.specs.States.{ReaderView}
 use Rattle.active_snapshot.specs.Views.{AreViews, FollowsOn, IsLast}
 use Rattle.commands.specs.declared.command.Command.{Command}
 use Rattle.commit_ledger.specs.Kept.{Kept}
@@ -36,24 +36,24 @@ AreViews-front (view ∷ one) more last is are = FollowsOn-front view one more a
 AreViews-prefix : (one two : List Kept) (last : Kept) → IsPrefix one two → IsLast one last → AreViews two → AreViews one
 AreViews-prefix one two last begins is are = AreViews-front one begins.0 last is (subst AreViews (sym begins.1) are)
 
-pub ReadsOn-same : (reader : ReaderState) → ReadsOn reader reader
+pub ReadsOn-same : (reader : ReaderView) → ReadsOn reader reader
 ReadsOn-same reader = record { later = IsPrefix-same reader.list; told = IsPrefix-same reader.told }
 
-pub ReadsOn-then : (a b c : ReaderState) → ReadsOn a b → ReadsOn b c → ReadsOn a c
+pub ReadsOn-then : (a b c : ReaderView) → ReadsOn a b → ReadsOn b c → ReadsOn a c
 ReadsOn-then a b c first next = record {
   later = IsPrefix-then a.list b.list c.list first.later next.later;
   told = IsPrefix-then a.told b.told c.told first.told next.told;
 }
 
 -- a reader has, or was told of, a list with at least so many entries
-record Reaches (front : ℕ) (reader : ReaderState) : Type 0 where
+record Reaches (front : ℕ) (reader : ReaderView) : Type 0 where
   list : List Kept
   view : Kept
   is_last : IsLast list view
   enough : front ≤ view.count
   known : IsPrefix list reader.list ⊎ IsPrefix list reader.told
 
-reaches_on : (front : ℕ) (old new : ReaderState) → ReadsOn old new → Reaches front old → Reaches front new
+reaches_on : (front : ℕ) (old new : ReaderView) → ReadsOn old new → Reaches front old → Reaches front new
 reaches_on front old new on reaches = record {
   list = reaches.list;
   view = reaches.view;
@@ -63,14 +63,14 @@ reaches_on front old new on reaches = record {
       (λ told. inr (IsPrefix-then reaches.list old.told new.told told on.told)) reaches.known;
 }
 
-reaches_start : (first : DatabaseView) (reader : ReaderState) → StartsReading first reader
+reaches_start : (first : DatabaseView) (reader : ReaderView) → StartsReading first reader
     → Reaches first.opening.count reader
 reaches_start first reader starts = record {
   list = first.opening ∷ [];
   view = first.opening;
   is_last = refl;
   enough = omega arith;
-  known = inl (subst (λ (r : ReaderState). IsPrefix (first.opening ∷ []) r.list) (sym starts) (IsPrefix-same (first.opening ∷ [])));
+  known = inl (subst (λ (r : ReaderView). IsPrefix (first.opening ∷ []) r.list) (sym starts) (IsPrefix-same (first.opening ∷ [])));
 }
 
 goes_on : (exchanges : List Exchange) (d e : GateView) → GoesBy FollowsIn exchanges d e → ReadsOn d.reader e.reader
@@ -94,7 +94,7 @@ module _ (never_fall : (one two : List Kept) (view later : Kept) → AreViews tw
   was_kept front view begins is = All-last (WasKept (opened first) final) front list view begins is tells.each
 
   -- what is read of a reader has at least as many entries as it reached
-  read_reaches : (front answer : ℕ) (is_due : Bool) (old new : ReaderState) → ReadsOn old new → IsPrefix new.list list
+  read_reaches : (front answer : ℕ) (is_due : Bool) (old new : ReaderView) → ReadsOn old new → IsPrefix new.list list
       → (read : ReadsLast answer is_due new) → Reaches front old → front ≤ read.view.count
   read_reaches front answer is_due old new on within read reaches =
       let begins : IsPrefix reaches.list new.list =
@@ -108,7 +108,7 @@ module _ (never_fall : (one two : List Kept) (view later : Kept) → AreViews tw
             begins reaches.is_last read.is_last,
       )
 
-  missed_in : (front answer : ℕ) (old new : ReaderState) → IsPrefix new.list list → Reaches front old → MissedIn answer old new
+  missed_in : (front answer : ℕ) (old new : ReaderView) → IsPrefix new.list list → Reaches front old → MissedIn answer old new
       → HasMissed (opened first) final front answer
   missed_in front answer old new within reaches missed =
       let here : IsPrefix missed.mid.list list = IsPrefix-then missed.mid.list new.list list missed.behind.later within in
@@ -120,7 +120,7 @@ module _ (never_fall : (one two : List Kept) (view later : Kept) → AreViews tw
       }
 
   -- a reader that was told of a list reaches it, and what it had reached
-  reaches_told : (front : ℕ) (told : List Kept) (view : Kept) (reader : ReaderState) → IsLast told view → IsPrefix told reader.told
+  reaches_told : (front : ℕ) (told : List Kept) (view : Kept) (reader : ReaderView) → IsLast told view → IsPrefix told reader.told
       → Reaches front reader → Reaches (max front view.count) reader
   reaches_told front told view reader is_last begins reaches =
       ⊎_elim (λ (more : front < view.count). record {

@@ -7,7 +7,7 @@ use Rattle.std.specs.List.{AllByRecursion}
 use Rattle.std.proofs.lemmas.List.{length-map}
 use Rattle.std.proofs.Math.Seq.{take-append_seam}
 use Rattle.std.proofs.lemmas.List.Elements.{All-cons, All-nil, All-same}
-use Rattle.active_snapshot.specs.States.{ReaderState}
+use Rattle.active_snapshot.specs.States.{ReaderView}
 use Rattle.atomic_table.specs.Seated.{TableId}
 use Rattle.config_db.specs.View.{DatabaseView, opened}
 use Rattle.session_history.specs.declared.history.Happened.{Happened}
@@ -222,7 +222,7 @@ made_of first given made is is_made =
     subst (λ (f : DatabaseView). made ≡ record { first = f; database = given }) (ap start_of is) is_made
 
 -- the readers that were handed out
-pub handed : (first : DatabaseView) (readers : List ReaderState) (count : ℕ)
+pub handed : (first : DatabaseView) (readers : List ReaderView) (count : ℕ)
     → HasReaders first.opening count first.readers → readers ≡ first.readers → HasReaders first.opening count readers
 handed first readers count has is = subst (HasReaders first.opening count) (sym is) has
 

@@ -2,7 +2,7 @@
 use Rattle.std.specs.Prelude.{◌≡◌, ℕ, Bool, true, false, List, Option, None, Some}
 use Rattle.std.specs.List.{AllByRecursion}
 use mathlib.Core.List.{IsPrefix}
-use Rattle.active_snapshot.specs.States.{ReaderState, first_read}
+use Rattle.active_snapshot.specs.States.{ReaderView, first_read}
 use Rattle.active_snapshot.specs.Views.{AreViews, IsLast}
 use Rattle.commands.specs.declared.command.Command.{Command}
 use Rattle.commit_ledger.specs.Kept.{Kept, is_revert_due}
@@ -23,10 +23,10 @@ use Rattle.session_threads.specs.Passes.{CallerPass, KnowsOwn, WentOn}
 -- a caller's pass, and what its reader knows
 pub record GateView : Type 0 where
   pub pass : CallerPass
-  pub reader : ReaderState
+  pub reader : ReaderView
 
 -- a reader that was told of the opening's list alone
-abbrev pub StartsReading : DatabaseView → ReaderState → Type 0
+abbrev pub StartsReading : DatabaseView → ReaderView → Type 0
 StartsReading first reader = reader ≡ first_read first.opening
 
 -- after these events the lists of commits that were kept are those, and the last of them is what is kept now
@@ -38,29 +38,29 @@ pub record TellsKept (opening : State) (events : List Happened) (list : List Kep
   pub is_last : IsLast list after.kept
 
 -- a reader has at least what it had, and was told at least what it was told
-pub record ReadsOn (old new : ReaderState) : Type 0 where
+pub record ReadsOn (old new : ReaderView) : Type 0 where
   pub later : IsPrefix old.list new.list
   pub told : IsPrefix old.told new.told
 
 -- a reader was told of these lists, where the command became an event
-abbrev pub IsToldOf : Answered → List Kept → ReaderState → Type 0
+abbrev pub IsToldOf : Answered → List Kept → ReaderView → Type 0
 IsToldOf (Done place reply) list reader = IsPrefix list reader.told
 IsToldOf Wanting list reader = Unit {0}
 
 -- a reader took in what the turn of a command reported
-pub record Learns (answered : Answered) (list : List Kept) (old new : ReaderState) : Type 0 where
+pub record Learns (answered : Answered) (list : List Kept) (old new : ReaderView) : Type 0 where
   pub reads : ReadsOn old new
   pub told : IsToldOf answered list new
 
 -- a reader answered from the last list that it has, which reaches all that it was told: whether that has a deadline that has come
-pub record ReadsLast (answer : ℕ) (is_due : Bool) (reader : ReaderState) : Type 0 where
+pub record ReadsLast (answer : ℕ) (is_due : Bool) (reader : ReaderView) : Type 0 where
   pub view : Kept
   pub reached : IsPrefix reader.told reader.list
   pub is_last : IsLast reader.list view
   pub due : is_revert_due view answer ≡ is_due
 
 -- a show was answered from the last list that a reader has
-pub record AnswersShow (command : Command) (answer front : ℕ) (reply : Reply) (reader : ReaderState) : Type 0 where
+pub record AnswersShow (command : Command) (answer front : ℕ) (reply : Reply) (reader : ReaderView) : Type 0 where
   pub read : ReadsLast answer false reader
   pub is_front : read.view.count ≡ front
   pub shows : ShowsKept read.view command reply
@@ -72,30 +72,30 @@ GivesView command front view (Seen shown reply) = (shown ≡ front) × ShowsKept
 GivesView command front view NoMemory = Unit {0}
 
 -- what a reader gave for a show: an answer, want of memory, or none, since a deadline has come
-abbrev pub GivesShow : Command → ℕ → Option Given0 → ReaderState → Type 0
+abbrev pub GivesShow : Command → ℕ → Option Given0 → ReaderView → Type 0
 GivesShow command answer None reader = ReadsLast answer true reader
 GivesShow command answer (Some (KeptAt place reply)) reader = ⊥
 GivesShow command answer (Some (Seen front reply)) reader = AnswersShow command answer front reply reader
 GivesShow command answer (Some NoMemory) reader = Unit {0}
 
 -- a reader was asked for a show
-pub record ReadsShow (command : Command) (answer : ℕ) (given : Option Given0) (old new : ReaderState) : Type 0 where
+pub record ReadsShow (command : Command) (answer : ℕ) (given : Option Given0) (old new : ReaderView) : Type 0 where
   pub reads : ReadsOn old new
   pub gives : GivesShow command answer given new
 
 -- a command has no answer without a turn: where it is a show, since a deadline has come
-abbrev pub NeedsTurn : Command → ℕ → ReaderState → Type 0
+abbrev pub NeedsTurn : Command → ℕ → ReaderView → Type 0
 NeedsTurn command answer reader = IsActiveShow command → ReadsLast answer true reader
 
 -- a show was answered without a turn; what the pass has seen is a legal history, and has its caller's events
-pub record SeesAt (d : GateView) (command : Command) (answer : ℕ) (given : Given0) (reader : ReaderState) : Type 0 where
+pub record SeesAt (d : GateView) (command : Command) (answer : ℕ) (given : Given0) (reader : ReaderView) : Type 0 where
   pub is_show : IsActiveShow command
   pub gives : GivesShow command answer (Some given) reader
   pub own : KnowsOwn d.pass
   pub legal : (first : DatabaseView) → d.pass.fixed ≡ Some first → IsLegal (opened first) d.pass.seen
 
 -- what was answered without a turn
-abbrev pub LooksAt : GateView → Command → ℕ → Option Given0 → ReaderState → Type 0
+abbrev pub LooksAt : GateView → Command → ℕ → Option Given0 → ReaderView → Type 0
 LooksAt d command answer None reader = NeedsTurn command answer reader
 LooksAt d command answer (Some given) reader = SeesAt d command answer given reader
 
@@ -122,8 +122,8 @@ pub record TookIn (d : GateView) (command : Command) (answer : ℕ) (answered : 
   pub turns : (first : DatabaseView) → d.pass.fixed ≡ Some first → TurnsIn first d command answer answered e
 
 -- a reader found a deadline that has come, on the way from what it knew to what it knows
-pub record MissedIn (answer : ℕ) (old new : ReaderState) : Type 0 where
-  pub mid : ReaderState
+pub record MissedIn (answer : ℕ) (old new : ReaderView) : Type 0 where
+  pub mid : ReaderView
   pub before : ReadsOn old mid
   pub missed : ReadsLast answer true mid
   pub behind : ReadsOn mid new
@@ -161,7 +161,7 @@ pub record FollowsIn (d : GateView) (command : Command) (answer : ℕ) (given : 
   pub comes : ComesIn d command answer given e
 
 -- a beginning of the lists that a reader has, whose last one shows this
-pub record HasShown (command : Command) (front : ℕ) (reply : Reply) (reader : ReaderState) : Type 0 where
+pub record HasShown (command : Command) (front : ℕ) (reply : Reply) (reader : ReaderView) : Type 0 where
   pub list : List Kept
   pub view : Kept
   pub begins : IsPrefix list reader.list

@@ -1,7 +1,7 @@
 -- The database under the lock, and what results from all sessions over it. This project's own.
 use Rattle.std.specs.Prelude.{◌≡◌, ◌≤◌, ◌+◌, ℕ, Bool, List, [], ◌∷◌, length, map, Option}
 use Rattle.std.specs.List.{AllByRecursion}
-use Rattle.active_snapshot.specs.States.{ReaderState, first_read}
+use Rattle.active_snapshot.specs.States.{ReaderView, first_read}
 use Rattle.commit_ledger.specs.Kept.{Kept}
 use Rattle.config_db.specs.View.{DatabaseView, opened}
 use Rattle.session_history.specs.Events.{Leads}
@@ -23,7 +23,7 @@ pub record IsUnderway (v : ServedView) : Type 0 where
   pub adds : AddsUp v.database.events v.first v.database
 
 -- there is a reader for each of so many sessions, and each was told of the opening's list alone
-abbrev pub HasReaders : Kept → ℕ → List ReaderState → Type 0
+abbrev pub HasReaders : Kept → ℕ → List ReaderView → Type 0
 HasReaders opening count readers = (count ≤ length readers) × AllByRecursion (λ reader. reader ≡ first_read opening) readers
 
 -- what holds of each of a list, by its number, from a number on

@@ -3,7 +3,7 @@ use Rattle.std.specs.Prelude.{◌≡◌, ◌≢◌, ◌⊎◌, ℕ, List, [], �
 use mathlib.Core.List.{IsPrefix}
 use Rattle.std.specs.List.{AllByRecursion}
 use Rattle.atomic_table.specs.Seated.{TableId}
-use Rattle.active_snapshot.specs.States.{ReaderState}
+use Rattle.active_snapshot.specs.States.{ReaderView}
 use Rattle.commit_ledger.specs.Kept.{Kept}
 use Rattle.config_db.specs.View.{DatabaseView, opened}
 use Rattle.session_history.specs.declared.history.Happened.{Happened}
@@ -34,13 +34,13 @@ pub record RunsOne {E : Type 0} (view : E → EndView) (limit : ℕ) (old new : 
   pub session : RunsOver view limit old new result ⊎ StaysOut old.pass new.pass result
 
 -- all that a reader has was kept by the events that a pass has seen
-pub record IsWithin (first : DatabaseView) (pass : CallerPass) (reader : ReaderState) : Type 0 where
+pub record IsWithin (first : DatabaseView) (pass : CallerPass) (reader : ReaderView) : Type 0 where
   pub list : List Kept
   pub tells : TellsKept (opened first) pass.seen list
   pub within : IsPrefix reader.list list
 
 -- a pass took turns in which its caller made nothing, until all that its reader has was kept by what it has seen
-pub record HasLeft (first : DatabaseView) (old new : CallerPass) (reader : ReaderState) : Type 0 where
+pub record HasLeft (first : DatabaseView) (old new : CallerPass) (reader : ReaderView) : Type 0 where
   pub waited : Waited old new
   pub within : IsWithin first new reader
 

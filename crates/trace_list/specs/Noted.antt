@@ -1,7 +1,7 @@
 -- What was noted, and what is held of it. This project's own.
 use Rattle.std.specs.Prelude.{ℕ, Bool, true, false, List, []}
 
-pub record Noted (T : Type 0) : Type 0 where
+pub record TraceView (T : Type 0) : Type 0 where
   -- what was noted, in order
   pub items : List T
   -- for so many more there is room

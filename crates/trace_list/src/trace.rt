@@ -18,9 +18,9 @@ pub struct Trace<T> {
 
 impl<T> Model for Trace<T> {
     ghost use Rattle.std.specs.Prelude.{◌≡◌, ◌+◌, ◌≤◌, true, map, vec_len, vec_capacity};
-    ghost use Rattle.trace_list.specs.Noted.{Noted, held_of};
+    ghost use Rattle.trace_list.specs.Noted.{TraceView, held_of};
 
-    ghost Value = { Noted T };
+    ghost Value = { TraceView T };
 
     ghost view = { λ t. record {
       items = map (λ s. s.value) t.noted.items;

@@ -1,5 +1,5 @@
 use Rattle.std.proofs.Common.{◌≡◌, sym, ◌∙◌, ap}
-use Rattle.active_snapshot.specs.States.{Beginning}
+use Rattle.active_snapshot.specs.States.{FrontView}
 use Rattle.active_snapshot.proofs.AddingLemmas.{adds_moves}
 use Rattle.active_snapshot.proofs.book.Front.add.Goals as goal
 
@@ -7,7 +7,7 @@ pub compare_exchange-found-requires : goal.compare_exchange-found-requires
 compare_exchange-found-requires c =
     let head = c.shelf.invariant in
     let same : c.self.inside.seen.book ≡ c.shelf.inside.head.book =
-    ap (λ (b : Beginning). b.book) c.self.view_is ∙ (sym c.requires.shelf ∙ sym c.shelf.view_is) in
+    ap (λ (b : FrontView). b.book) c.self.view_is ∙ (sym c.requires.shelf ∙ sym c.shelf.view_is) in
     let offer = c.plain-offer.ensures in
     let pen = c.no_pen-pen.ensures in (
       ap (λ w. w.tracked) head,

@@ -1,7 +1,7 @@
 use Rattle.std.proofs.Common.{List, not, sym, ap, subst, ◌∙◌, None}
 use Rattle.std.specs.Option.{option_to_list}
 use Rattle.cfg_tree.specs.Tree.{step_of}
-use Rattle.group_expand.specs.Row.{Stated, Counted, Ordered}
+use Rattle.group_expand.specs.Row.{StatementView, Counted, Ordered}
 use Rattle.group_expand.specs.Node.{Node, AreInside, children_of}
 use Rattle.group_expand.specs.Fitting.{exact}
 use Rattle.group_expand.specs.Sources.{same_step}
@@ -13,17 +13,17 @@ use Rattle.group_expand.proofs.node.Node.child.Goals as goal
 
 pub first_child-requires-clause-counted : goal.first_child-requires-clause-counted
 first_child-requires-clause-counted c =
-    subst (λ (xs : List Stated). Counted xs) (sym c.cut_at.ensures.from)
+    subst (λ (xs : List StatementView). Counted xs) (sym c.cut_at.ensures.from)
     (counted_kept c.self.inside.path.now (λ s. not (is_earlier (step_of c.args.head.now c.args.name.now) s)) c.self.inside.below.now c.self.invariant.inside c.self.invariant.counted)
 
 pub first_child-requires-clause-ordered : goal.first_child-requires-clause-ordered
 first_child-requires-clause-ordered c =
-    subst (λ (xs : List Stated). Ordered xs) (sym c.cut_at.ensures.from)
+    subst (λ (xs : List StatementView). Ordered xs) (sym c.cut_at.ensures.from)
     (ordered_kept (λ x. not (is_before c.self.inside.path.now (step_of c.args.head.now c.args.name.now) x)) c.self.inside.below.now c.self.invariant.ordered)
 
 pub first_child-requires-clause-inside : goal.first_child-requires-clause-inside
 first_child-requires-clause-inside c =
-    subst (λ (xs : List Stated). AreInside c.self.inside.path.now xs) (sym c.cut_at.ensures.from)
+    subst (λ (xs : List StatementView). AreInside c.self.inside.path.now xs) (sym c.cut_at.ensures.from)
     (inside_kept c.self.inside.path.now (λ s. not (is_earlier (step_of c.args.head.now c.args.name.now) s)) c.self.inside.below.now c.self.invariant.inside)
 
 pub returns-in-None : goal.returns-in-None
