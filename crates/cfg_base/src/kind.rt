@@ -11,6 +11,8 @@ pub enum Choice {
     Protocol,
     /// Which next hop a policy sets.
     NextHop,
+    /// Which protocol a packet is of.
+    PacketProtocol,
 }
 
 /// What a name or a value is.
@@ -23,6 +25,8 @@ pub enum Kind {
     Address,
     /// An IPv4 address and the length of its prefix.
     Prefix,
+    /// An IPv6 address and the length of its prefix.
+    Prefix6,
     /// An OSPF area.
     Area,
     /// A physical interface.
