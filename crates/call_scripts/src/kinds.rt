@@ -11,6 +11,7 @@ fn named_kind(name: &str) -> Result<Kind, Fault> {
         "text" => Ok(Kind::Text),
         "address" => Ok(Kind::Address),
         "prefix" => Ok(Kind::Prefix),
+        "prefix6" => Ok(Kind::Prefix6),
         "area" => Ok(Kind::Area),
         "interface" => Ok(Kind::IfName),
         "interface-unit" => Ok(Kind::IfUnit),
@@ -19,6 +20,7 @@ fn named_kind(name: &str) -> Result<Kind, Fault> {
         "group-type" => Ok(Kind::OneOf(Choice::GroupType)),
         "protocol" => Ok(Kind::OneOf(Choice::Protocol)),
         "next-hop" => Ok(Kind::OneOf(Choice::NextHop)),
+        "packet-protocol" => Ok(Kind::OneOf(Choice::PacketProtocol)),
         _ => Err(Fault::Script("a kind is a name, or numbers FROM..TO")),
     }
 }
@@ -42,6 +44,7 @@ fn choice_name(choice: Choice) -> &'static str {
         Choice::GroupType => "group-type",
         Choice::Protocol => "protocol",
         Choice::NextHop => "next-hop",
+        Choice::PacketProtocol => "packet-protocol",
     }
 }
 
@@ -60,6 +63,7 @@ pub(crate) fn put_kind(out: &mut Text, kind: Kind) {
         Kind::Text => out.put("text"),
         Kind::Address => out.put("address"),
         Kind::Prefix => out.put("prefix"),
+        Kind::Prefix6 => out.put("prefix6"),
         Kind::Area => out.put("area"),
         Kind::IfName => out.put("interface"),
         Kind::IfUnit => out.put("interface-unit"),

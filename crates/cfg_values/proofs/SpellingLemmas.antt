@@ -7,7 +7,7 @@ use Rattle.std.proofs.lemmas.Fmt.{decimal_injective}
 use Rattle.std.proofs.lemmas.List.Elements.{All-from_recursion}
 use Rattle.cfg_base.specs.Kind.{IsName, IsHost}
 use Rattle.cfg_base.specs.declared.kind.Kind.{Kind}
-use Rattle.cfg_base.specs.declared.kind.Kind.TheVariants.{Name, Host, Text, Address, Prefix, Area, IfName, IfUnit, Number, OneOf}
+use Rattle.cfg_base.specs.declared.kind.Kind.TheVariants.{Name, Host, Text, Address, Prefix, Prefix6, Area, IfName, IfUnit, Number, OneOf}
 use Rattle.cfg_values.specs.Number.{IsNumber}
 use Rattle.cfg_values.specs.Address.{IsAddress, IsFront, IsHostRoute, IsNetwork, IsPrefix, IsArea, Network, network, dotted, filled}
 use Rattle.cfg_values.specs.Interface.{IsInterface, IsUnits, IsUnitZero, IsNumberedUnit, Units, EveryUnit, UnitOf, every_unit}
@@ -17,6 +17,7 @@ use Rattle.cfg_values.proofs.NumberLemmas.{IsNumber-unique, IsNumber-decimal, no
 use Rattle.cfg_values.proofs.CutLemmas.{not_cut, IsCut-before, IsCut-after}
 use Rattle.cfg_values.proofs.DotLemmas.{IsFront-unique, front_from_address}
 use Rattle.cfg_values.proofs.AddressLemmas.{no_slash_in_address, network_is_cut, address_again, area_again, prefix_again}
+use Rattle.cfg_values.proofs.Address6Lemmas.{IsPrefix6-unique, prefix6_again}
 use Rattle.cfg_values.proofs.InterfaceLemmas.{no_dot_in_interface, unit_is_cut}
 
 -- an address is spelled by one text, and a text spells one address
@@ -106,6 +107,7 @@ Spells-unique Host bytes one two h g = h.1 ∙ sym g.1
 Spells-unique Text bytes one two h g = h.1 ∙ sym g.1
 Spells-unique Address bytes one two h g = IsAddress-unique bytes one two h g
 Spells-unique Prefix bytes one two h g = IsPrefix-unique bytes one two h g
+Spells-unique Prefix6 bytes one two h g = IsPrefix6-unique bytes one two h g
 Spells-unique Area bytes one two h g = IsArea-unique bytes one two h g
 Spells-unique IfName bytes one two h g = h.1 ∙ sym g.1
 Spells-unique IfUnit bytes one two h g = IsUnits-unique bytes one two h g
@@ -131,6 +133,7 @@ Spells-canonical Host bytes value h = (subst IsHost (sym h.1) h.0, refl)
 Spells-canonical Text bytes value h = (subst IsText (sym h.1) h.0, refl)
 Spells-canonical Address bytes value h = address_again bytes value h
 Spells-canonical Prefix bytes value h = inr (prefix_again bytes value h)
+Spells-canonical Prefix6 bytes value h = inr (prefix6_again bytes value h)
 Spells-canonical Area bytes value h = inl (area_again bytes value h)
 Spells-canonical IfName bytes value h = (subst IsInterface (sym h.1) h.0, refl)
 Spells-canonical IfUnit bytes value h = units_again bytes value h

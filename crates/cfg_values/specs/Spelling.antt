@@ -5,11 +5,12 @@ use Rattle.std.specs.List.{list_all}
 use Rattle.std.specs.Fmt.{decimal}
 use Rattle.cfg_base.specs.Kind.{IsName, IsHost}
 use Rattle.cfg_base.specs.declared.kind.Kind.{Kind}
-use Rattle.cfg_base.specs.declared.kind.Kind.TheVariants.{Name, Host, Text, Address, Prefix, Area, IfName, IfUnit, Number, OneOf}
+use Rattle.cfg_base.specs.declared.kind.Kind.TheVariants.{Name, Host, Text, Address, Prefix, Prefix6, Area, IfName, IfUnit, Number, OneOf}
 use Rattle.cfg_values.specs.declared.fault.ValueFault.{ValueFault}
 use Rattle.cfg_values.specs.declared.fault.ValueFault.TheVariants.{NotOfKind, NoMemory}
 use Rattle.cfg_values.specs.Number.{IsNumberWithin}
 use Rattle.cfg_values.specs.Address.{IsAddress, IsPrefix, IsArea, Network, dotted, prefix_text}
+use Rattle.cfg_values.specs.Address6.{Network6, IsPrefix6, prefix6_text}
 use Rattle.cfg_values.specs.Interface.{IsInterface, IsUnits, Units, units_text}
 use Rattle.cfg_values.specs.Choice.{words_of}
 
@@ -22,13 +23,14 @@ pub record IsText (bytes : List ℕ) : Type 0 where
   pub short : length bytes ≤ 255
   pub each : IsTrue (list_all is_text_byte bytes)
 
--- what a value of the kind is: its own bytes, four numbers, those and a length, units or a number
+-- what a value of the kind is: its own bytes, four numbers, those or eight groups and a length, units or a number
 abbrev pub ValueOf : Kind → Type 0
 ValueOf Name = List ℕ
 ValueOf Host = List ℕ
 ValueOf Text = List ℕ
 ValueOf Address = List ℕ
 ValueOf Prefix = Network
+ValueOf Prefix6 = Network6
 ValueOf Area = List ℕ
 ValueOf IfName = List ℕ
 ValueOf IfUnit = Units
@@ -42,6 +44,7 @@ Spells Host bytes value = IsHost bytes × (value ≡ bytes)
 Spells Text bytes value = IsText bytes × (value ≡ bytes)
 Spells Address bytes value = IsAddress bytes value
 Spells Prefix bytes value = IsPrefix bytes value
+Spells Prefix6 bytes value = IsPrefix6 bytes value
 Spells Area bytes value = IsArea bytes value
 Spells IfName bytes value = IsInterface bytes × (value ≡ bytes)
 Spells IfUnit bytes value = IsUnits bytes value
@@ -55,6 +58,7 @@ canonical Host value = value
 canonical Text value = value
 canonical Address value = dotted value
 canonical Prefix value = prefix_text value
+canonical Prefix6 value = prefix6_text value
 canonical Area value = dotted value
 canonical IfName value = value
 canonical IfUnit value = units_text value

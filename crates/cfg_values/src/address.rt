@@ -89,7 +89,7 @@ fn spell_address(alloc: Global, quad: [u8; 4]) -> Result<Word, AllocError>
 }
 
 /// An address's text, a slash and the length.
-fn with_bits(alloc: Global, address: &str, bits: u8) -> Result<String, AllocError>
+pub fn with_bits(alloc: Global, address: &str, bits: u8) -> Result<String, AllocError>
     ensures { IfOk result (λ text. string_bytes text ≡ address.now ++ 47 ∷ decimal bits) }
 {
     format!(in alloc; "{address}/{bits}")

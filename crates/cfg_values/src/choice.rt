@@ -15,6 +15,14 @@ fn words_of(choice: Choice) -> &'static [&'static [u8]]
             b"all",
             b"clear",
             b"configure",
+            b"firewall",
+            b"firewall-control",
+            b"interface",
+            b"interface-control",
+            b"routing",
+            b"routing-control",
+            b"system",
+            b"system-control",
             b"view",
             b"view-configuration",
         ],
@@ -22,6 +30,7 @@ fn words_of(choice: Choice) -> &'static [&'static [u8]]
         Choice::GroupType => &[b"external", b"internal"],
         Choice::Protocol => &[b"bgp", b"direct", b"local", b"ospf", b"static"],
         Choice::NextHop => &[b"self"],
+        Choice::PacketProtocol => &[b"icmp", b"ospf", b"tcp", b"udp"],
     }
 }
 

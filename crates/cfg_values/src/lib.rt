@@ -7,6 +7,7 @@
 #![tactic(auto)]
 
 mod address;
+mod address6;
 mod choice;
 mod cut;
 mod fault;

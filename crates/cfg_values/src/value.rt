@@ -2,6 +2,7 @@ ghost use Rattle.std.specs.Prelude.{◌≡◌, ◌↔◌, IfOk, IfErr, IsErrOf};
 ghost use Rattle.cfg_values.specs.Spelling.{IsSpelling, IsCanonical, IsCanonicalOf, IsCause, IsAnswer};
 
 use crate::address::{read_address, read_area, read_prefix};
+use crate::address6::read_prefix6;
 use crate::choice::is_choice;
 use crate::fault::ValueFault;
 use crate::interface::{is_interface, read_units};
@@ -19,6 +20,7 @@ fn read(alloc: Global, kind: Kind, bytes: &[u8]) -> Result<Word, ValueFault>
         Kind::Text => as_read(alloc, kind, is_text(bytes), bytes),
         Kind::Address => read_address(alloc, bytes),
         Kind::Prefix => read_prefix(alloc, bytes),
+        Kind::Prefix6 => read_prefix6(alloc, bytes),
         Kind::Area => read_area(alloc, bytes),
         Kind::IfName => as_read(alloc, kind, is_interface(bytes), bytes),
         Kind::IfUnit => read_units(alloc, bytes),
