@@ -27,7 +27,7 @@ pub profile_apart : apart profile ≡ true
 unfolding profile
 profile_apart = refl
 
-pub profile_ordered : map (λ (line : Line). line.number) (filter (λ (line : Line). line.ordered) profile) ≡ 10 ∷ 77 ∷ []
+pub profile_ordered : map (λ (line : Line). line.number) (filter (λ (line : Line). line.ordered) profile) ≡ 10 ∷ 77 ∷ 102 ∷ []
 unfolding profile
 profile_ordered = refl
 

@@ -1,7 +1,7 @@
 -- The words of the statements. The selection is this project's own, of the words of the Junos OS CLI.
 use Rattle.std.specs.Prelude.{ℕ, List, [], codes}
 use Rattle.cfg_schema.specs.declared.keyword.Keyword.{Keyword}
-use Rattle.cfg_schema.specs.declared.keyword.Keyword.TheVariants.{Nothing, Version, Groups, ApplyGroups, ApplyGroupsExcept, System, HostName, DomainName, NameServer, Login, Class, Permissions, User, FullName, Uid, Services, Ssh, RootLogin, ConnectionLimit, Telnet, Netconf, Port, Ntp, Server, Prefer, Interfaces, Description, Disable, Mtu, VlanTagging, UnitNumber, VlanId, Family, Inet, Address, RoutingOptions, Static, Route, NextHop, Discard, Preference, RouterId, AutonomousSystem, Protocols, Bgp, Group, TypeOf, LocalAddress, Import, Export, PeerAs, Neighbor, Ospf, Area, Interface, Passive, Metric, HelloInterval, DeadInterval, PolicyOptions, PrefixList, PolicyStatement, Term, From, Protocol, RouteFilter, Exact, Orlonger, Then, LocalPreference, Accept, Reject}
+use Rattle.cfg_schema.specs.declared.keyword.Keyword.TheVariants.{Nothing, Version, Groups, ApplyGroups, ApplyGroupsExcept, System, HostName, DomainName, NameServer, Login, Class, Permissions, User, FullName, Uid, Services, Ssh, RootLogin, ConnectionLimit, Telnet, Netconf, Port, Ntp, Server, Prefer, Interfaces, Description, Disable, Mtu, VlanTagging, UnitNumber, VlanId, Family, Inet, Address, RoutingOptions, Static, Route, NextHop, Discard, Preference, RouterId, AutonomousSystem, Protocols, Bgp, Group, TypeOf, LocalAddress, Import, Export, PeerAs, Neighbor, Ospf, Area, Interface, Passive, Metric, HelloInterval, DeadInterval, PolicyOptions, PrefixList, PolicyStatement, Term, From, Protocol, RouteFilter, Exact, Orlonger, Then, LocalPreference, Accept, Reject, Inet6, Filter, Input, Output, Firewall, SourceAddress, DestinationAddress, DestinationPort, Count, Vlans}
 
 -- the bytes of a word
 abbrev pub spelled : Keyword → List ℕ
@@ -77,3 +77,13 @@ spelled Then = codes "then"
 spelled LocalPreference = codes "local-preference"
 spelled Accept = codes "accept"
 spelled Reject = codes "reject"
+spelled Inet6 = codes "inet6"
+spelled Filter = codes "filter"
+spelled Input = codes "input"
+spelled Output = codes "output"
+spelled Firewall = codes "firewall"
+spelled SourceAddress = codes "source-address"
+spelled DestinationAddress = codes "destination-address"
+spelled DestinationPort = codes "destination-port"
+spelled Count = codes "count"
+spelled Vlans = codes "vlans"

@@ -11,7 +11,7 @@ use Rattle.cfg_schema.specs.declared.keyword.Keyword.TheVariants.{Nothing}
 use Rattle.cfg_schema.specs.declared.table.Line.{Line}
 use Rattle.cfg_schema.specs.declared.table.Reach.{Reach}
 use Rattle.cfg_schema.specs.declared.table.Reach.TheVariants.{Top, Within, Outside, Everywhere}
-use Rattle.cfg_schema.specs.declared.table.TheConstants.{PROFILE_1}
+use Rattle.cfg_schema.specs.declared.table.TheConstants.{PROFILE_2}
 use Rattle.cfg_schema.specs.declared.rows.Row.{Row}
 use Rattle.cfg_schema.specs.declared.rows.TheConstants.{GROUPS, GROUP}
 use Rattle.cfg_schema.specs.declared.level.Level.{Level}
@@ -19,7 +19,7 @@ use Rattle.cfg_schema.specs.Keyword.{spelled}
 
 -- the rows in use
 unfoldable pub profile : List Line
-profile = PROFILE_1
+profile = PROFILE_2
 
 -- what stands past the end of the rows: no number of a row leads there
 abbrev pub no_line : Line

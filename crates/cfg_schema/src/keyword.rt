@@ -79,6 +79,16 @@ pub enum Keyword {
     LocalPreference,
     Accept,
     Reject,
+    Inet6,
+    Filter,
+    Input,
+    Output,
+    Firewall,
+    SourceAddress,
+    DestinationAddress,
+    DestinationPort,
+    Count,
+    Vlans,
 }
 
 impl Keyword {
@@ -159,6 +169,16 @@ impl Keyword {
             Keyword::LocalPreference => b"local-preference",
             Keyword::Accept => b"accept",
             Keyword::Reject => b"reject",
+            Keyword::Inet6 => b"inet6",
+            Keyword::Filter => b"filter",
+            Keyword::Input => b"input",
+            Keyword::Output => b"output",
+            Keyword::Firewall => b"firewall",
+            Keyword::SourceAddress => b"source-address",
+            Keyword::DestinationAddress => b"destination-address",
+            Keyword::DestinationPort => b"destination-port",
+            Keyword::Count => b"count",
+            Keyword::Vlans => b"vlans",
         }
     }
 }

@@ -5,7 +5,7 @@ use cfg_base::{Kind, Shape};
 use std::marker::Model;
 
 /// The number of rows, the top among them.
-pub const ROWS: u8 = 93;
+pub const ROWS: u8 = 119;
 
 /// The row `groups`.
 pub const GROUPS: u8 = 2;

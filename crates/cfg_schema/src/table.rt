@@ -107,8 +107,9 @@ macro_rules! line {
     };
 }
 
-/// The rows of the first profile, after the top, which has the number 0.
-static PROFILE_1: [Line; 93] = [
+/// The rows of the second profile, after the top, which has the number 0. The first 93 are the first
+/// profile's, each as it was: a new row only ever comes at the end.
+static PROFILE_2: [Line; 119] = [
     row!(0 top),
     row!(1 in 0, Version, Leaf Text),
     row!(2 outside, Groups, Container),
@@ -202,6 +203,32 @@ static PROFILE_1: [Line; 93] = [
     row!(90 in 85, Reject, Flag),
     row!(91 in 76, From, Container, as 78),
     row!(92 in 76, Then, Container, as 85),
+    row!(93 in 36, Family Inet6, Fixed),
+    row!(94 in 93, Mtu, Leaf Number 1280..16000),
+    row!(95 in 93, Address, Keyed Prefix6),
+    row!(96 in 40, Filter, Container),
+    row!(97 in 96, Input, Leaf Name),
+    row!(98 in 96, Output, Leaf Name),
+    row!(99 in 0, Firewall, Container),
+    row!(100 in 99, Family Inet, Fixed),
+    row!(101 in 100, Filter, Keyed Name),
+    row!(102 in 101, Term, Keyed Name, ordered),
+    row!(103 in 102, From, Container),
+    row!(104 in 103, SourceAddress, Container),
+    row!(105 in 104, Bare Prefix),
+    row!(106 in 103, DestinationAddress, Container),
+    row!(107 in 106, Bare Prefix),
+    row!(108 in 103, Protocol, Many OneOf PacketProtocol),
+    row!(109 in 103, DestinationPort, Many Number 0..65535),
+    row!(110 in 102, Then, Container),
+    row!(111 in 110, Count, Leaf Name),
+    row!(112 in 110, Accept, Flag),
+    row!(113 in 110, Discard, Flag),
+    row!(114 in 110, Reject, Flag),
+    row!(115 in 0, Vlans, Container),
+    row!(116 in 115, Bare Name),
+    row!(117 in 116, Description, Leaf Text),
+    row!(118 in 116, VlanId, Leaf Number 1..4094),
 ];
 
 /// The rows of the profile in use.
@@ -209,5 +236,5 @@ pub fn lines() -> &'static [Line]
     ensures rows { result.now ≡ profile }
     ensures number { length result.now ≡ ROWS }
 {
-    &PROFILE_1
+    &PROFILE_2
 }
