@@ -1,12 +1,9 @@
 -- The tests of the table, run once, and what they say of each row.
-use Rattle.std.proofs.Common.{None, not, ◌==◌, ◌≡◌, ℕ, zero, suc, ◌<◌, ◌+◌, nat_eq, Bool, true, false, List, [], ◌∷◌, ◌++◌, length, take, map, filter, refl, arith, ap, ◌∙◌, sym, subst, eqb-true, cond, append-nil}
+use Rattle.std.proofs.Common.{None, not, ◌==◌, ◌≡◌, ℕ, zero, suc, ◌<◌, ◌+◌, nat_eq, true, false, List, [], ◌∷◌, length, map, filter, refl, arith, sym, subst, eqb-true}
 use Rattle.std.specs.List.{list_all}
-use Rattle.std.proofs.lemmas.List.{take_more, map-append}
-use Rattle.std.proofs.lemmas.List.Elements.{filter-append}
 use Rattle.cfg_schema.specs.declared.table.Line.{Line}
-use Rattle.cfg_schema.specs.declared.level.Level.{Level}
 use Rattle.cfg_schema.specs.declared.rows.TheConstants.{ROWS}
-use Rattle.cfg_schema.specs.Profile.{profile, line_at, no_line, stands, rows_in}
+use Rattle.cfg_schema.specs.Profile.{profile, line_at}
 use Rattle.cfg_schema.specs.Place.{top_place, ordered_row}
 use Rattle.cfg_schema.specs.Facts.{numbered, is_sound, apart, height, rises_from}
 use Rattle.cfg_schema.proofs.TestLemmas.{both}
@@ -63,42 +60,3 @@ number_at id below = let at = numbered_at 0 profile id profile_numbered below in
 
 pub number_below : (id : ℕ) → id < ROWS → (line_at profile id).number ≡ id
 number_below id below = number_at id (subst (λ (n : ℕ). id < n) (sym profile_length) below)
-
-pub within : (lines : List Line) (id : ℕ) → lines ≡ profile → id < length lines → id < ROWS
-within lines id same below = subst (λ (n : ℕ). id < n) (ap (λ (ls : List Line). length ls) same ∙ profile_length) below
-
-rows_more : (lines : List Line) (level : Level) (n : ℕ) → n < length lines
-    → rows_in (take (n + 1) lines) level ≡ rows_in (take n lines) level ++ rows_in (line_at lines n ∷ []) level
-rows_more lines level n below =
-    ap (λ (ls : List Line). rows_in ls level) (take_more lines n no_line below)
-    ∙ ap (λ (ls : List Line). map (λ (line : Line). line.number) ls) (filter-append (stands level) (take n lines) (line_at lines n ∷ []))
-    ∙ map-append (λ (line : Line). line.number) (filter (stands level) (take n lines)) (filter (stands level) (line_at lines n ∷ []))
-
-one_kept : (level : Level) (line : Line) → true ≡ stands level line → rows_in (line ∷ []) level ≡ line.number ∷ []
-one_kept level line stood = ap (λ (b : Bool). map (λ (l : Line). l.number) (cond b (line ∷ []) [])) (sym stood)
-
-one_passed : (level : Level) (line : Line) → false ≡ stands level line → rows_in (line ∷ []) level ≡ []
-one_passed level line passed = ap (λ (b : Bool). map (λ (l : Line). l.number) (cond b (line ∷ []) [])) (sym passed)
-
-number_in : (lines : List Line) (n : ℕ) → lines ≡ profile → n < length lines → (line_at lines n).number ≡ n
-number_in lines n same = subst (λ (ls : List Line). n < length ls → (line_at ls n).number ≡ n) (sym same) (number_at n)
-
--- a row that stands there comes after those before it
-pub rows_kept : (lines : List Line) (level : Level) (n : ℕ) (so_far now : List ℕ)
-    → lines ≡ profile → n < length lines → true ≡ stands level (line_at lines n)
-    → so_far ≡ rows_in (take n lines) level → now ≡ so_far ++ n ∷ [] → now ≡ rows_in (take (n + 1) lines) level
-rows_kept lines level n so_far now same below stood e f =
-    let here = one_kept level (line_at lines n) stood ∙ ap (λ (k : ℕ). k ∷ []) (number_in lines n same below)
-    in f
-    ∙ ap (λ (xs : List ℕ). xs ++ n ∷ []) e
-    ∙ ap (λ (ys : List ℕ). rows_in (take n lines) level ++ ys) (sym here)
-    ∙ sym (rows_more lines level n below)
-
-pub rows_passed : (lines : List Line) (level : Level) (n : ℕ) (so_far : List ℕ)
-    → n < length lines → false ≡ stands level (line_at lines n)
-    → so_far ≡ rows_in (take n lines) level → so_far ≡ rows_in (take (n + 1) lines) level
-rows_passed lines level n so_far below passed e =
-    e
-    ∙ sym (append-nil (rows_in (take n lines) level))
-    ∙ ap (λ (ys : List ℕ). rows_in (take n lines) level ++ ys) (sym (one_passed level (line_at lines n) passed))
-    ∙ sym (rows_more lines level n below)

@@ -1,10 +1,10 @@
 -- What is asked of the rows of a level. The questions are this project's own.
-use Rattle.std.specs.Prelude.{ℕ, Bool, ◌&&◌, slice_index}
+use Rattle.std.specs.Prelude.{ℕ, Bool, ◌&&◌, List, [], ◌∷◌, map, Option, Some, None, slice_index_or, if◌then◌else◌}
 use Rattle.cfg_schema.specs.declared.table.Line.{Line}
 use Rattle.cfg_schema.specs.declared.level.Level.{Level}
 use Rattle.cfg_schema.specs.declared.query.Query.{Query}
 use Rattle.cfg_schema.specs.declared.query.Query.TheVariants.{Step, Head, Words, Name, Ordered}
-use Rattle.cfg_schema.specs.declared.search.TheConstants.{LAST_BELOW}
+use Rattle.cfg_schema.specs.declared.search.TheConstants.{ROWS_OF}
 use Rattle.cfg_schema.specs.Profile.{stands, begins, goes_on, names}
 use Rattle.cfg_schema.specs.Place.{fits}
 
@@ -16,6 +16,14 @@ is_asked level (Words word next) line = begins level word.now line && goes_on ne
 is_asked level Name line = names level line
 is_asked level Ordered line = stands level line && line.ordered
 
--- the last row right below a row, or the row itself where none is
-abbrev pub last_below : ℕ → ℕ
-last_below row = slice_index LAST_BELOW row
+-- the rows that may stand right below each row
+unfoldable pub row_lists : List (List ℕ)
+row_lists = map (λ rows. rows.now) ROWS_OF
+
+abbrev pub rows_of : ℕ → List ℕ
+rows_of row = slice_index_or row_lists row []
+
+-- the first of some rows that passes a test
+abbrev pub first_of : (ℕ → Bool) → List ℕ → Option ℕ
+first_of test [] = None
+first_of test (row ∷ rows) = (if test row then Some row else first_of test rows)

@@ -1,40 +1,154 @@
-//! The rows of a level are sought where they stand: after the level's row, up to the last one of it. The
-//! apply statements, which stand at many levels, are sought apart.
+//! The rows of a level are sought among those that may stand there, which a list has for each row.
 
-ghost use Rattle.std.specs.Prelude.{◌≡◌, ◌<◌, ◌≤◌, ◌+◌, length, position, slice_range};
+ghost use Rattle.std.specs.Prelude.{◌≡◌, ◌<◌, length, map, position};
+ghost use Rattle.std.specs.List.{AllByRecursion};
 ghost use Rattle.cfg_schema.specs.declared.rows.TheConstants.{ROWS};
-ghost use Rattle.cfg_schema.specs.declared.search.TheConstants.{LAST_BELOW};
-ghost use Rattle.cfg_schema.specs.Profile.{profile, has_rows};
-ghost use Rattle.cfg_schema.specs.Query.{is_asked, last_below};
+ghost use Rattle.cfg_schema.specs.Profile.{profile, line_at, has_rows};
+ghost use Rattle.cfg_schema.specs.Query.{is_asked, row_lists, rows_of, first_of};
 
 use crate::level::Level;
 use crate::query::Query;
-use crate::rows::{APPLY_GROUPS, APPLY_GROUPS_EXCEPT};
 use crate::table::Line;
 
-/// The last row right below each row, or the row itself where none is.
-static LAST_BELOW: [u8; 119] = [
-    115, 1, 3, 3, 4, 5, 27, 7, 8, 10, 10, 14, 13, 13, 17, 15, 16, 17, 24, 21, 20, 21, 23, 23, 25,
-    26, 26, 28, 29, 29, 31, 36, 32, 33, 34, 35, 93, 37, 38, 39, 96, 41, 42, 50, 45, 48, 46, 47, 48,
-    49, 50, 64, 53, 59, 54, 55, 56, 57, 58, 63, 60, 61, 62, 63, 66, 65, 67, 72, 68, 69, 70, 71, 72,
-    76, 75, 75, 92, 85, 82, 79, 80, 81, 84, 83, 84, 90, 86, 87, 88, 89, 90, 91, 92, 95, 94, 95, 98,
-    97, 98, 100, 101, 102, 110, 109, 105, 105, 107, 107, 108, 109, 114, 111, 112, 113, 114, 116,
-    118, 117, 118,
+/// The rows that may stand right below each row, in their order: its own, and the apply statements, which may stand below
+/// every row.
+static ROWS_OF: [&[u8]; 119] = [
+    &[1, 2, 4, 5, 6, 30, 43, 51, 73, 99, 115],
+    &[4, 5],
+    &[3, 4, 5],
+    &[4, 5],
+    &[4, 5],
+    &[4, 5],
+    &[4, 5, 7, 8, 9, 11, 18, 27],
+    &[4, 5],
+    &[4, 5],
+    &[4, 5, 10],
+    &[4, 5],
+    &[4, 5, 12, 14],
+    &[4, 5, 13],
+    &[4, 5],
+    &[4, 5, 15, 16, 17],
+    &[4, 5],
+    &[4, 5],
+    &[4, 5],
+    &[4, 5, 19, 22, 24],
+    &[4, 5, 20, 21],
+    &[4, 5],
+    &[4, 5],
+    &[4, 5, 23],
+    &[4, 5],
+    &[4, 5, 25],
+    &[4, 5, 26],
+    &[4, 5],
+    &[4, 5, 28],
+    &[4, 5, 29],
+    &[4, 5],
+    &[4, 5, 31],
+    &[4, 5, 32, 33, 34, 35, 36],
+    &[4, 5],
+    &[4, 5],
+    &[4, 5],
+    &[4, 5],
+    &[4, 5, 37, 38, 39, 40, 93],
+    &[4, 5],
+    &[4, 5],
+    &[4, 5],
+    &[4, 5, 41, 42, 96],
+    &[4, 5],
+    &[4, 5],
+    &[4, 5, 44, 49, 50],
+    &[4, 5, 45],
+    &[4, 5, 46, 47, 48],
+    &[4, 5],
+    &[4, 5],
+    &[4, 5],
+    &[4, 5],
+    &[4, 5],
+    &[4, 5, 52, 64],
+    &[4, 5, 53],
+    &[4, 5, 54, 55, 56, 57, 58, 59],
+    &[4, 5],
+    &[4, 5],
+    &[4, 5],
+    &[4, 5],
+    &[4, 5],
+    &[4, 5, 60, 61, 62, 63],
+    &[4, 5],
+    &[4, 5],
+    &[4, 5],
+    &[4, 5],
+    &[4, 5, 65, 66],
+    &[4, 5],
+    &[4, 5, 67],
+    &[4, 5, 68, 69, 70, 71, 72],
+    &[4, 5],
+    &[4, 5],
+    &[4, 5],
+    &[4, 5],
+    &[4, 5],
+    &[4, 5, 74, 76],
+    &[4, 5, 75],
+    &[4, 5],
+    &[4, 5, 77, 91, 92],
+    &[4, 5, 78, 85],
+    &[4, 5, 79, 80, 81, 82],
+    &[4, 5],
+    &[4, 5],
+    &[4, 5],
+    &[4, 5, 83, 84],
+    &[4, 5],
+    &[4, 5],
+    &[4, 5, 86, 87, 88, 89, 90],
+    &[4, 5],
+    &[4, 5],
+    &[4, 5],
+    &[4, 5],
+    &[4, 5],
+    &[4, 5],
+    &[4, 5],
+    &[4, 5, 94, 95],
+    &[4, 5],
+    &[4, 5],
+    &[4, 5, 97, 98],
+    &[4, 5],
+    &[4, 5],
+    &[4, 5, 100],
+    &[4, 5, 101],
+    &[4, 5, 102],
+    &[4, 5, 103, 110],
+    &[4, 5, 104, 106, 108, 109],
+    &[4, 5, 105],
+    &[4, 5],
+    &[4, 5, 107],
+    &[4, 5],
+    &[4, 5],
+    &[4, 5],
+    &[4, 5, 111, 112, 113, 114],
+    &[4, 5],
+    &[4, 5],
+    &[4, 5],
+    &[4, 5],
+    &[4, 5, 116],
+    &[4, 5, 117, 118],
+    &[4, 5],
+    &[4, 5],
 ];
 
-fn lasts() -> &'static [u8]
-    ensures { result.now ≡ LAST_BELOW }
+/// The list of each row.
+fn row_lists() -> &'static [&'static [u8]]
+    ensures lists { map (λ rows. rows.now) result.now ≡ row_lists }
+    ensures number { length result.now ≡ ROWS }
 {
-    &LAST_BELOW
+    &ROWS_OF
 }
 
-fn last_below(row: u8) -> u8
+/// The rows that may stand right below a row.
+pub fn rows_of(row: u8) -> &'static [u8]
     requires { row < ROWS }
-    ensures last { result ≡ last_below row }
-    ensures behind { row ≤ result }
-    ensures within { result < ROWS }
+    ensures rows { result.now ≡ rows_of row }
+    ensures within { AllByRecursion (λ r. r < ROWS) result.now }
 {
-    lasts()[row as usize]
+    row_lists()[row as usize]
 }
 
 /// Whether rows are listed below a row.
@@ -42,31 +156,27 @@ pub fn has_rows(row: u8) -> bool
     requires { row < ROWS }
     ensures { result ≡ has_rows profile row }
 {
-    row < last_below(row)
+    // The apply statements are in each list.
+    rows_of(row).len() > 2
 }
 
-/// The part of the table in which the rows listed below a row stand.
-fn part_below(lines: &[Line], row: u8) -> &[Line]
+/// The first of these rows that is asked for.
+fn first_of(lines: &[Line], level: &Level, query: &Query<'_>, rows: &[u8]) -> Option<usize>
     requires number { length lines.now ≡ ROWS }
-    requires within { row < ROWS }
-    ensures { result.now ≡ slice_range lines.now (row + 1) (last_below row + 1) }
+    requires within { AllByRecursion (λ r. r < ROWS) rows.now }
+    ensures { result ≡ first_of (λ row. is_asked level.now query.now (line_at lines.now row)) rows.now }
 {
-    let last = last_below(row);
-    &lines[row as usize + 1..last as usize + 1]
-}
-
-/// The part of the table in which the apply statements stand.
-fn apply_part(lines: &[Line]) -> &[Line]
-    requires { length lines.now ≡ ROWS }
-    ensures { result.now ≡ slice_range lines.now 4 6 }
-{
-    &lines[APPLY_GROUPS as usize..APPLY_GROUPS_EXCEPT as usize + 1]
-}
-
-fn first_in(part: &[Line], level: &Level, query: &Query<'_>) -> Option<usize>
-    ensures { result ≡ position (is_asked level.now query.now) part.now }
-{
-    part.iter().position(|line| query.is_asked(level, line))
+    match rows {
+        [] => None,
+        [row, rest @ ..] => {
+            let place = *row as usize;
+            if query.is_asked(level, &lines[place]) {
+                Some(place)
+            } else {
+                first_of(lines, level, query, rest)
+            }
+        }
+    }
 }
 
 /// The place of the first row of a level that is asked for.
@@ -76,14 +186,5 @@ pub fn first_row(lines: &[Line], level: &Level, query: &Query<'_>) -> Option<usi
     requires within { level.now.inner < ROWS }
     ensures { result ≡ position (is_asked level.now query.now) lines.now }
 {
-    if level.inner <= APPLY_GROUPS_EXCEPT {
-        return first_in(lines, level, query);
-    }
-    if let Some(place) = first_in(apply_part(lines), level, query) {
-        return Some(place + APPLY_GROUPS as usize);
-    }
-    match first_in(part_below(lines, level.inner), level, query) {
-        Some(place) => Some(place + level.inner as usize + 1),
-        None => None,
-    }
+    first_of(lines, level, query, rows_of(level.inner))
 }
