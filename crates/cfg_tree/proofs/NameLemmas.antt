@@ -9,7 +9,7 @@ use Rattle.std.proofs.lemmas.Fmt.{decimal_is_IsNumeral}
 use Rattle.std.proofs.lemmas.Str.Parse.{digit_at}
 use Rattle.cfg_base.specs.Kind.{is_name_byte, is_host_byte}
 use Rattle.cfg_base.specs.declared.kind.Kind.{Kind}
-use Rattle.cfg_base.specs.declared.kind.Kind.TheVariants.{Name, Host, Text, Address, Prefix, Area, IfName, IfUnit, Number, OneOf}
+use Rattle.cfg_base.specs.declared.kind.Kind.TheVariants.{Name, Host, Text, Address, Prefix, Prefix6, Area, IfName, IfUnit, Number, OneOf}
 use Rattle.cfg_base.specs.declared.kind.Shape.TheVariants.{Bare}
 use Rattle.cfg_schema.specs.declared.table.Line.{Line}
 use Rattle.cfg_schema.specs.Keyword.{spelled}
@@ -19,9 +19,11 @@ use Rattle.cfg_schema.proofs.TestLemmas.{bare_is}
 use Rattle.cfg_schema.proofs.LevelLemmas.{all_at}
 use Rattle.cfg_values.specs.Number.{IsNumberWithin}
 use Rattle.cfg_values.specs.Address.{IsAddress, IsPrefix, IsArea, AreOctets, dotted}
+use Rattle.cfg_values.specs.Address6.{is_group_byte, IsAddress6, IsPrefix6}
 use Rattle.cfg_values.specs.Interface.{IsInterface, IsUnits, EveryUnit, UnitOf}
 use Rattle.cfg_values.specs.Pattern.{IsPattern}
 use Rattle.cfg_values.specs.Spelling.{IsCanonicalOf, ValueOf}
+use Rattle.cfg_values.proofs.Address6Lemmas.{address6_some}
 use Rattle.cfg_values.proofs.SpellingLemmas.{IsCanonicalOf-unique, IsCanonical-from}
 use Rattle.cfg_tree.specs.Typed.{IsNameOf, IsName}
 
@@ -85,6 +87,32 @@ prefix_begins bytes net (inr h) =
     (begins_more 48 57 h.text _
     (subst (λ (b : List ℕ). Begins 48 57 b) (sym h.front.spelled) (dotted_begins h.numbers h.front.some h.front.octets)))
 
+-- an IPv6 address or prefix begins with a digit of a group or a colon
+abbrev BeginsGroup : List ℕ → Type 0
+BeginsGroup bytes = (0 < length bytes) × (is_group_byte (get_or bytes 0 0) ≡ true)
+
+first_group : (bytes : List ℕ) → 0 < length bytes → list_all is_group_byte bytes ≡ true → is_group_byte (get_or bytes 0 0) ≡ true
+first_group [] some h = absurd (omega (arith, some))
+first_group (b ∷ bytes) some h = by_test (is_group_byte b) h
+  where
+    by_test : (c : Bool) → (c && list_all is_group_byte bytes) ≡ true → c ≡ true
+    by_test true e = refl
+    by_test false e = cc
+
+address6_begins : (bytes groups : List ℕ) → IsAddress6 bytes groups → BeginsGroup bytes
+address6_begins bytes groups h = let some = address6_some bytes groups h in (some, first_group bytes some h.bare)
+
+prefix6_begins : (bytes : List ℕ) (net : ValueOf Prefix6) → IsPrefix6 bytes net → BeginsGroup bytes
+prefix6_begins bytes net (inl h) = address6_begins bytes net.groups h.address
+prefix6_begins bytes net (inr h) =
+    let front = address6_begins h.text net.groups h.address
+    in let whole : BeginsGroup (h.text ++ 47 ∷ decimal net.bits) =
+    (omega (arith, front.0, length-append h.text (47 ∷ decimal net.bits)), ap is_group_byte (get_or-append h.text (47 ∷ decimal net.bits) 0 0 front.0) ∙ front.1)
+    in subst (λ (b : List ℕ). BeginsGroup b) (sym h.spelled) whole
+
+no_angle6 : (bytes : List ℕ) → BeginsGroup bytes → get_or bytes 0 0 ≡ 60 → ⊥
+no_angle6 bytes h e = let k : false ≡ true = ap is_group_byte (sym e) ∙ h.1 in cc
+
 -- where a wildcard name is a spelling of a kind, it is the canonical one
 spelled_pattern : (kind : Kind) (bytes word : List ℕ) → IsCanonicalOf kind bytes word → IsPattern bytes → word ≡ bytes
 spelled_pattern Name bytes word h p = h.canonical_is ∙ h.spells.1
@@ -94,6 +122,7 @@ spelled_pattern IfName bytes word h p = h.canonical_is ∙ h.spells.1
 spelled_pattern (OneOf choice) bytes word h p = h.canonical_is ∙ h.spells.1
 spelled_pattern Address bytes word h p = absurd (not_digit bytes (address_begins bytes h.value h.spells) p)
 spelled_pattern Prefix bytes word h p = absurd (not_digit bytes (prefix_begins bytes h.value h.spells) p)
+spelled_pattern Prefix6 bytes word h p = absurd (no_angle6 bytes (prefix6_begins bytes h.value h.spells) (pattern_begins bytes p))
 spelled_pattern Area bytes word h p = by_area h.spells
   where
     by_area : IsArea bytes h.value → word ≡ bytes
@@ -170,6 +199,7 @@ canonical_no_head Prefix parent in_group bytes word e h none =
     no_head parent in_group word (prefix_begins word _ (IsCanonical-from Prefix bytes word h).spells)
 canonical_no_head Host parent in_group bytes word e h none = cc
 canonical_no_head Text parent in_group bytes word e h none = cc
+canonical_no_head Prefix6 parent in_group bytes word e h none = cc
 canonical_no_head Area parent in_group bytes word e h none = cc
 canonical_no_head IfUnit parent in_group bytes word e h none = cc
 canonical_no_head (Number from to) parent in_group bytes word e h none = cc
@@ -202,6 +232,7 @@ spelled_some Host bytes word e h = h.spells.0.0
 spelled_some IfName bytes word e h = h.spells.0.some
 spelled_some Address bytes word e h = (address_begins bytes h.value h.spells).0
 spelled_some Prefix bytes word e h = (prefix_begins bytes h.value h.spells).0
+spelled_some Prefix6 bytes word e h = (prefix6_begins bytes h.value h.spells).0
 spelled_some Area bytes word e h = by_area h.spells
   where
     by_area : IsArea bytes h.value → 0 < length bytes
@@ -236,6 +267,7 @@ canonical_tame Host bytes word e h angle = no_angle is_host_byte bytes refl h.sp
 canonical_tame IfName bytes word e h angle = let k = (lowercase_begins bytes h.spells.0).1 in omega (arith, k, angle)
 canonical_tame Address bytes word e h angle = let k = (address_begins bytes h.value h.spells).2 in omega (arith, k, angle)
 canonical_tame Prefix bytes word e h angle = let k = (prefix_begins bytes h.value h.spells).2 in omega (arith, k, angle)
+canonical_tame Prefix6 bytes word e h angle = no_angle6 bytes (prefix6_begins bytes h.value h.spells) angle
 canonical_tame Area bytes word e h angle = by_area h.spells
   where
     by_area : IsArea bytes h.value → ⊥
