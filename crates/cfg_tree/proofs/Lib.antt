@@ -40,3 +40,5 @@ pub mod NamingLemmas
 pub mod LimitLemmas
 pub mod StatedLemmas
 pub mod FullLemmas
+pub mod FirstLemmas
+pub mod FoundLemmas

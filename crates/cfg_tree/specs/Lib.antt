@@ -16,3 +16,4 @@ pub mod Relaid
 pub mod Stated
 pub mod Naming
 pub mod Full
+pub mod FirstProfile

@@ -14,6 +14,7 @@ mod children;
 mod draft;
 mod excess;
 mod fault;
+mod first_profile;
 mod full;
 mod gather;
 mod laws;
@@ -34,6 +35,7 @@ mod walk;
 pub use draft::{Draft, two_maps_have_one_union};
 pub use excess::statement_past_limit;
 pub use fault::TreeFault;
+pub use first_profile::{FIRST_ROWS, PERMISSIONS};
 pub use full::{Full, FullMaker, FullWalk, Given};
 pub use gather::GatherFault;
 pub use laws::{
