@@ -1,5 +1,5 @@
 -- Commits that are read from records one after another, after others.
-use Rattle.std.proofs.Common.{◌≡◌, ◌≢◌, ◌≤◌, ◌+◌, ◌-◌, ◌∙◌, inl, inr, ℕ, List, [], ◌∷◌, ◌++◌, length, take, drop, get_or, refl, sym, ap, subst, arith, append_assoc, length-append, ⊎_elim}
+use Rattle.std.proofs.Common.{◌≡◌, ◌≢◌, ◌≤◌, ◌-◌, ◌∙◌, inl, inr, ℕ, Bool, false, List, [], ◌∷◌, ◌++◌, length, take, drop, get_or, sym, ap, subst, arith, append_assoc}
 use Rattle.std.proofs.lemmas.List.{append-nil, take_all}
 use Rattle.cfg_tree.specs.Statements.{Statements}
 use Rattle.record_code.specs.declared.payloads.Placed.{Placed}
@@ -10,7 +10,7 @@ use Rattle.commit_ledger.specs.Kept.{Kept}
 use Rattle.commit_ledger.specs.Checkpoint.{KeepForm, IsAmong}
 use Rattle.commit_ledger.specs.Restored.{IsBadKeep, IsReadKeep, IsRestored}
 use Rattle.commit_ledger.specs.Restoring.{AreCommits, AreReadBehind, IsBadCommit, IsReadBehind}
-use Rattle.commit_ledger.specs.Rules.{IsRecordOf}
+use Rattle.commit_ledger.specs.Rules.{IsRecordOf, new_after}
 use Rattle.commit_ledger.proofs.ImageLemmas.{first_and_rest}
 use Rattle.commit_ledger.proofs.KeepLemmas.{how_many}
 
@@ -29,21 +29,21 @@ placed_and_rest [] first is some = absurd (omega (arith, some))
 placed_and_rest (p ∷ records) first is some =
     sym (ap (λ (q : Placed). q ∷ take (length (p ∷ records) - 1) records) is ∙ ap (λ (l : List Placed). p ∷ l) (take_all (length (p ∷ records) - 1) records (omega arith)))
 
-module _ (P : Statements → Type 0) (records : List Placed) (first : Placed) (is : first ≡ get_or records 0 first) (some : 1 ≤ length records) where
+module _ (P : Statements → Type 0) (new : Bool) (records : List Placed) (first : Placed) (is : first ≡ get_or records 0 first) (some : 1 ≤ length records) where
   abbrev rest : List Placed
   rest = take (length records - 1) (drop 1 records)
 
-  pub read_more : (before between after : List Commit) → IsReadBehind P first before between → AreReadBehind P (take (length records - 1) (drop 1 records)) between after → AreReadBehind P records before after
+  pub read_more : (before between after : List Commit) → IsReadBehind P new first before between → AreReadBehind P (new_after new (record_of first ∷ [])) (take (length records - 1) (drop 1 records)) between after → AreReadBehind P new records before after
   read_more before between after one more = record {
     commits = one.commit ∷ more.commits;
-    are = subst (λ (l : List Placed). AreCommits P l (one.commit ∷ more.commits)) (sym (placed_and_rest records first is some)) (one.is_record, more.are);
+    are = subst (λ (l : List Placed). AreCommits P new l (one.commit ∷ more.commits)) (sym (placed_and_rest records first is some)) (one.is_record, more.are);
     is = more.is ∙ ap (λ (l : List Commit). l ++ more.commits) one.is ∙ append_assoc before (one.commit ∷ []) more.commits;
   }
 
-  pub bad_first : (offset : ℕ) → offset ≡ first.offset → ((c : Commit) → IsRecordOf P (record_of first) (CommitOf c) → ⊥) → IsBadCommit P records offset
+  pub bad_first : (offset : ℕ) → offset ≡ first.offset → ((c : Commit) → IsRecordOf P new (record_of first) (CommitOf c) → ⊥) → IsBadCommit P new records offset
   bad_first offset place broken = record { good = []; bad = first; rest = rest; commits = []; cut = placed_and_rest records first is some; before = tt; broken = broken; place = place }
 
-  pub bad_later : (before between : List Commit) (offset : ℕ) → IsReadBehind P first before between → IsBadCommit P (take (length records - 1) (drop 1 records)) offset → IsBadCommit P records offset
+  pub bad_later : (before between : List Commit) (offset : ℕ) → IsReadBehind P new first before between → IsBadCommit P (new_after new (record_of first ∷ [])) (take (length records - 1) (drop 1 records)) offset → IsBadCommit P new records offset
   bad_later before between offset one bad = record {
     good = first ∷ bad.good;
     bad = bad.bad;
@@ -56,16 +56,16 @@ module _ (P : Statements → Type 0) (records : List Placed) (first : Placed) (i
   }
 
 -- of no record no commit
-pub read_none : (P : Statements → Type 0) (records : List Placed) (commits : List Commit) → records ≡ [] → AreReadBehind P records commits commits
-read_none P records commits is = record { commits = []; are = subst (λ (l : List Placed). AreCommits P l []) (sym is) tt; is = sym (append-nil commits) }
+pub read_none : (P : Statements → Type 0) (new : Bool) (records : List Placed) (commits : List Commit) → records ≡ [] → AreReadBehind P new records commits commits
+read_none P new records commits is = record { commits = []; are = subst (λ (l : List Placed). AreCommits P new l []) (sym is) tt; is = sym (append-nil commits) }
 
 -- the commits of records, after none
-module _ (P : Statements → Type 0) (f : KeepForm) (place : ℕ) (records : List Placed) (before after : List Commit) (none : before ≡ []) (read : AreReadBehind P records before after) where
+module _ (P : Statements → Type 0) (f : KeepForm) (place : ℕ) (records : List Placed) (before after : List Commit) (none : before ≡ []) (read : AreReadBehind P false records before after) where
   whole : after ≡ read.commits
   whole = read.is ∙ ap (λ (l : List Commit). l ++ read.commits) none
 
   pub read_size : length after ≡ length records
-  read_size = ap length whole ∙ sym (how_many P records read.commits read.are)
+  read_size = ap length whole ∙ sym (how_many P false records read.commits read.are)
 
   pub read_keep_ok : (kept : Kept) → IsRestored f after kept → IsReadKeep P f records kept
   read_keep_ok kept restored = record { commits = read.commits; are = read.are; restored = subst (λ (l : List Commit). IsRestored f l kept) whole restored }

@@ -44,7 +44,7 @@ first_is_read P commit is number plain = record {
     refl,
     record {
       entry = CommitOf commit;
-      is_record = record { is = refl; is_entry = is };
+      is_record = record { is = inl refl; is_entry = is };
       commit = commit;
       first = record { is = refl; number = number; plain = plain };
       is = refl;

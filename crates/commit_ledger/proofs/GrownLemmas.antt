@@ -1,5 +1,5 @@
 -- What holds of every list that was read or grew from one that was: so its checkpoint is read as what it keeps.
-use Rattle.std.proofs.Common.{◌≡◌, ◌≢◌, ◌≤◌, ◌<◌, ◌⊎◌, inl, inr, ⊎_elim, ℕ, zero, suc, ◌+◌, ◌-◌, ◌==◌, Bool, true, false, cond, nat_lt, List, [], ◌∷◌, ◌++◌, length, take, drop, Option, Some, None, refl, sym, ◌∙◌, ap, subst, arith, append_assoc, length-append, length-drop, take-append-drop, true≢false}
+use Rattle.std.proofs.Common.{◌≡◌, ◌≢◌, ◌≤◌, ◌<◌, ◌⊎◌, inl, inr, ⊎_elim, ℕ, zero, suc, ◌+◌, ◌-◌, ◌==◌, Bool, true, false, cond, nat_lt, List, [], ◌∷◌, ◌++◌, length, map, take, drop, Option, Some, None, refl, sym, ◌∙◌, ap, subst, arith, append_assoc, length-append, length-drop, take-append-drop, true≢false}
 use Rattle.std.specs.Prelude.{IfSome, IsSome}
 use Rattle.std.specs.List.{AllByRecursion}
 use Rattle.std.proofs.lemmas.Bool.Decides.{nat_tests}
@@ -11,9 +11,10 @@ use Rattle.commit_ledger.specs.declared.entry.Confirm.{Confirm}
 use Rattle.commit_ledger.specs.declared.entry.Entry.{Entry}
 use Rattle.commit_ledger.specs.declared.entry.Entry.TheVariants.{Commit as CommitOf, Confirm as ConfirmOf}
 use Rattle.commit_ledger.specs.declared.limit.TheConstants.{MAX_ENTRIES}
-use Rattle.commit_ledger.specs.Kept.{Kept, Unconfirmed, opened, newest, commits_of, append_entry, append_commit, append_confirm, target_in, target_of}
+use Rattle.commit_ledger.specs.Kept.{Kept, Unconfirmed, opened, commits_of, append_entry, append_commit, append_confirm, target_in, target_of}
 use Rattle.commit_ledger.specs.Rules.{IsCommit, IsEntry, Follows}
-use Rattle.commit_ledger.specs.Checkpoint.{first_of, first_number, far_target, listed, checkpoint, AreConsecutive, AreInTime, IsAmong, IsRunAmong, IsRestorable, Restores, Agrees, as_read}
+use Rattle.commit_ledger.specs.Checkpoint.{first_of, first_number, far_target, listed, checkpoint, commit_record, AreConsecutive, AreInTime, IsAmong, IsRunAmong, IsRestorable, Restores, Agrees, as_read}
+use Rattle.commit_ledger.proofs.RecordLemmas.{all_written}
 
 -- numbers that rise and moments that don't fall
 abbrev AreRising : List Commit → Type 0
@@ -407,7 +408,9 @@ pub checkpoint_is_read : (P : Statements → Type 0) (kept : Kept) → IsGrown P
 checkpoint_is_read P kept grown =
     let rules = is_restorable P kept grown in
     record {
+      commits = map commit_record (listed kept);
       is = refl;
+      are = all_written false (listed kept);
       rules = record { each = rules.each; numbers = rules.numbers; few = rules.few; whole = rules.whole; moments = rules.moments; counted = rules.counted; number = rules.number; room = rules.room; run = run kept.pending rules.run };
       moment = refl;
     }

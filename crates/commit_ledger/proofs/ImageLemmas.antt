@@ -9,9 +9,9 @@ use Rattle.commit_ledger.specs.Payload.{HasShortText, commit_bytes, form_of}
 use Rattle.commit_ledger.specs.Checkpoint.{HaveShortTexts, checkpoint, commit_record, far_target, first_number, keep_bytes, keep_form, keep_record, listed}
 
 pub commit_is : (commit : Commit) (payload : List ℕ) (image : List Record) → payload ≡ commit_bytes (form_of commit)
-    → image ++ record { kind = 1; payload = payload } ∷ [] ≡ image ++ commit_record commit ∷ []
+    → image ++ record { kind = 4; payload = payload } ∷ [] ≡ image ++ commit_record commit ∷ []
 commit_is commit payload image is =
-    let path : image ++ record { kind = 1; payload = payload } ∷ [] ≡ image ++ commit_record commit ∷ [] = ap (λ (p : List ℕ). image ++ record { kind = 1; payload = p } ∷ []) is in
+    let path : image ++ record { kind = 4; payload = payload } ∷ [] ≡ image ++ commit_record commit ∷ [] = ap (λ (p : List ℕ). image ++ record { kind = 4; payload = p } ∷ []) is in
     path
 
 -- commits from their first one on

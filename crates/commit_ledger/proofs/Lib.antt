@@ -13,3 +13,4 @@ pub mod RestoredLemmas
 pub mod RecordLemmas
 pub mod KeepLemmas
 pub mod BehindLemmas
+pub mod FormerLemmas

@@ -1,5 +1,5 @@
 -- Records have one reading or a bad record, and what is read or grew from it has a checkpoint that is read.
-use Rattle.std.proofs.Common.{◌≡◌, ◌≢◌, ◌≤◌, ◌<◌, ◌⊎◌, inl, inr, ⊎_elim, ℕ, ◌+◌, ◌^◌, List, [], ◌∷◌, ◌++◌, length, map, Option, Some, None, refl, sym, ◌∙◌, ap, subst, arith, append_assoc, length-append}
+use Rattle.std.proofs.Common.{◌≡◌, ◌≢◌, ◌≤◌, inl, inr, ℕ, Bool, false, List, [], ◌∷◌, ◌++◌, length, Option, Some, None, refl, sym, ◌∙◌, ap, subst, arith, append_assoc, length-append}
 use Rattle.std.specs.Prelude.{IfSome, IsSome}
 use Rattle.std.proofs.lemmas.List.{append-nil, length-map, map-append}
 use Rattle.std.proofs.lemmas.List.Elements.{All-from_recursion}
@@ -10,18 +10,17 @@ use Rattle.record_code.specs.Listed.{record_of, records_of}
 use Rattle.record_code.specs.Record.{Record}
 use Rattle.commit_ledger.specs.declared.limit.TheConstants.{MAX_ENTRIES}
 use Rattle.commit_ledger.specs.declared.entry.Commit.{Commit}
-use Rattle.commit_ledger.specs.declared.entry.Confirm.{Confirm}
 use Rattle.commit_ledger.specs.declared.entry.Entry.{Entry}
 use Rattle.commit_ledger.specs.declared.entry.Entry.TheVariants.{Commit as CommitOf, Confirm as ConfirmOf}
-use Rattle.commit_ledger.specs.Kept.{Kept, KeepsMaps, Unconfirmed, append_entry, commits_of, opened}
+use Rattle.commit_ledger.specs.Kept.{Kept, KeepsMaps, Unconfirmed, append_entry, commits_of}
 use Rattle.commit_ledger.specs.Payload.{entry_record}
-use Rattle.commit_ledger.specs.Rules.{IsCommit, IsEntry, Follows}
+use Rattle.commit_ledger.specs.Rules.{IsCommit, IsEntry, Follows, new_after}
 use Rattle.commit_ledger.specs.Reading.{Begins, BeginsBadly, GoesOn, GoesThrough, IsBadBehind, IsBegun, IsFirstBad, IsUnread, Opens, ReadsAs}
-use Rattle.commit_ledger.specs.Checkpoint.{KeepForm, keep_form, keep_record, listed, commit_record, checkpoint, HaveShortTexts, IsRunAmong, Restores, Agrees, as_read}
-use Rattle.commit_ledger.proofs.RecordLemmas.{goes_push, one_more, one_opening}
+use Rattle.commit_ledger.specs.Checkpoint.{keep_form, keep_record, listed, checkpoint, HaveShortTexts, IsRunAmong, Restores, Agrees, as_read}
+use Rattle.commit_ledger.proofs.RecordLemmas.{goes_push, one_more, one_opening, written_now}
 use Rattle.commit_ledger.proofs.BadLemmas.{bad_not_begun, one_bad_checkpoint, opens_kind}
 use Rattle.commit_ledger.proofs.GrownLemmas.{IsGrown, all_among, all_back, among_back, entry_grows, opened_is_grown, restored_is_grown, agreeing_is_grown, checkpoint_is_read, is_restorable, reads_agree}
-use Rattle.commit_ledger.proofs.RestoreLemmas.{one_restored, same_size}
+use Rattle.commit_ledger.proofs.RestoreLemmas.{as_many, one_restored, same_size}
 
 -- one more entry that may come next is read after the others
 pub appended_is_read : (P : Statements → Type 0) (rs : List Record) (kept : Kept) (entry : Entry) → ReadsAs P rs kept → IsEntry P entry → Follows kept entry → ReadsAs P (rs ++ entry_record entry ∷ []) (append_entry kept entry)
@@ -31,8 +30,13 @@ appended_is_read P rs kept entry reads is follows = record {
   cut = ap (λ (l : List Record). l ++ entry_record entry ∷ []) reads.cut ∙ append_assoc reads.front reads.rest (entry_record entry ∷ []);
   first = reads.first;
   begins = reads.begins;
-  reads = goes_push P reads.first reads.rest kept (entry_record entry) (append_entry kept entry) reads.reads
-      (record { entry = entry; is_record = record { is = refl; is_entry = is }; follows = follows; is = refl });
+  reads = goes_push P (new_after false reads.front) reads.first reads.rest kept (entry_record entry) (append_entry kept entry) reads.reads
+      (record {
+        entry = entry;
+        is_record = record { is = written_now (new_after (new_after false reads.front) reads.rest) entry; is_entry = is };
+        follows = follows;
+        is = refl;
+      });
 }
 
 -- an entry that follows a value follows one that agrees with it, and leaves the same
@@ -58,14 +62,14 @@ begins_grown : (P : Statements → Type 0) (front : List Record) (kept : Kept) �
 begins_grown P front kept (inl one) = subst (IsGrown P) (sym one.2.is) (opened_is_grown P one.2.commit (first_commit P one.0 kept one.2) one.2.first.number)
 begins_grown P front kept (inr restores) = restored_is_grown P kept restores.rules (omega (arith, restores.moment))
 
-goes_grown : (P : Statements → Type 0) (kept : Kept) (rs : List Record) (last : Kept) → IsGrown P kept → GoesThrough P kept rs last → IsGrown P last
-goes_grown P kept [] last grown goes = subst (IsGrown P) goes grown
-goes_grown P kept (r ∷ rs) last grown goes =
+goes_grown : (P : Statements → Type 0) (new : Bool) (kept : Kept) (rs : List Record) (last : Kept) → IsGrown P kept → GoesThrough P new kept rs last → IsGrown P last
+goes_grown P new kept [] last grown goes = subst (IsGrown P) goes grown
+goes_grown P new kept (r ∷ rs) last grown goes =
     let next = goes.1 in
-    goes_grown P goes.0 rs last (subst (IsGrown P) (sym next.is) (entry_grows P kept next.entry grown next.is_record.is_entry next.follows)) goes.2
+    goes_grown P (new_after new (r ∷ [])) goes.0 rs last (subst (IsGrown P) (sym next.is) (entry_grows P kept next.entry grown next.is_record.is_entry next.follows)) goes.2
 
 pub reads_grown : (P : Statements → Type 0) (rs : List Record) (kept : Kept) → ReadsAs P rs kept → IsGrown P kept
-reads_grown P rs kept reads = goes_grown P reads.first reads.rest kept (begins_grown P reads.front reads.first reads.begins) reads.reads
+reads_grown P rs kept reads = goes_grown P (new_after false reads.front) reads.first reads.rest kept (begins_grown P reads.front reads.first reads.begins) reads.reads
 
 -- the checkpoint of what is kept, where records are read as it or as what agrees with it, is read as what agrees with it
 pub checkpoint_reads : (P : Statements → Type 0) (rs : List Record) (one kept : Kept) → ReadsAs P rs one → Agrees one kept → ReadsAs P (checkpoint kept) (as_read kept) × Agrees (as_read kept) kept
@@ -101,32 +105,53 @@ rest_of_row : (r s : Record) (xs ys : List Record) → r ∷ xs ≡ s ∷ ys →
 rest_of_row r s xs ys is = cc
 
 -- a list begins in one way
-one_begin : (P : Statements → Type 0) (front other rest more : List Record) (k l : Kept) → front ++ rest ≡ other ++ more → Begins P front k → Begins P other l → (k ≡ l) × (rest ≡ more)
+record SameBegin (front other rest more : List Record) (k l : Kept) : Type 0 where
+  fronts : front ≡ other
+  kept : k ≡ l
+  rests : rest ≡ more
+
+one_begin : (P : Statements → Type 0) (front other rest more : List Record) (k l : Kept) → front ++ rest ≡ other ++ more → Begins P front k → Begins P other l → SameBegin front other rest more k l
 one_begin P front other rest more k l is (inl a) (inl b) =
     let both : a.0 ∷ rest ≡ b.0 ∷ more = ap (λ (f : List Record). f ++ rest) (sym a.1) ∙ is ∙ ap (λ (f : List Record). f ++ more) b.1 in
-    (one_opening P a.0 k l a.2 (subst (λ r. Opens P r l) (sym (first_of_row a.0 b.0 rest more both)) b.2), rest_of_row a.0 b.0 rest more both)
+    let first = first_of_row a.0 b.0 rest more both in
+    record {
+      fronts = a.1 ∙ ap (λ (r : Record). r ∷ []) first ∙ sym b.1;
+      kept = one_opening P a.0 k l a.2 (subst (λ r. Opens P r l) (sym first) b.2);
+      rests = rest_of_row a.0 b.0 rest more both;
+    }
 one_begin P front other rest more k l is (inl a) (inr b) =
-    let both : a.0 ∷ rest ≡ checkpoint l ++ more = ap (λ (f : List Record). f ++ rest) (sym a.1) ∙ is ∙ ap (λ (f : List Record). f ++ more) b.is in
-    absurd (let e : 1 ≡ 3 = sym (opens_kind P a.0 k a.2) ∙ ap (λ (r : Record). r.kind) (first_of_row a.0 (keep_record (keep_form l)) rest (map commit_record (listed l) ++ more) both) in omega (arith, e))
+    let both : a.0 ∷ rest ≡ keep_record (keep_form l) ∷ b.commits ++ more = ap (λ (f : List Record). f ++ rest) (sym a.1) ∙ is ∙ ap (λ (f : List Record). f ++ more) b.is in
+    absurd (opens_kind P a.0 k a.2 (ap (λ (r : Record). r.kind) (first_of_row a.0 (keep_record (keep_form l)) rest (b.commits ++ more) both)))
 one_begin P front other rest more k l is (inr a) (inl b) =
-    let both : b.0 ∷ more ≡ checkpoint k ++ rest = ap (λ (f : List Record). f ++ more) (sym b.1) ∙ sym is ∙ ap (λ (f : List Record). f ++ rest) a.is in
-    absurd (let e : 1 ≡ 3 = sym (opens_kind P b.0 l b.2) ∙ ap (λ (r : Record). r.kind) (first_of_row b.0 (keep_record (keep_form k)) more (map commit_record (listed k) ++ rest) both) in omega (arith, e))
+    let both : b.0 ∷ more ≡ keep_record (keep_form k) ∷ a.commits ++ rest = ap (λ (f : List Record). f ++ more) (sym b.1) ∙ sym is ∙ ap (λ (f : List Record). f ++ rest) a.is in
+    absurd (opens_kind P b.0 l b.2 (ap (λ (r : Record). r.kind) (first_of_row b.0 (keep_record (keep_form k)) more (a.commits ++ rest) both)))
 one_begin P front other rest more k l is (inr a) (inr b) =
-    let both : checkpoint k ++ rest ≡ checkpoint l ++ more = ap (λ (f : List Record). f ++ rest) (sym a.is) ∙ is ∙ ap (λ (f : List Record). f ++ more) b.is in
-    let heads = first_of_row (keep_record (keep_form k)) (keep_record (keep_form l)) (map commit_record (listed k) ++ rest) (map commit_record (listed l) ++ more) both in
+    let both : (keep_record (keep_form k) ∷ a.commits) ++ rest ≡ (keep_record (keep_form l) ∷ b.commits) ++ more =
+    ap (λ (f : List Record). f ++ rest) (sym a.is) ∙ is ∙ ap (λ (f : List Record). f ++ more) b.is in
+    let heads = first_of_row (keep_record (keep_form k)) (keep_record (keep_form l)) (a.commits ++ rest) (b.commits ++ more) both in
     let size : length (listed k) ≡ length (listed l) = same_size P k l a.rules b.rules heads in
-    let rows = same_rows (checkpoint k) (checkpoint l) rest more (omega (arith, size, length-map (listed k) commit_record, length-map (listed l) commit_record)) both in
-    (one_restored P (checkpoint k) k l (record { is = refl; rules = a.rules; moment = a.moment }) (record { is = rows.0; rules = b.rules; moment = b.moment }), rows.1)
+    let rows = same_rows (keep_record (keep_form k) ∷ a.commits) (keep_record (keep_form l) ∷ b.commits) rest more
+    (omega (arith, size, as_many false a.commits (listed k) a.are, as_many false b.commits (listed l) b.are)) both in
+    let fronts : front ≡ other = a.is ∙ rows.0 ∙ sym b.is in
+    record { fronts = fronts; kept = one_restored P front k l a (subst (λ (f : List Record). Restores P f l) (sym fronts) b); rests = rows.1 }
 
-one_way : (P : Statements → Type 0) (k : Kept) (rs : List Record) (m n : Kept) → GoesThrough P k rs m → GoesThrough P k rs n → m ≡ n
-one_way P k [] m n a b = sym a ∙ b
-one_way P k (r ∷ rs) m n a b = one_way P a.0 rs m n a.2 (subst (λ x. GoesThrough P x rs n) (one_more P k r b.0 a.0 b.1 a.1) b.2)
+one_way : (P : Statements → Type 0) (new : Bool) (k : Kept) (rs : List Record) (m n : Kept) → GoesThrough P new k rs m → GoesThrough P new k rs n → m ≡ n
+one_way P new k [] m n a b = sym a ∙ b
+one_way P new k (r ∷ rs) m n a b =
+    let next = new_after new (r ∷ []) in
+    one_way P next a.0 rs m n a.2 (subst (λ x. GoesThrough P next x rs n) (one_more P new k r b.0 a.0 b.1 a.1) b.2)
+
+-- what is read after a beginning is read after the same one
+after_begin : (P : Statements → Type 0) (front other rest more : List Record) (k l m : Kept) → SameBegin front other rest more k l → GoesThrough P (new_after false other) l more m → GoesThrough P (new_after false front) k rest m
+after_begin P front other rest more k l m same reads =
+    subst (λ (f : List Record). GoesThrough P (new_after false f) k rest m) (sym same.fronts)
+    (subst (λ (x : Kept). GoesThrough P (new_after false other) x rest m) (sym same.kept) (subst (λ (r : List Record). GoesThrough P (new_after false other) l r m) (sym same.rests) reads))
 
 -- records have one reading
 pub one_reading : (P : Statements → Type 0) (rs : List Record) (m n : Kept) → ReadsAs P rs m → ReadsAs P rs n → m ≡ n
 one_reading P rs m n a b =
     let begin = one_begin P a.front b.front a.rest b.rest a.first b.first (sym a.cut ∙ b.cut) a.begins b.begins in
-    one_way P a.first a.rest m n a.reads (subst (λ l. GoesThrough P a.first l n) (sym begin.1) (subst (λ x. GoesThrough P x b.rest n) (sym begin.0) b.reads))
+    one_way P (new_after false a.front) a.first a.rest m n a.reads (after_begin P a.front b.front a.rest b.rest a.first b.first n begin b.reads)
 
 -- each map that is kept of records that are read is accepted
 maps_are_accepted : (P : Statements → Type 0) (kept : Kept) → IsGrown P kept → KeepsMaps P kept
@@ -163,12 +188,13 @@ read_has_room P rs kept reads some = by kept.pending some (reads_grown P rs kept
     by (Some r) some run = run.room
 
 -- records of which a further one breaks a rule aren't read
-bad_not_through : (P : Statements → Type 0) (k : Kept) (good : List Placed) (here : Kept) (bad : Placed) (rest : List Placed) (m : Kept) → GoesThrough P k (records_of good) here
-    → ((next : Kept) → GoesOn P here (record_of bad) next → ⊥) → GoesThrough P k (records_of (good ++ bad ∷ rest)) m → ⊥
-bad_not_through P k [] here bad rest m reads broken all = broken all.0 (subst (λ x. GoesOn P x (record_of bad) all.0) reads all.1)
-bad_not_through P k (p ∷ good) here bad rest m reads broken all =
-    bad_not_through P reads.0 good here bad rest m reads.2 broken
-    (subst (λ x. GoesThrough P x (records_of (good ++ bad ∷ rest)) m) (one_more P k (record_of p) all.0 reads.0 all.1 reads.1) all.2)
+bad_not_through : (P : Statements → Type 0) (new : Bool) (k : Kept) (good : List Placed) (here : Kept) (bad : Placed) (rest : List Placed) (m : Kept) → GoesThrough P new k (records_of good) here
+    → ((next : Kept) → GoesOn P (new_after new (records_of good)) here (record_of bad) next → ⊥) → GoesThrough P new k (records_of (good ++ bad ∷ rest)) m → ⊥
+bad_not_through P new k [] here bad rest m reads broken all = broken all.0 (subst (λ x. GoesOn P new x (record_of bad) all.0) reads all.1)
+bad_not_through P new k (p ∷ good) here bad rest m reads broken all =
+    let next = new_after new (record_of p ∷ []) in
+    bad_not_through P next reads.0 good here bad rest m reads.2 broken
+    (subst (λ x. GoesThrough P next x (records_of (good ++ bad ∷ rest)) m) (one_more P new k (record_of p) all.0 reads.0 all.1 reads.1) all.2)
 
 -- and neither are those with which no list begins
 pub badly_not_begun : (P : Statements → Type 0) (p : Placed) (ps : List Placed) (offset : ℕ) (front rest : List Record) (kept : Kept) → BeginsBadly P p ps offset → records_of (p ∷ ps) ≡ front ++ rest → Begins P front kept → ⊥
@@ -177,8 +203,8 @@ badly_not_begun P p ps offset front rest kept (inr bad) cut (inl one) =
     let row : record_of p ∷ records_of ps ≡ one.0 ∷ rest = cut ∙ ap (λ (l : List Record). l ++ rest) one.1 in
     bad.2 kept (subst (λ r. Opens P r kept) (sym (first_of_row (record_of p) one.0 (records_of ps) rest row)) one.2)
 badly_not_begun P p ps offset front rest kept (inr bad) cut (inr restores) =
-    let row : record_of p ∷ records_of ps ≡ checkpoint kept ++ rest = cut ∙ ap (λ (l : List Record). l ++ rest) restores.is in
-    bad.0 (ap (λ (r : Record). r.kind) (first_of_row (record_of p) (keep_record (keep_form kept)) (records_of ps) (map commit_record (listed kept) ++ rest) row))
+    let row : record_of p ∷ records_of ps ≡ keep_record (keep_form kept) ∷ restores.commits ++ rest = cut ∙ ap (λ (l : List Record). l ++ rest) restores.is in
+    bad.0 (ap (λ (r : Record). r.kind) (first_of_row (record_of p) (keep_record (keep_form kept)) (records_of ps) (restores.commits ++ rest) row))
 
 records_append : (ps qs : List Placed) → records_of (ps ++ qs) ≡ records_of ps ++ records_of qs
 records_append ps qs = map-append record_of ps qs
@@ -190,17 +216,18 @@ not_behind P placed offset m bad reads =
     let row : records_of begun.front ++ records_of bad.rest ≡ reads.front ++ reads.rest =
     sym (records_append begun.front bad.rest) ∙ ap records_of (sym begun.cut) ∙ reads.cut in
     let same = one_begin P (records_of begun.front) reads.front (records_of bad.rest) reads.rest bad.first reads.first row begun.begins reads.begins in
-    let through : GoesThrough P bad.first (records_of bad.rest) m =
-    subst (λ k. GoesThrough P k (records_of bad.rest) m) (sym same.0) (subst (λ l. GoesThrough P reads.first l m) (sym same.1) reads.reads) in
-    bad_not_through P bad.first bad.bad.good bad.bad.here bad.bad.bad bad.bad.rest m bad.bad.reads bad.bad.broken
-    (subst (λ l. GoesThrough P bad.first (records_of l) m) bad.bad.cut through)
+    let through : GoesThrough P bad.new bad.first (records_of bad.rest) m =
+    subst (λ (b : Bool). GoesThrough P b bad.first (records_of bad.rest) m) (sym begun.newness)
+    (after_begin P (records_of begun.front) reads.front (records_of bad.rest) reads.rest bad.first reads.first m same reads.reads) in
+    bad_not_through P bad.new bad.first bad.bad.good bad.bad.here bad.bad.bad bad.bad.rest m bad.bad.reads bad.bad.broken
+    (subst (λ l. GoesThrough P bad.new bad.first (records_of l) m) bad.bad.cut through)
 
 pub not_read : (P : Statements → Type 0) (ps : List Placed) (offset : ℕ) (m : Kept) → IsUnread P ps offset → ReadsAs P (records_of ps) m → ⊥
 not_read P [] offset m unread reads = none_begins P reads.front reads.rest reads.first reads.cut reads.begins
   where
     none_begins : (P : Statements → Type 0) (front rest : List Record) (k : Kept) → [] ≡ front ++ rest → Begins P front k → ⊥
     none_begins P front rest k cut (inl one) = let e : [] ≡ one.0 ∷ rest = cut ∙ ap (λ (l : List Record). l ++ rest) one.1 in cc
-    none_begins P front rest k cut (inr restores) = let e : [] ≡ checkpoint k ++ rest = cut ∙ ap (λ (l : List Record). l ++ rest) restores.is in cc
+    none_begins P front rest k cut (inr restores) = let e : [] ≡ keep_record (keep_form k) ∷ restores.commits ++ rest = cut ∙ ap (λ (l : List Record). l ++ rest) restores.is in cc
 not_read P (p ∷ ps) offset m (inl badly) reads = badly_not_begun P p ps offset reads.front reads.rest reads.first badly reads.cut reads.begins
 not_read P (p ∷ ps) offset m (inr behind) reads = not_behind P (p ∷ ps) offset m behind reads
 
@@ -213,23 +240,25 @@ abbrev rest_placed : List Placed → List Placed
 rest_placed [] = []
 rest_placed (p ∷ ps) = ps
 
-one_bad : (P : Statements → Type 0) (before : Kept) (good good' : List Placed) (bad bad' : Placed) (rest rest' : List Placed) (here here' : Kept) → good ++ bad ∷ rest ≡ good' ++ bad' ∷ rest'
-    → GoesThrough P before (records_of good) here → ((next : Kept) → GoesOn P here (record_of bad) next → ⊥) → GoesThrough P before (records_of good') here'
-    → ((next : Kept) → GoesOn P here' (record_of bad') next → ⊥) → bad ≡ bad'
-one_bad P before [] [] bad bad' rest rest' here here' same reads broken reads' broken' = ap (first_placed bad) same
-one_bad P before [] (q ∷ good') bad bad' rest rest' here here' same reads broken reads' broken' =
+one_bad : (P : Statements → Type 0) (new : Bool) (before : Kept) (good good' : List Placed) (bad bad' : Placed) (rest rest' : List Placed) (here here' : Kept) → good ++ bad ∷ rest ≡ good' ++ bad' ∷ rest'
+    → GoesThrough P new before (records_of good) here → ((next : Kept) → GoesOn P (new_after new (records_of good)) here (record_of bad) next → ⊥) → GoesThrough P new before (records_of good') here'
+    → ((next : Kept) → GoesOn P (new_after new (records_of good')) here' (record_of bad') next → ⊥) → bad ≡ bad'
+one_bad P new before [] [] bad bad' rest rest' here here' same reads broken reads' broken' = ap (first_placed bad) same
+one_bad P new before [] (q ∷ good') bad bad' rest rest' here here' same reads broken reads' broken' =
     let is : q ≡ bad = ap (first_placed bad) (sym same) in
-    let next : GoesOn P here (record_of bad) reads'.0 = subst (λ (p : Placed). GoesOn P here (record_of p) reads'.0) is (subst (λ (k : Kept). GoesOn P k (record_of q) reads'.0) reads reads'.1) in
+    let next : GoesOn P new here (record_of bad) reads'.0 = subst (λ (p : Placed). GoesOn P new here (record_of p) reads'.0) is (subst (λ (k : Kept). GoesOn P new k (record_of q) reads'.0) reads reads'.1) in
     absurd (broken reads'.0 next)
-one_bad P before (p ∷ good) [] bad bad' rest rest' here here' same reads broken reads' broken' =
+one_bad P new before (p ∷ good) [] bad bad' rest rest' here here' same reads broken reads' broken' =
     let is : p ≡ bad' = ap (first_placed bad) same in
-    let next : GoesOn P here' (record_of bad') reads.0 = subst (λ (q : Placed). GoesOn P here' (record_of q) reads.0) is (subst (λ (k : Kept). GoesOn P k (record_of p) reads.0) reads' reads.1) in
+    let next : GoesOn P new here' (record_of bad') reads.0 = subst (λ (q : Placed). GoesOn P new here' (record_of q) reads.0) is (subst (λ (k : Kept). GoesOn P new k (record_of p) reads.0) reads' reads.1) in
     absurd (broken' reads.0 next)
-one_bad P before (p ∷ good) (q ∷ good') bad bad' rest rest' here here' same reads broken reads' broken' =
+one_bad P new before (p ∷ good) (q ∷ good') bad bad' rest rest' here here' same reads broken reads' broken' =
     let is : q ≡ p = ap (first_placed p) (sym same) in
-    let one : reads'.0 ≡ reads.0 = one_more P before (record_of p) reads'.0 reads.0 (subst (λ (x : Placed). GoesOn P before (record_of x) reads'.0) is reads'.1) reads.1 in
-    one_bad P reads.0 good good' bad bad' rest rest' here here' (ap rest_placed same) reads.2 broken
-    (subst (λ (k : Kept). GoesThrough P k (records_of good') here') one reads'.2) broken'
+    let one : reads'.0 ≡ reads.0 = one_more P new before (record_of p) reads'.0 reads.0 (subst (λ (x : Placed). GoesOn P new before (record_of x) reads'.0) is reads'.1) reads.1 in
+    let next = new_after new (record_of p ∷ []) in
+    one_bad P next reads.0 good good' bad bad' rest rest' here here' (ap rest_placed same) reads.2 broken
+    (subst (λ (k : Kept). GoesThrough P next k (records_of good') here') one (subst (λ (x : Placed). GoesThrough P (new_after new (record_of x ∷ [])) reads'.0 (records_of good') here') is reads'.2))
+    (subst (λ (x : Placed). (k : Kept) → GoesOn P (new_after new (record_of x ∷ records_of good')) here' (record_of bad') k → ⊥) is broken')
 
 one_behind : (P : Statements → Type 0) (placed : List Placed) (m n : ℕ) → IsBadBehind P placed m → IsBadBehind P placed n → m ≡ n
 one_behind P placed m n one two =
@@ -237,11 +266,14 @@ one_behind P placed m n one two =
     let row : records_of one.begun.front ++ records_of one.rest ≡ records_of two.begun.front ++ records_of two.rest =
     sym (records_append one.begun.front one.rest) ∙ ap records_of cut ∙ records_append two.begun.front two.rest in
     let same = one_begin P (records_of one.begun.front) (records_of two.begun.front) (records_of one.rest) (records_of two.rest) one.first two.first row one.begun.begins two.begun.begins in
-    let ends : length one.rest ≡ length two.rest = omega (arith, ap length same.1, length-map one.rest record_of, length-map two.rest record_of) in
+    let ends : length one.rest ≡ length two.rest = omega (arith, ap length same.rests, length-map one.rest record_of, length-map two.rest record_of) in
     let rests : one.rest ≡ two.rest = same_ends one.begun.front two.begun.front one.rest two.rest ends cut in
-    let bad : IsFirstBad P one.first one.rest n = subst (λ (k : Kept). IsFirstBad P k one.rest n) (sym same.0) (subst (λ (l : List Placed). IsFirstBad P two.first l n) (sym rests) two.bad) in
+    let news : two.new ≡ one.new = two.begun.newness ∙ ap (new_after false) (sym same.fronts) ∙ sym one.begun.newness in
+    let bad : IsFirstBad P one.new one.first one.rest n =
+    subst (λ (k : Kept). IsFirstBad P one.new k one.rest n) (sym same.kept)
+    (subst (λ (l : List Placed). IsFirstBad P one.new two.first l n) (sym rests) (subst (λ (b : Bool). IsFirstBad P b two.first two.rest n) news two.bad)) in
     one.bad.place ∙ ap (λ (b : Placed). b.offset)
-    (one_bad P one.first one.bad.good bad.good one.bad.bad bad.bad one.bad.rest bad.rest one.bad.here bad.here (sym one.bad.cut ∙ bad.cut) one.bad.reads one.bad.broken bad.reads bad.broken)
+    (one_bad P one.new one.first one.bad.good bad.good one.bad.bad bad.bad one.bad.rest bad.rest one.bad.here bad.here (sym one.bad.cut ∙ bad.cut) one.bad.reads one.bad.broken bad.reads bad.broken)
     ∙ sym bad.place
   where
     same_ends : (xs ys r s : List Placed) → length r ≡ length s → xs ++ r ≡ ys ++ s → r ≡ s
@@ -268,24 +300,25 @@ one_unread P (p ∷ ps) m n (inr one) (inl two) = absurd (not_begun P p ps n m t
 one_unread P (p ∷ ps) m n (inr one) (inr two) = one_behind P (p ∷ ps) m n one two
 
 -- how a journal's records are begun, and read after that
-pub begun_alone : (P : Statements → Type 0) (p : Placed) (ps : List Placed) (kept : Kept) → Opens P (record_of p) kept → IsBegun P (p ∷ ps) kept ps
-begun_alone P p ps kept opens = record { front = p ∷ []; cut = refl; begins = inl (record_of p, refl, opens) }
+pub begun_alone : (P : Statements → Type 0) (p : Placed) (ps : List Placed) (kept : Kept) → Opens P (record_of p) kept → (new : Bool) → new ≡ new_after false (record_of p ∷ []) → IsBegun P (p ∷ ps) kept new ps
+begun_alone P p ps kept opens new is = record { front = p ∷ []; cut = refl; begins = inl (record_of p, refl, opens); newness = is }
 
 pub begins_badly : (P : Statements → Type 0) (p : Placed) (ps : List Placed) (offset : ℕ) → p.kind ≢ 3 → offset ≡ p.offset → ((kept : Kept) → Opens P (record_of p) kept → ⊥) → BeginsBadly P p ps offset
 begins_badly P p ps offset other place none = inr (other, place, none)
 
-pub read_whole : (P : Statements → Type 0) (placed rest : List Placed) (first last : Kept) → IsBegun P placed first rest → GoesThrough P first (records_of rest) last → ReadsAs P (records_of placed) last
-read_whole P placed rest first last begun reads = record {
+pub read_whole : (P : Statements → Type 0) (placed rest : List Placed) (first last : Kept) (new : Bool) → IsBegun P placed first new rest → GoesThrough P new first (records_of rest) last → ReadsAs P (records_of placed) last
+read_whole P placed rest first last new begun reads = record {
   front = records_of begun.front;
   rest = records_of rest;
   cut = ap records_of begun.cut ∙ records_append begun.front rest;
   first = first;
   begins = begun.begins;
-  reads = reads;
+  reads = subst (λ (b : Bool). GoesThrough P b first (records_of rest) last) begun.newness reads;
 }
 
-pub unread_behind : (P : Statements → Type 0) (p : Placed) (ps rest : List Placed) (first : Kept) (offset : ℕ) → IsBegun P (p ∷ ps) first rest → IsFirstBad P first rest offset → IsUnread P (p ∷ ps) offset
-unread_behind P p ps rest first offset begun bad = inr (record { first = first; rest = rest; begun = begun; bad = bad })
+pub unread_behind : (P : Statements → Type 0) (p : Placed) (ps rest : List Placed) (first : Kept) (new : Bool) (offset : ℕ) → IsBegun P (p ∷ ps) first new rest → IsFirstBad P new first rest offset
+    → IsUnread P (p ∷ ps) offset
+unread_behind P p ps rest first new offset begun bad = inr (record { first = first; new = new; rest = rest; begun = begun; bad = bad })
 
 pub unread_at_once : (P : Statements → Type 0) (p : Placed) (ps : List Placed) (offset : ℕ) → BeginsBadly P p ps offset → IsUnread P (p ∷ ps) offset
 unread_at_once P p ps offset badly = inl badly

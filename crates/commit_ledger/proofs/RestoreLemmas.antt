@@ -1,5 +1,5 @@
 -- A checkpoint is read as one value.
-use Rattle.std.proofs.Common.{◌≡◌, ◌≢◌, ◌≤◌, ◌<◌, ◌⊎◌, inl, inr, ⊎_elim, ℕ, ◌+◌, ◌^◌, Bool, true, false, cond, nat_lt, List, [], ◌∷◌, ◌++◌, length, map, Option, Some, None, refl, sym, ◌∙◌, ap, subst, arith, length-append}
+use Rattle.std.proofs.Common.{◌≡◌, ◌≤◌, ◌<◌, ⊎_elim, ℕ, ◌^◌, Bool, true, false, cond, nat_lt, List, [], ◌∷◌, ◌++◌, length, Option, Some, None, refl, sym, ◌∙◌, ap, subst, arith, length-append}
 use Rattle.std.specs.Prelude.{IfSome}
 use Rattle.std.specs.List.{AllByRecursion}
 use Rattle.std.specs.Int.{w32, w64, to_be_bytes, from_be_bytes}
@@ -8,13 +8,10 @@ use Rattle.cfg_tree.specs.Statements.{Statements}
 use Rattle.confirm_timer.specs.Deadline.{after_minutes}
 use Rattle.record_code.specs.Record.{Record}
 use Rattle.commit_ledger.specs.declared.entry.Commit.{Commit}
-use Rattle.commit_ledger.specs.declared.entry.Entry.{Entry}
 use Rattle.commit_ledger.specs.declared.entry.Entry.TheVariants.{Commit as CommitOf}
-use Rattle.commit_ledger.specs.declared.limit.TheConstants.{MAX_ENTRIES}
 use Rattle.commit_ledger.specs.Kept.{Kept, Unconfirmed, commits_of}
-use Rattle.commit_ledger.specs.Payload.{entry_record}
-use Rattle.commit_ledger.specs.Rules.{IsCommit}
-use Rattle.commit_ledger.specs.Checkpoint.{KeepForm, keep_bytes, keep_record, keep_form, first_number, far_target, listed, target_number, commit_record, checkpoint, AreConsecutive, IsAmong, IsRunAmong, IsRestorable, Restores}
+use Rattle.commit_ledger.specs.Rules.{IsCommit, new_after}
+use Rattle.commit_ledger.specs.Checkpoint.{KeepForm, keep_bytes, keep_record, keep_form, first_number, far_target, listed, target_number, AreWritten, IsAmong, IsRunAmong, IsRestorable, Restores}
 use Rattle.commit_ledger.proofs.FieldLemmas.{same_cut}
 use Rattle.commit_ledger.proofs.RecordLemmas.{one_entry}
 use Rattle.commit_ledger.proofs.GrownLemmas.{all_among, below as is_below, most_entries, one_by_number}
@@ -37,15 +34,23 @@ entry_commit : (c d : Commit) → CommitOf c ≡ CommitOf d → c ≡ d
 entry_commit c d is = cc
 
 -- records of commits are of one list of commits
-pub one_list : (P : Statements → Type 0) (xs ys : List Commit) → AllByRecursion (IsCommit P) xs → AllByRecursion (IsCommit P) ys → map commit_record xs ≡ map commit_record ys → xs ≡ ys
-one_list P [] [] each other is = refl
-one_list P [] (y ∷ ys) each other is = absurd (let e = ap length is in omega (arith, e))
-one_list P (x ∷ xs) [] each other is = absurd (let e = ap length is in omega (arith, e))
-one_list P (x ∷ xs) (y ∷ ys) each other is =
-    let head : commit_record x ≡ commit_record y = cc in
-    let tail : map commit_record xs ≡ map commit_record ys = cc in
-    let same : x ≡ y = entry_commit x y (one_entry P (commit_record x) (CommitOf x) (CommitOf y) (record { is = refl; is_entry = each.0 }) (record { is = head; is_entry = other.0 })) in
-    ap (λ (l : List Commit). x ∷ l) (one_list P xs ys each.1 other.1 tail) ∙ ap (λ (c : Commit). c ∷ ys) same
+pub one_list : (P : Statements → Type 0) (new : Bool) (rs : List Record) (xs ys : List Commit) → AllByRecursion (IsCommit P) xs → AllByRecursion (IsCommit P) ys → AreWritten new rs xs → AreWritten new rs ys
+    → xs ≡ ys
+one_list P new [] [] [] each other are are' = refl
+one_list P new [] [] (y ∷ ys) each other are are' = absurd are'
+one_list P new [] (x ∷ xs) ys each other are are' = absurd are
+one_list P new (r ∷ rs) [] ys each other are are' = absurd are
+one_list P new (r ∷ rs) (x ∷ xs) [] each other are are' = absurd are'
+one_list P new (r ∷ rs) (x ∷ xs) (y ∷ ys) each other are are' =
+    let same : x ≡ y = entry_commit x y (one_entry P new r (CommitOf x) (CommitOf y) (record { is = are.0; is_entry = each.0 }) (record { is = are'.0; is_entry = other.0 })) in
+    ap (λ (l : List Commit). x ∷ l) (one_list P (new_after new (r ∷ [])) rs xs ys each.1 other.1 are.1 are'.1) ∙ ap (λ (c : Commit). c ∷ ys) same
+
+-- there are as many records as commits
+pub as_many : (new : Bool) (rs : List Record) (cs : List Commit) → AreWritten new rs cs → length rs ≡ length cs
+as_many new [] [] are = refl
+as_many new [] (c ∷ cs) are = absurd are
+as_many new (r ∷ rs) [] are = absurd are
+as_many new (r ∷ rs) (c ∷ cs) are = let e = as_many (new_after new (r ∷ [])) rs cs are.1 in omega (arith, e)
 
 -- a row with one commit before the others or none
 same_ends : (fs gs xs ys : List Commit) → length fs ≤ 1 → length gs ≤ 1 → (length fs ≡ 1 → length xs ≡ 50) → (length gs ≡ 1 → length ys ≡ 50) → length xs ≤ 50 → length ys ≤ 50
@@ -102,7 +107,7 @@ module _ (P : Statements → Type 0) (kept : Kept) (rules : IsRestorable P kept)
   target_small (Some run) it = omega (arith, it.before, rules.number, rules.room, most_entries)
 
 module _ (P : Statements → Type 0) (rs : List Record) (one other : Kept) (first : Restores P rs one) (second : Restores P rs other) where
-  same : checkpoint one ≡ checkpoint other
+  same : keep_record (keep_form one) ∷ first.commits ≡ keep_record (keep_form other) ∷ second.commits
   same = sym first.is ∙ second.is
 
   keeps : OneKeep (keep_form one) (keep_form other)
@@ -113,8 +118,9 @@ module _ (P : Statements → Type 0) (rs : List Record) (one other : Kept) (firs
 
   lists : listed one ≡ listed other
   lists =
-      let tail : map commit_record (listed one) ≡ map commit_record (listed other) = cc in
-      one_list P (listed one) (listed other) first.rules.each second.rules.each tail
+      let tail : first.commits ≡ second.commits = cc in
+      one_list P false first.commits (listed one) (listed other) first.rules.each second.rules.each first.are
+      (subst (λ (l : List Record). AreWritten false l (listed other)) (sym tail) second.are)
 
   commits : commits_of one ≡ commits_of other
   commits = same_ends (far_target (first_number one) one.pending) (far_target (first_number other) other.pending) (commits_of one) (commits_of other)

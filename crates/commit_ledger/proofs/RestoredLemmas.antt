@@ -1,14 +1,13 @@
 -- A checkpoint's commits, taken apart and put together as what is kept.
-use Rattle.std.proofs.Common.{◌≡◌, ◌≢◌, ◌≤◌, ◌<◌, ◌⊎◌, inl, inr, ⊎_elim, ℕ, suc, ◌+◌, Bool, true, false, cond, nat_lt, List, [], ◌∷◌, ◌++◌, length, Option, Some, None, refl, sym, ◌∙◌, ap, subst, arith, length-append, true≢false}
+use Rattle.std.proofs.Common.{◌≡◌, ◌≢◌, ◌≤◌, ◌<◌, inl, inr, ⊎_elim, ℕ, ◌+◌, Bool, true, false, cond, nat_lt, List, [], ◌∷◌, ◌++◌, length, Option, Some, None, refl, sym, ◌∙◌, ap, subst, arith, length-append}
 use Rattle.std.specs.Prelude.{IfSome}
-use Rattle.std.proofs.lemmas.Bool.Decides.{nat_tests}
 use Rattle.confirm_timer.specs.Deadline.{after_minutes}
 use Rattle.commit_ledger.specs.declared.entry.Commit.{Commit}
 use Rattle.commit_ledger.specs.declared.limit.TheConstants.{MAX_ENTRIES}
 use Rattle.commit_ledger.specs.Kept.{Kept, Unconfirmed, commits_of}
-use Rattle.commit_ledger.specs.Checkpoint.{KeepForm, first_of, first_number, far_target, listed, target_number, AreConsecutive, AreInTime, IsAmong, IsRunAmong}
+use Rattle.commit_ledger.specs.Checkpoint.{KeepForm, first_of, first_number, far_target, target_number, AreConsecutive, IsAmong, IsRunAmong}
 use Rattle.commit_ledger.specs.Restored.{IsRestored, IsApart}
-use Rattle.commit_ledger.proofs.GrownLemmas.{below, not_below, among_back, among_front, oldest}
+use Rattle.commit_ledger.proofs.GrownLemmas.{below, not_below, among_back, among_front}
 use Rattle.commit_ledger.proofs.RestoreLemmas.{one_end}
 
 -- two rows of commits, each with one before the others or none

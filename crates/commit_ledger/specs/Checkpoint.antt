@@ -1,5 +1,5 @@
 -- A checkpoint: what is kept of a list, as records with which a file of the journal begins anew. This is this project's own.
-use Rattle.std.specs.Prelude.{◌≡◌, ◌≢◌, ◌≤◌, ◌<◌, ◌+◌, ◌⊎◌, nat_lt, ℕ, List, [], ◌∷◌, ◌++◌, length, map, Option, Some, None, IfSome, if◌then◌else◌}
+use Rattle.std.specs.Prelude.{◌≡◌, ◌≢◌, ◌≤◌, ◌<◌, ◌+◌, ◌⊎◌, nat_lt, ℕ, Bool, false, List, [], ◌∷◌, ◌++◌, length, map, Option, Some, None, IfSome, if◌then◌else◌}
 use Rattle.std.specs.List.{AllByRecursion}
 use Rattle.std.specs.Int.{w32, w64, to_be_bytes}
 use Rattle.cfg_tree.specs.Statements.{Statements}
@@ -10,7 +10,7 @@ use Rattle.commit_ledger.specs.declared.entry.Entry.TheVariants.{Commit as Commi
 use Rattle.commit_ledger.specs.declared.limit.TheConstants.{MAX_ENTRIES}
 use Rattle.commit_ledger.specs.Kept.{Kept, Unconfirmed, commits_of}
 use Rattle.commit_ledger.specs.Payload.{HasShortText, entry_record}
-use Rattle.commit_ledger.specs.Rules.{IsCommit}
+use Rattle.commit_ledger.specs.Rules.{IsCommit, IsWritten, new_after}
 
 -- what a checkpoint's first record states: how many entries the list has, the number of the commit that an unconfirmed run goes
 -- back to, 0 where none is unconfirmed, and how many commits follow it
@@ -52,7 +52,7 @@ keep_form kept = record { count = kept.count; target = target_number kept.pendin
 abbrev pub commit_record : Commit → Record
 commit_record commit = entry_record (CommitOf commit)
 
--- the records of a checkpoint
+-- the records of a checkpoint, as it is written
 abbrev pub checkpoint : Kept → List Record
 checkpoint kept = keep_record (keep_form kept) ∷ map commit_record (listed kept)
 
@@ -100,9 +100,18 @@ pub record IsRestorable (accepted : Statements → Type 0) (kept : Kept) : Type 
   pub room : kept.count ≤ MAX_ENTRIES + 1
   pub run : IfSome kept.pending (IsRunAmong (listed kept) kept)
 
+-- records are of these commits, as they are written now or were formerly
+abbrev pub AreWritten : Bool → List Record → List Commit → Type 0
+AreWritten new [] [] = Unit {0}
+AreWritten new (r ∷ rs) (c ∷ commits) = IsWritten new r (CommitOf c) × AreWritten (new_after new (r ∷ [])) rs commits
+AreWritten new [] (c ∷ commits) = ⊥
+AreWritten new (r ∷ rs) [] = ⊥
+
 -- records are a checkpoint, and are read as this; the last moment is that of the last commit
 pub record Restores (accepted : Statements → Type 0) (rs : List Record) (kept : Kept) : Type 0 where
-  pub is : rs ≡ checkpoint kept
+  pub commits : List Record
+  pub is : rs ≡ keep_record (keep_form kept) ∷ commits
+  pub are : AreWritten false commits (listed kept)
   pub rules : IsRestorable accepted kept
   pub moment : kept.moment ≡ kept.last.moment
 

@@ -8,3 +8,4 @@ pub mod Reading
 pub mod Checkpoint
 pub mod Restoring
 pub mod Restored
+pub mod Former

@@ -80,9 +80,9 @@ pub record ConfirmFits (f : ConfirmForm) : Type 0 where
   pub moment : f.moment < 2 ^ 64
   pub user : length f.user < 2 ^ 8
 
--- a commit is a record of kind 1, and a confirmation one of kind 2
+-- a commit is a record of kind 4, and a confirmation one of kind 2
 abbrev pub kind_of : Entry → ℕ
-kind_of (CommitOf commit) = 1
+kind_of (CommitOf commit) = 4
 kind_of (ConfirmOf confirm) = 2
 
 abbrev pub payload_bytes : Entry → List ℕ
@@ -92,6 +92,10 @@ payload_bytes (ConfirmOf confirm) = confirm_bytes (confirm_form confirm)
 -- the record that an entry is written as
 abbrev pub entry_record : Entry → Record
 entry_record entry = record { kind = kind_of entry; payload = payload_bytes entry }
+
+-- the record that a commit was written as formerly: of kind 1, with the same fields
+abbrev pub former_record : Commit → Record
+former_record commit = record { kind = 1; payload = commit_bytes (form_of commit) }
 
 -- the most bytes of a commit's text
 abbrev pub most_text : ℕ

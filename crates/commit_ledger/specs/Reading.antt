@@ -1,5 +1,5 @@
 -- How the records of a journal are read as what is kept, up to the first one that breaks a rule. This is this project's own.
-use Rattle.std.specs.Prelude.{◌≡◌, ◌≢◌, ◌⊎◌, ℕ, List, [], ◌∷◌, ◌++◌}
+use Rattle.std.specs.Prelude.{◌≡◌, ◌≢◌, ◌⊎◌, ℕ, Bool, false, List, [], ◌∷◌, ◌++◌}
 use Rattle.cfg_tree.specs.Statements.{Statements}
 use Rattle.record_code.specs.declared.payloads.Placed.{Placed}
 use Rattle.record_code.specs.Listed.{record_of, records_of}
@@ -11,7 +11,7 @@ use Rattle.commit_ledger.specs.declared.entry.Entry.TheVariants.{Commit as Commi
 use Rattle.commit_ledger.specs.Kept.{Kept, opened, append_entry}
 use Rattle.commit_ledger.specs.Checkpoint.{Restores}
 use Rattle.commit_ledger.specs.Restoring.{IsBadCheckpoint}
-use Rattle.commit_ledger.specs.Rules.{IsRecordOf, Follows}
+use Rattle.commit_ledger.specs.Rules.{IsRecordOf, Follows, new_after}
 
 -- a list begins with a commit numbered 1 that needs no confirmation
 pub record IsFirstCommit (entry : Entry) (commit : Commit) : Type 0 where
@@ -22,7 +22,7 @@ pub record IsFirstCommit (entry : Entry) (commit : Commit) : Type 0 where
 -- the first record is of such a commit
 pub record Opens (accepted : Statements → Type 0) (r : Record) (kept : Kept) : Type 0 where
   pub entry : Entry
-  pub is_record : IsRecordOf accepted r entry
+  pub is_record : IsRecordOf accepted false r entry
   pub commit : Commit
   pub first : IsFirstCommit entry commit
   pub is : kept ≡ opened commit
@@ -31,17 +31,18 @@ pub record Opens (accepted : Statements → Type 0) (r : Record) (kept : Kept) :
 abbrev pub Begins : (Statements → Type 0) → List Record → Kept → Type 0
 Begins accepted front kept = ((r : Record) × (front ≡ r ∷ []) × Opens accepted r kept) ⊎ Restores accepted front kept
 
--- a further record is of an entry that may be the next one
-pub record GoesOn (accepted : Statements → Type 0) (kept : Kept) (r : Record) (next : Kept) : Type 0 where
+-- a further record is of an entry that may be the next one; `new` says whether a commit as it is written now has come
+pub record GoesOn (accepted : Statements → Type 0) (new : Bool) (kept : Kept) (r : Record) (next : Kept) : Type 0 where
   pub entry : Entry
-  pub is_record : IsRecordOf accepted r entry
+  pub is_record : IsRecordOf accepted new r entry
   pub follows : Follows kept entry
   pub is : next ≡ append_entry kept entry
 
 -- further records are read after a value
-abbrev pub GoesThrough : (Statements → Type 0) → Kept → List Record → Kept → Type 0
-GoesThrough accepted kept [] last = kept ≡ last
-GoesThrough accepted kept (r ∷ rs) last = (next : Kept) × GoesOn accepted kept r next × GoesThrough accepted next rs last
+abbrev pub GoesThrough : (Statements → Type 0) → Bool → Kept → List Record → Kept → Type 0
+GoesThrough accepted new kept [] last = kept ≡ last
+GoesThrough accepted new kept (r ∷ rs) last =
+    (next : Kept) × GoesOn accepted new kept r next × GoesThrough accepted (new_after new (r ∷ [])) next rs last
 
 -- the records of a journal are read as this
 pub record ReadsAs (accepted : Statements → Type 0) (rs : List Record) (kept : Kept) : Type 0 where
@@ -50,17 +51,17 @@ pub record ReadsAs (accepted : Statements → Type 0) (rs : List Record) (kept :
   pub cut : rs ≡ front ++ rest
   pub first : Kept
   pub begins : Begins accepted front first
-  pub reads : GoesThrough accepted first rest kept
+  pub reads : GoesThrough accepted (new_after false front) first rest kept
 
 -- the further record at that offset is the first one that isn't read
-pub record IsFirstBad (accepted : Statements → Type 0) (before : Kept) (placed : List Placed) (offset : ℕ) : Type 0 where
+pub record IsFirstBad (accepted : Statements → Type 0) (new : Bool) (before : Kept) (placed : List Placed) (offset : ℕ) : Type 0 where
   pub good : List Placed
   pub bad : Placed
   pub rest : List Placed
   pub here : Kept
   pub cut : placed ≡ good ++ bad ∷ rest
-  pub reads : GoesThrough accepted before (records_of good) here
-  pub broken : (next : Kept) → GoesOn accepted here (record_of bad) next → ⊥
+  pub reads : GoesThrough accepted new before (records_of good) here
+  pub broken : (next : Kept) → GoesOn accepted (new_after new (records_of good)) here (record_of bad) next → ⊥
   pub place : offset ≡ bad.offset
 
 -- no list begins with these records: the first of them that breaks a rule is at that offset
@@ -70,17 +71,19 @@ BeginsBadly accepted p behind offset =
     ⊎ ((p.kind ≢ 3) × (offset ≡ p.offset) × ((kept : Kept) → Opens accepted (record_of p) kept → ⊥))
 
 -- a list begins with some of these records, and the others stand after them
-pub record IsBegun (accepted : Statements → Type 0) (placed : List Placed) (kept : Kept) (rest : List Placed) : Type 0 where
+pub record IsBegun (accepted : Statements → Type 0) (placed : List Placed) (kept : Kept) (new : Bool) (rest : List Placed) : Type 0 where
   pub front : List Placed
   pub cut : placed ≡ front ++ rest
   pub begins : Begins accepted (records_of front) kept
+  pub newness : new ≡ new_after false (records_of front)
 
 -- a list begins with these records, and one after them breaks a rule
 pub record IsBadBehind (accepted : Statements → Type 0) (placed : List Placed) (offset : ℕ) : Type 0 where
   pub first : Kept
+  pub new : Bool
   pub rest : List Placed
-  pub begun : IsBegun accepted placed first rest
-  pub bad : IsFirstBad accepted first rest offset
+  pub begun : IsBegun accepted placed first new rest
+  pub bad : IsFirstBad accepted new first rest offset
 
 -- the records of a journal aren't read: there are none, or one of them breaks a rule
 abbrev pub IsUnread : (Statements → Type 0) → List Placed → ℕ → Type 0

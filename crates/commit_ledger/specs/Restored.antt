@@ -1,5 +1,5 @@
 -- What a checkpoint's first record and its commits together state. This is this project's own.
-use Rattle.std.specs.Prelude.{ℕ, ◌≡◌, ◌≢◌, ◌≤◌, ◌⊎◌, List, [], ◌∷◌, ◌++◌, length, IfSome, Option, Some, None}
+use Rattle.std.specs.Prelude.{ℕ, false, ◌≡◌, ◌≢◌, ◌≤◌, ◌⊎◌, List, [], ◌∷◌, ◌++◌, length, IfSome, Option, Some, None}
 use Rattle.commit_ledger.specs.declared.entry.Commit.{Commit}
 use Rattle.commit_ledger.specs.Kept.{Kept, Unconfirmed, commits_of}
 use Rattle.commit_ledger.specs.Restoring.{AreCommits, IsBadCommit}
@@ -44,11 +44,11 @@ pub record IsOrdered (commits : List Commit) : Type 0 where
 -- these records are of commits which that Keep states a value of
 pub record IsReadKeep (accepted : Statements → Type 0) (f : KeepForm) (ps : List Placed) (kept : Kept) : Type 0 where
   pub commits : List Commit
-  pub are : AreCommits accepted ps commits
+  pub are : AreCommits accepted false ps commits
   pub restored : IsRestored f commits kept
 
 -- or one of them isn't of a commit, or they break a rule together, which is reported at the Keep's place
 abbrev pub IsBadKeep : (Statements → Type 0) → KeepForm → ℕ → List Placed → ℕ → Type 0
 IsBadKeep accepted f place ps offset =
-    IsBadCommit accepted ps offset
-    ⊎ ((cs : List Commit) × AreCommits accepted ps cs × (offset ≡ place) × ((kept : Kept) → IsRestored f cs kept → ⊥))
+    IsBadCommit accepted false ps offset
+    ⊎ ((cs : List Commit) × AreCommits accepted false ps cs × (offset ≡ place) × ((kept : Kept) → IsRestored f cs kept → ⊥))

@@ -9,6 +9,7 @@ ghost use Rattle.commit_ledger.specs.Payload.{HasShortText};
 
 use crate::entry::Commit;
 use crate::form::KeepRead;
+use crate::kinds::{COMMIT, KEEP};
 use crate::ledger::Ledger;
 use crate::payload::commit_payload;
 use cfg_base::{Bytes, NoMemory};
@@ -17,11 +18,6 @@ use std::alloc::Global;
 
 /// The bytes of a checkpoint's first payload.
 const KEEP_BYTES: usize = 20;
-
-/// The kinds of a commit's record and of a checkpoint's first one.
-const COMMIT: u8 = 1;
-
-const KEEP: u8 = 3;
 
 fn keep_payload(alloc: Global, keep: &KeepRead) -> Result<Bytes, NoMemory>
     ensures bytes { IfOk result (λ bytes. bytes ≡ keep_bytes (keep_read keep.now)) }

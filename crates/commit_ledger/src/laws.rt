@@ -1,6 +1,6 @@
 //! What holds of all lists.
 
-ghost use Rattle.std.specs.Prelude.{◌≡◌, ◌≤◌, ℕ, List, [], ◌∷◌, ◌++◌};
+ghost use Rattle.std.specs.Prelude.{◌≡◌, ◌≤◌, ℕ, Bool, List, [], ◌∷◌, ◌++◌};
 ghost use Rattle.record_code.specs.declared.payloads.Placed.{Placed};
 ghost use Rattle.record_code.specs.Listed.{records_of};
 ghost use Rattle.record_code.specs.Record.{Record};
@@ -10,6 +10,7 @@ ghost use Rattle.commit_ledger.specs.declared.entry.Entry.{Entry};
 ghost use Rattle.commit_ledger.specs.declared.entry.Entry.TheVariants.{Commit as CommitOf};
 ghost use Rattle.commit_ledger.specs.Kept.{Kept, factory_commit, opened, newest, after_entries, commits_of, commits_in, kept_commits, KeepsMaps, BringsMap, append_entry, target_of};
 ghost use Rattle.commit_ledger.specs.Checkpoint.{Agrees, HaveShortTexts, as_read, checkpoint, listed};
+ghost use Rattle.commit_ledger.specs.Former.{HaveFirstMaps, formerly};
 ghost use Rattle.commit_ledger.specs.Listing.{IsListing};
 ghost use Rattle.commit_ledger.specs.Payload.{entry_record, HasShortText};
 ghost use Rattle.commit_ledger.specs.Reading.{ReadsAs, IsUnread};
@@ -47,8 +48,8 @@ pub fn kept_maps_stay_accepted<J: LedgerCheck>(judge: &J)
 /// Records are of one entry each and are read as one value, or aren't read for one of them, and not both; each map that is kept of
 /// them is accepted. Where they are read, one more entry that keeps to its ranges and may come next is read after them.
 pub fn records_have_one_reading<J: LedgerCheck>(judge: &J)
-    ensures one_entry { (r : Record) (one two : Entry) → IsRecordOf (J.accepted judge.now) r one
-        → IsRecordOf (J.accepted judge.now) r two → one ≡ two }
+    ensures one_entry { (new : Bool) (r : Record) (one two : Entry) → IsRecordOf (J.accepted judge.now) new r one
+        → IsRecordOf (J.accepted judge.now) new r two → one ≡ two }
     ensures one_reading { (rs : List Record) (one two : Kept) → ReadsAs (J.accepted judge.now) rs one
         → ReadsAs (J.accepted judge.now) rs two → one ≡ two }
     ensures not_both { (placed : List Placed) (offset : ℕ) (kept : Kept) → IsUnread (J.accepted judge.now) placed offset
@@ -71,6 +72,14 @@ pub fn lists_begin_with_one_commit<J: LedgerCheck>(judge: &J)
         → ReadsAs (J.accepted judge.now) (entry_record (CommitOf commit) ∷ []) (opened commit) }
     ensures factory { J.accepted judge.now map.empty → IsCommit (J.accepted judge.now) factory_commit }
     ensures short { HasShortText (CommitOf factory_commit) }
+{
+    let _ = judge;
+}
+
+/// Records whose commits are written as formerly are read as the same value, where each commit's map is of the first profile.
+pub fn former_lists_are_read<J: LedgerCheck>(judge: &J)
+    ensures { (rs : List Record) (kept : Kept) → ReadsAs (J.accepted judge.now) rs kept
+        → HaveFirstMaps (J.accepted judge.now) rs → ReadsAs (J.accepted judge.now) (formerly rs) kept }
 {
     let _ = judge;
 }

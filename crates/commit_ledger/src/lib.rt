@@ -12,6 +12,7 @@ mod entry;
 mod fields;
 mod form;
 mod image;
+mod kinds;
 mod laws;
 mod ledger;
 mod limit;
@@ -27,7 +28,7 @@ mod text;
 
 pub use entry::{Commit, Confirm, Entry, Via};
 pub use laws::{
-    checkpoints_are_read, kept_maps_stay_accepted, listings_are_one_text,
+    checkpoints_are_read, former_lists_are_read, kept_maps_stay_accepted, listings_are_one_text,
     lists_begin_with_one_commit, records_have_one_reading, the_last_fifty_commits_are_kept,
 };
 pub use ledger::{Ledger, NoRollback, Pending};

@@ -11,9 +11,10 @@ ghost use Rattle.commit_ledger.specs.Reading.{BeginsBadly, IsBegun, IsFirstCommi
 ghost use Rattle.commit_ledger.specs.Rules.{Follows, CommitFollows, ConfirmFollows};
 
 use crate::entry::{Commit, Confirm, Entry};
+use crate::kinds::KEEP;
 use crate::ledger::{Ledger, ROOM};
 use crate::limit::MAX_ENTRIES;
-use crate::reading::entry_of;
+use crate::reading::{entry_of, new_behind};
 use crate::restoring::restore;
 use cfg_base::NoMemory;
 use cfg_tree::LedgerCheck;
@@ -23,9 +24,6 @@ use thiserror::Error;
 
 /// The offset of a journal's first record, where a journal without one breaks the rules.
 const FIRST_RECORD: u64 = 17;
-
-/// The kind of a checkpoint's first record.
-const KEEP: u8 = 3;
 
 /// Why records aren't those of a list of commits.
 #[derive(Clone, Copy, Debug, PartialEq, Eq, Error)]
@@ -80,7 +78,7 @@ fn open<J: LedgerCheck>(alloc: Global, placed: &Placed, judge: &J) -> Result<Led
     let bad = LedgerFault::BadRecord {
         offset: placed.offset,
     };
-    let Some(entry) = entry_of(alloc, placed, judge)? else {
+    let Some(entry) = entry_of(alloc, false, placed, judge)? else {
         return Err(bad);
     };
     let Some(commit) = first_commit(entry) else {
@@ -89,14 +87,14 @@ fn open<J: LedgerCheck>(alloc: Global, placed: &Placed, judge: &J) -> Result<Led
     Ok(opened(alloc, commit)?)
 }
 
-/// The ledger that records begin with, and the records after those.
+/// The ledger that records begin with, whether a commit as it is written now is among those, and the records after them.
 fn begin<'a, J: LedgerCheck>(
     alloc: Global,
     first: &Placed,
     behind: &'a [Placed],
     judge: &J,
-) -> Result<(Ledger, &'a [Placed]), LedgerFault>
-    ensures ok { IfOk result (λ read. IsBegun (J.accepted judge.now) (first.now ∷ behind.now) read.0 read.1.now) }
+) -> Result<(Ledger, bool, &'a [Placed]), LedgerFault>
+    ensures ok { IfOk result (λ read. IsBegun (J.accepted judge.now) (first.now ∷ behind.now) read.0 read.1 read.2.now) }
     ensures bad { (offset : ℕ) → IsErrOf result (LedgerFault.BadRecord offset)
         → BeginsBadly (J.accepted judge.now) first.now behind.now offset }
 {
@@ -105,7 +103,7 @@ fn begin<'a, J: LedgerCheck>(
     }
     match open(alloc, first, judge) {
         Err(fault) => Err(fault),
-        Ok(ledger) => Ok((ledger, behind)),
+        Ok(ledger) => Ok((ledger, new_behind(false, first), behind)),
     }
 }
 
@@ -122,7 +120,7 @@ fn of_records<J: LedgerCheck>(
 {
     match begin(alloc, first, rest, judge) {
         Err(fault) => Err(fault),
-        Ok((mut ledger, further)) => match ledger.read_on(alloc, further, judge) {
+        Ok((mut ledger, new, further)) => match ledger.read_on(alloc, new, further, judge) {
             Err(fault) => Err(fault),
             Ok(()) => Ok(ledger),
         },
@@ -173,17 +171,18 @@ impl Ledger {
     fn go_on<J: LedgerCheck>(
         &mut self,
         alloc: Global,
+        new: bool,
         placed: &Placed,
         judge: &J,
     ) -> Result<(), LedgerFault>
-        ensures ok { OnOk result (GoesOn (J.accepted judge.now) self.old (record_of placed.now) self.new) }
+        ensures ok { OnOk result (GoesOn (J.accepted judge.now) new self.old (record_of placed.now) self.new) }
         ensures bad { (offset : ℕ) → IsErrOf result (LedgerFault.BadRecord offset) → (offset ≡ placed.now.offset)
-            × (self.new ≡ self.old) × ((next : Kept) → GoesOn (J.accepted judge.now) self.old (record_of placed.now) next → ⊥) }
+            × (self.new ≡ self.old) × ((next : Kept) → GoesOn (J.accepted judge.now) new self.old (record_of placed.now) next → ⊥) }
     {
         let bad = LedgerFault::BadRecord {
             offset: placed.offset,
         };
-        let Some(entry) = entry_of(alloc, placed, judge)? else {
+        let Some(entry) = entry_of(alloc, new, placed, judge)? else {
             return Err(bad);
         };
         if !self.follows(&entry) {
@@ -198,17 +197,20 @@ impl Ledger {
     fn read_on<J: LedgerCheck>(
         &mut self,
         alloc: Global,
+        new: bool,
         records: &[Placed],
         judge: &J,
     ) -> Result<(), LedgerFault>
-        ensures ok { OnOk result (GoesThrough (J.accepted judge.now) self.old (records_of records.now) self.new) }
+        ensures ok { OnOk result (GoesThrough (J.accepted judge.now) new self.old (records_of records.now) self.new) }
         ensures bad { (offset : ℕ) → IsErrOf result (LedgerFault.BadRecord offset)
-            → IsFirstBad (J.accepted judge.now) self.old records.now offset }
+            → IsFirstBad (J.accepted judge.now) new self.old records.now offset }
     {
+        let mut seen = new;
         for placed in records {
-            if let Err(fault) = self.go_on(alloc, placed, judge) {
+            if let Err(fault) = self.go_on(alloc, seen, placed, judge) {
                 return Err(fault);
             }
+            seen = new_behind(seen, placed);
         }
         Ok(())
     }

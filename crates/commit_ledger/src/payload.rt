@@ -8,6 +8,7 @@ ghost use Rattle.commit_ledger.specs.Payload.{text_of, CommitForm, ConfirmForm, 
 use crate::entry::{Commit, Confirm, Entry, Via};
 use crate::fields::{take_short, take_u32, take_u64, take_via, whole_text};
 use crate::form::{CommitRead, ConfirmRead};
+use crate::kinds::{COMMIT, CONFIRM};
 use cfg_base::{Bytes, NoMemory, Path};
 use cfg_tree::Tree;
 use curly_print::print;
@@ -88,8 +89,8 @@ impl Entry {
         ensures { result ≡ kind_of self.now }
     {
         match self {
-            Entry::Commit(_) => 1,
-            Entry::Confirm(_) => 2,
+            Entry::Commit(_) => COMMIT,
+            Entry::Confirm(_) => CONFIRM,
         }
     }
 }

@@ -1,21 +1,23 @@
 //! The entries that records are of.
 
-ghost use Rattle.std.specs.Prelude.{◌≡◌, ◌<◌, ◌≤◌, ◌^◌, ◌↔◌, ℕ, List, length, IsTrue, IsNone, IfSome, IfOk};
+ghost use Rattle.std.specs.Prelude.{◌≡◌, ◌<◌, ◌≤◌, ◌^◌, ◌↔◌, ◌∷◌, [], ℕ, List, length, IsTrue, IsNone, IfSome, IfOk};
 ghost use Rattle.cfg_base.specs.Kind.{IsName};
+ghost use Rattle.cfg_tree.specs.FirstProfile.{IsFirstProfile};
 ghost use Rattle.cfg_tree.specs.Statements.{Statements};
 ghost use Rattle.cfg_tree.specs.Tree.{IsTree};
 ghost use Rattle.cfg_values.specs.Spelling.{IsText};
-ghost use Rattle.record_code.specs.Listed.{record_of};
+ghost use Rattle.record_code.specs.Listed.{record_of, records_of};
 ghost use Rattle.commit_ledger.specs.declared.entry.Commit.{Commit};
 ghost use Rattle.commit_ledger.specs.declared.entry.Confirm.{Confirm};
 ghost use Rattle.commit_ledger.specs.declared.entry.Entry.{Entry};
 ghost use Rattle.commit_ledger.specs.Form.{commit_read, confirm_read, IsInRange, IsCommitFrom, IsCommitOf, IsConfirmFrom, IsConfirmOf};
 ghost use Rattle.commit_ledger.specs.Payload.{text_of, CommitFits, ConfirmFits};
-ghost use Rattle.commit_ledger.specs.Rules.{IsRecordOf};
+ghost use Rattle.commit_ledger.specs.Rules.{IsRecordOf, new_after};
 ghost use Rattle.commit_ledger.specs.declared.entry.Entry.TheVariants.{Commit as CommitOf};
 
 use crate::entry::{Commit, Confirm, Entry};
 use crate::form::{CommitRead, ConfirmRead};
+use crate::kinds::{COMMIT, CONFIRM, FORMER_COMMIT};
 use crate::payload::{read_commit, read_confirm, text_of};
 use cfg_base::{Kind, MOMENT_MAX, Moment, NoMemory, UserName, Word};
 use cfg_tree::{LedgerCheck, Tree};
@@ -174,36 +176,76 @@ fn confirm_of(alloc: Global, payload: &[u8]) -> Result<Option<Confirm>, NoMemory
     }
 }
 
-/// The commit that a record is of, if it is one's.
-pub(crate) fn commit_in<J: LedgerCheck>(
+/// The commit of the first profile whose payload this is, if it is one's.
+fn former_of<J: LedgerCheck>(
     alloc: Global,
-    placed: &Placed,
+    payload: &[u8],
     judge: &J,
 ) -> Result<Option<Commit>, NoMemory>
-    ensures some { IfOk result (λ o. IfSome o (λ c. IsRecordOf (J.accepted judge.now) (record_of placed.now) (CommitOf c))) }
+    ensures some { IfOk result (λ o. IfSome o (λ c. IsCommitOf (J.accepted judge.now) payload.now c × IsFirstProfile c.tree)) }
     ensures none { IfOk result (λ o. IsNone o
-        → (c : Commit) → IsRecordOf (J.accepted judge.now) (record_of placed.now) (CommitOf c) → ⊥) }
+        → (c : Commit) → IsCommitOf (J.accepted judge.now) payload.now c → IsFirstProfile c.tree → ⊥) }
 {
-    if placed.kind == 1 {
-        commit_of(alloc, placed.payload.as_slice(), judge)
+    let Some(commit) = commit_of(alloc, payload, judge)? else {
+        return Ok(None);
+    };
+    if commit.tree.in_profile_1() {
+        Ok(Some(commit))
     } else {
         Ok(None)
     }
 }
 
-/// The entry that a record is of, if it is one's.
+/// The commit that a record is of, if it is one's. `new` says whether a commit as it is written now stands before it.
+pub(crate) fn commit_in<J: LedgerCheck>(
+    alloc: Global,
+    new: bool,
+    placed: &Placed,
+    judge: &J,
+) -> Result<Option<Commit>, NoMemory>
+    ensures some { IfOk result (λ o. IfSome o (λ c. IsRecordOf (J.accepted judge.now) new (record_of placed.now) (CommitOf c))) }
+    ensures none { IfOk result (λ o. IsNone o
+        → (c : Commit) → IsRecordOf (J.accepted judge.now) new (record_of placed.now) (CommitOf c) → ⊥) }
+{
+    if placed.kind == COMMIT {
+        return commit_of(alloc, placed.payload.as_slice(), judge);
+    }
+    if placed.kind == FORMER_COMMIT && !new {
+        return former_of(alloc, placed.payload.as_slice(), judge);
+    }
+    Ok(None)
+}
+
+/// The entry that a record is of, if it is one's. `new` says whether a commit as it is written now stands before it.
 pub(crate) fn entry_of<J: LedgerCheck>(
     alloc: Global,
+    new: bool,
     placed: &Placed,
     judge: &J,
 ) -> Result<Option<Entry>, NoMemory>
-    ensures some { IfOk result (λ o. IfSome o (IsRecordOf (J.accepted judge.now) (record_of placed.now))) }
+    ensures some { IfOk result (λ o. IfSome o (IsRecordOf (J.accepted judge.now) new (record_of placed.now))) }
     ensures none { IfOk result (λ o. IsNone o
-        → (e : Entry) → IsRecordOf (J.accepted judge.now) (record_of placed.now) e → ⊥) }
+        → (e : Entry) → IsRecordOf (J.accepted judge.now) new (record_of placed.now) e → ⊥) }
 {
-    match placed.kind {
-        1 => Ok(commit_of(alloc, placed.payload.as_slice(), judge)?.map(Entry::Commit)),
-        2 => Ok(confirm_of(alloc, placed.payload.as_slice())?.map(Entry::Confirm)),
-        _ => Ok(None),
+    if placed.kind == CONFIRM {
+        return Ok(confirm_of(alloc, placed.payload.as_slice())?.map(Entry::Confirm));
+    }
+    Ok(commit_in(alloc, new, placed, judge)?.map(Entry::Commit))
+}
+
+/// Whether a commit as it is written now has come, after one more record.
+pub(crate) fn new_behind(new: bool, placed: &Placed) -> bool
+    ensures { result ≡ new_after new (record_of placed.now ∷ []) }
+{
+    new || placed.kind == COMMIT
+}
+
+/// Whether a commit as it is written now has come, after these records too.
+pub(crate) fn new_after(new: bool, records: &[Placed]) -> bool
+    ensures { result ≡ new_after new (records_of records.now) }
+{
+    match records {
+        [] => new,
+        [first, rest @ ..] => new_after(new_behind(new, first), rest),
     }
 }

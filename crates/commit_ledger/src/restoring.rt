@@ -22,10 +22,11 @@ ghost use Rattle.commit_ledger.specs.Rules.{IsRecordOf};
 use crate::entry::Commit;
 use crate::fields::{take_u32, take_u64};
 use crate::form::KeepRead;
+use crate::kinds::{COMMIT, FORMER_COMMIT};
 use crate::ledger::{Ledger, Run};
 use crate::limit::MAX_ENTRIES;
 use crate::opening::LedgerFault;
-use crate::reading::commit_in;
+use crate::reading::{commit_in, new_after, new_behind};
 use crate::sharing::beside_last;
 use cfg_base::NoMemory;
 use cfg_tree::LedgerCheck;
@@ -60,11 +61,13 @@ pub(crate) fn read_keep(bytes: &[u8]) -> Option<KeepRead>
 }
 
 fn are_commits(records: &[Placed]) -> bool
-    ensures { IsTrue result ↔ AllByRecursion (λ (p : Placed). p.kind ≡ 1) records.now }
+    ensures { IsTrue result ↔ AllByRecursion (λ (p : Placed). (p.kind ≡ 1) ⊎ (p.kind ≡ 4)) records.now }
 {
     match records {
         [] => true,
-        [first, rest @ ..] => first.kind == 1 && are_commits(rest),
+        [first, rest @ ..] => {
+            (first.kind == FORMER_COMMIT || first.kind == COMMIT) && are_commits(rest)
+        }
     }
 }
 
@@ -96,18 +99,19 @@ pub(crate) fn is_keep(keep: KeepRead, behind: &[Placed]) -> bool
 /// Puts the commit of a record after others.
 fn push_commit<J: LedgerCheck>(
     alloc: Global,
+    new: bool,
     placed: &Placed,
     judge: &J,
     commits: &mut Vec<Commit>,
 ) -> Result<(), LedgerFault>
     requires { length commits.old.items < vec_capacity commits.old }
     ensures capacity { vec_capacity commits.new ≡ vec_capacity commits.old }
-    ensures ok { OnOk result (IsReadBehind (J.accepted judge.now) placed.now commits.old.items commits.new.items) }
+    ensures ok { OnOk result (IsReadBehind (J.accepted judge.now) new placed.now commits.old.items commits.new.items) }
     ensures longer { OnOk result (length commits.new.items ≡ length commits.old.items + 1) }
     ensures bad { (offset : ℕ) → IsErrOf result (LedgerFault.BadRecord offset) → (offset ≡ placed.now.offset)
-        × ((c : Commit) → IsRecordOf (J.accepted judge.now) (record_of placed.now) (CommitOf c) → ⊥) }
+        × ((c : Commit) → IsRecordOf (J.accepted judge.now) new (record_of placed.now) (CommitOf c) → ⊥) }
 {
-    let Some(commit) = commit_in(alloc, placed, judge)? else {
+    let Some(commit) = commit_in(alloc, new, placed, judge)? else {
         return Err(LedgerFault::BadRecord {
             offset: placed.offset,
         });
@@ -120,21 +124,25 @@ fn push_commit<J: LedgerCheck>(
 /// Puts the commits of records after others, up to the first record that is of none.
 pub(crate) fn read_commits<J: LedgerCheck>(
     alloc: Global,
+    new: bool,
     records: &[Placed],
     judge: &J,
     commits: &mut Vec<Commit>,
 ) -> Result<(), LedgerFault>
     requires { length commits.old.items + length records.now ≤ vec_capacity commits.old }
     ensures capacity { vec_capacity commits.new ≡ vec_capacity commits.old }
-    ensures ok { OnOk result (AreReadBehind (J.accepted judge.now) records.now commits.old.items commits.new.items) }
+    ensures ok { OnOk result (AreReadBehind (J.accepted judge.now) new records.now commits.old.items commits.new.items) }
     ensures bad { (offset : ℕ) → IsErrOf result (LedgerFault.BadRecord offset)
-        → IsBadCommit (J.accepted judge.now) records.now offset }
+        → IsBadCommit (J.accepted judge.now) new records.now offset }
 {
     match records {
         [] => Ok(()),
-        [first, rest @ ..] => match push_commit(alloc, first, judge, commits) {
+        [first, rest @ ..] => match push_commit(alloc, new, first, judge, commits) {
             Err(fault) => Err(fault),
-            Ok(()) => read_commits(alloc, rest, judge, commits),
+            Ok(()) => {
+                let seen = new_behind(new, first);
+                read_commits(alloc, seen, rest, judge, commits)
+            }
         },
     }
 }
@@ -362,7 +370,7 @@ fn of_keep<J: LedgerCheck>(
         → IsBadKeep (J.accepted judge.now) (keep_read keep) offset records.now at }
 {
     let mut commits = no_commits(alloc)?;
-    match read_commits(alloc, records, judge, &mut commits) {
+    match read_commits(alloc, false, records, judge, &mut commits) {
         Err(fault) => Err(fault),
         Ok(()) => match restored(keep, commits)? {
             Some(ledger) => Ok(ledger),
@@ -371,15 +379,15 @@ fn of_keep<J: LedgerCheck>(
     }
 }
 
-/// The ledger of a checkpoint, and the records after it.
+/// The ledger of a checkpoint, whether a commit as it is written now is among its records, and the records after it.
 pub(crate) fn restore<'a, J: LedgerCheck>(
     alloc: Global,
     placed: &Placed,
     behind: &'a [Placed],
     judge: &J,
-) -> Result<(Ledger, &'a [Placed]), LedgerFault>
+) -> Result<(Ledger, bool, &'a [Placed]), LedgerFault>
     requires { placed.now.kind ≡ 3 }
-    ensures ok { IfOk result (λ read. IsBegun (J.accepted judge.now) (placed.now ∷ behind.now) read.0 read.1.now) }
+    ensures ok { IfOk result (λ read. IsBegun (J.accepted judge.now) (placed.now ∷ behind.now) read.0 read.1 read.2.now) }
     ensures bad { (at : ℕ) → IsErrOf result (LedgerFault.BadRecord at)
         → IsBadCheckpoint (J.accepted judge.now) placed.now behind.now at }
 {
@@ -394,7 +402,7 @@ pub(crate) fn restore<'a, J: LedgerCheck>(
     }
     let (records, rest) = behind.split_at(keep.commits as usize);
     match of_keep(alloc, placed.offset, keep, records, judge) {
-        Ok(ledger) => Ok((ledger, rest)),
+        Ok(ledger) => Ok((ledger, new_after(false, records), rest)),
         Err(fault) => Err(fault),
     }
 }
