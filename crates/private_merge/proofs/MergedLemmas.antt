@@ -18,7 +18,7 @@ use Rattle.cfg_tree.proofs.PutLemmas.{order_same}
 use Rattle.cfg_tree.proofs.UnionLemmas.{no_child}
 use Rattle.cfg_tree.proofs.ValuesLemmas.{value_or_not}
 use Rattle.private_merge.specs.Merge.{IsMergedValue, IsMergedAt, IsMergeOf, IsChangedTwice, Conflicts, Agree, IsTooMany}
-use Rattle.private_merge.specs.Walking.{PlaceView, StandsIn, IsUntouched, AreTwo, HasNoParent, IsOwn}
+use Rattle.private_merge.specs.Walking.{PlaceView, StandsIn, IsUntouched, IsOnBoth, AreTwo, HasNoParent, IsOwn}
 use Rattle.private_merge.proofs.ValueLemmas.{one_of_both, merged_once, stays}
 
 no_value : (o : Option Value) → o ≡ None → is_some o ≡ true → ⊥
@@ -184,6 +184,15 @@ module _ (base active mine : Statements) (place : PlaceView) (stands : StandsIn 
     λ e. twice.by_others (sym stands.active_has ∙ e ∙ stands.base_has),
     λ e. twice.apart (sym stands.mine_has ∙ e ∙ stands.active_has),
   )
+
+  -- where both have a statement, and not both changed it, its parent is on both
+  pub both_agree : IsTree active → IsTree mine → ¬ (AreTwo place) → IsOnBoth place → ¬ (Conflicts base active mine place.path)
+  both_agree now own not_two both (inl twice) = not_twice not_two twice
+  both_agree now own not_two both (inr loses) =
+      ⊎_elim
+      (λ x. no_value _ (sym x.1) ((own.statements.parents place.path (ap is_some (sym stands.mine_has) ∙ both.1)).parent loses.inner))
+      (λ x. no_value _ (sym x.1) ((now.statements.parents place.path (ap is_some (sym stands.active_has) ∙ both.0)).parent loses.inner))
+      loses.gone
 
   -- where nothing is merged, and not both changed it
   pub gone_agrees : ¬ (AreTwo place) → IsMergedValue place.base place.active place.mine None → ¬ (Conflicts base active mine place.path)

@@ -1,5 +1,5 @@
 -- What the parts of a merge promise: walks side by side, and what stands at the path that comes next.
-use Rattle.std.specs.Prelude.{◌≡◌, ◌≢◌, ◌<◌, cond, List, [], ◌∷◌, length, Option, Some, None}
+use Rattle.std.specs.Prelude.{◌≡◌, ◌≢◌, ◌<◌, cond, List, [], ◌∷◌, length, Option, Some, None, IsSome}
 use Rattle.std.specs.FinMap as map
 use Rattle.std.specs.Ordering.{eq_by_cmp, is_lt}
 use Rattle.cfg_base.specs.Order.{path_cmp}
@@ -95,6 +95,10 @@ pub record StandsIn (base active mine : Statements) (standing : PlaceView) : Typ
 -- neither side changed it
 abbrev pub IsUntouched : PlaceView → Type 0
 IsUntouched standing = (standing.mine ≡ standing.base) × (standing.active ≡ standing.base)
+
+-- a statement stands there on both sides
+abbrev pub IsOnBoth : PlaceView → Type 0
+IsOnBoth standing = IsSome standing.active × IsSome standing.mine
 
 -- both sides changed it, and not to the same
 abbrev pub AreTwo : PlaceView → Type 0

@@ -3,7 +3,7 @@
 ghost use Rattle.std.specs.Prelude.{◌≡◌, Decides, IfOk, None};
 ghost use Rattle.std.specs.Option.{option_copied};
 ghost use Rattle.private_merge.specs.Merge.{IsMergedValue};
-ghost use Rattle.private_merge.specs.Walking.{standing, AreTwo, IsChanged, IsUntouched};
+ghost use Rattle.private_merge.specs.Walking.{standing, AreTwo, IsChanged, IsOnBoth, IsUntouched};
 
 use cfg_base::{NoMemory, Path, Value};
 use std::marker::Model;
@@ -87,6 +87,13 @@ impl<'a> Place<'a> {
         !same(self.mine, self.base)
             && !same(self.active, self.base)
             && !same(self.mine, self.active)
+    }
+
+    /// Whether a statement stands here on both sides.
+    pub fn is_on_both(&self) -> bool
+        ensures { Decides result (IsOnBoth self.now) }
+    {
+        self.active.is_some() && self.mine.is_some()
     }
 
     /// Whether nothing is merged here.

@@ -48,6 +48,10 @@ pub fn conflicts(
     if place.is_changed_twice() {
         return Ok(true);
     }
+    // What stands on both sides has its parent on both, and one of these is merged.
+    if place.is_on_both() {
+        return Ok(false);
+    }
     if place.is_gone() {
         return Ok(false);
     }

@@ -1,6 +1,6 @@
 use Rattle.std.proofs.Common.{refl}
 use Rattle.std.proofs.lemmas.Bool.Decides.{not_from_Decides}
-use Rattle.private_merge.proofs.MergedLemmas.{untouched_agrees, twice_conflicts, gone_agrees, parent_decides}
+use Rattle.private_merge.proofs.MergedLemmas.{untouched_agrees, twice_conflicts, both_agree, gone_agrees, parent_decides}
 use Rattle.private_merge.proofs.values.conflicts.Goals as goal
 
 pub returns-then-is_untouched : goal.returns-then-is_untouched
@@ -15,6 +15,13 @@ returns-then-is_changed_twice c = (
   λ _. twice_conflicts c.args.base.now c.args.active.now c.args.mine.now c.args.place.now c.requires.stands
       (c.is_changed_twice.ensures.0 c.if-is_changed_twice.true),
   λ _. refl,
+)
+
+pub returns-then-is_on_both : goal.returns-then-is_on_both
+returns-then-is_on_both c = (
+  λ never. cc,
+  λ found. absurd (both_agree c.args.base.now c.args.active.now c.args.mine.now c.args.place.now c.requires.stands c.requires.active c.requires.mine
+      (not_from_Decides c.is_changed_twice.result c.is_changed_twice.ensures c.if-is_changed_twice.false) (c.is_on_both.ensures.0 c.if-is_on_both.true) found),
 )
 
 pub returns-then-is_gone : goal.returns-then-is_gone
