@@ -1,18 +1,21 @@
 -- Each kind of the profile's rows has a spelling.
-use Rattle.std.proofs.Common.{◌≡◌, ℕ, zero, suc, ◌≤◌, Bool, true, ◌&&◌, nat_le, List, [], ◌∷◌, refl, arith, inl, codes, leb-true}
+use Rattle.std.proofs.Common.{◌≡◌, ℕ, zero, suc, ◌≤◌, Bool, true, ◌&&◌, nat_le, List, [], ◌∷◌, refl, arith, inl, codes, leb-true, replicate}
 use Rattle.std.specs.List.{list_all}
 use Rattle.std.specs.Fmt.{decimal}
+use Rattle.std.specs.Net.Text.{hex_groups_text}
 use Rattle.cfg_base.specs.declared.kind.Kind.{Kind}
-use Rattle.cfg_base.specs.declared.kind.Kind.TheVariants.{Name, Host, Text, Address, Prefix, Area, IfName, IfUnit, Number, OneOf}
+use Rattle.cfg_base.specs.declared.kind.Kind.TheVariants.{Name, Host, Text, Address, Prefix, Prefix6, Area, IfName, IfUnit, Number, OneOf}
 use Rattle.cfg_base.specs.declared.kind.Choice.{Choice}
-use Rattle.cfg_base.specs.declared.kind.Choice.TheVariants.{Permission, RootLogin, GroupType, Protocol, NextHop}
+use Rattle.cfg_base.specs.declared.kind.Choice.TheVariants.{Permission, RootLogin, GroupType, Protocol, NextHop, PacketProtocol}
 use Rattle.cfg_schema.specs.declared.table.Line.{Line}
 use Rattle.cfg_schema.specs.Profile.{profile, line_at, row_of}
 use Rattle.cfg_schema.proofs.TestLemmas.{both}
 use Rattle.cfg_values.specs.Address.{IsAddress, dotted, network}
+use Rattle.cfg_values.specs.Address6.{network6}
 use Rattle.cfg_values.specs.Interface.{EveryUnit, every_unit}
 use Rattle.cfg_values.specs.Spelling.{IsCanonicalOf}
 use Rattle.cfg_values.proofs.NumberLemmas.{IsNumber-decimal}
+use Rattle.cfg_values.proofs.Address6Lemmas.{zero_address6}
 
 -- some bytes are a spelling of the kind
 pub record HasSpelling (kind : Kind) : Type 0 where
@@ -48,6 +51,7 @@ choice_spelled RootLogin = record { bytes = codes "allow"; word = codes "allow";
 choice_spelled GroupType = record { bytes = codes "external"; word = codes "external"; spelled = record { value = codes "external"; spells = ((0, omega arith, refl), refl); canonical_is = refl } }
 choice_spelled Protocol = record { bytes = codes "bgp"; word = codes "bgp"; spelled = record { value = codes "bgp"; spells = ((0, omega arith, refl), refl); canonical_is = refl } }
 choice_spelled NextHop = record { bytes = codes "self"; word = codes "self"; spelled = record { value = codes "self"; spells = ((0, omega arith, refl), refl); canonical_is = refl } }
+choice_spelled PacketProtocol = record { bytes = codes "icmp"; word = codes "icmp"; spelled = record { value = codes "icmp"; spells = ((0, omega arith, refl), refl); canonical_is = refl } }
 
 kind_spelled : (kind : Kind) → has_value kind ≡ true → HasSpelling kind
 kind_spelled Name h = record { bytes = codes "a"; word = codes "a"; spelled = record { value = codes "a"; spells = ((omega arith, omega arith, refl), refl); canonical_is = refl } }
@@ -58,6 +62,11 @@ kind_spelled Prefix h = record {
   bytes = dotted zeros;
   word = _;
   spelled = record { value = network zeros 32; spells = inl record { address = zero_address; whole = refl }; canonical_is = refl };
+}
+kind_spelled Prefix6 h = record {
+  bytes = hex_groups_text (replicate 8 0);
+  word = _;
+  spelled = record { value = network6 (replicate 8 0) 128; spells = inl record { address = zero_address6; whole = refl }; canonical_is = refl };
 }
 kind_spelled Area h = record { bytes = dotted zeros; word = dotted zeros; spelled = record { value = zeros; spells = inl zero_address; canonical_is = refl } }
 kind_spelled IfName h = record {

@@ -3,6 +3,7 @@ use Rattle.std.proofs.Common.{◌≡◌, ℕ, ◌<◌, ◌≤◌, ◌^◌, Bool,
 use Rattle.std.specs.Prelude.{All}
 use Rattle.std.specs.List.{list_all, Contains}
 use Rattle.std.specs.Fmt.{decimal}
+use Rattle.std.specs.Net.Text.{hex_groups_text}
 use Rattle.std.specs.Str.Parse.{AllDigits}
 use Rattle.std.proofs.lemmas.Bool.Decides.{nat_tests}
 use Rattle.std.proofs.lemmas.List.{get_or_default}
@@ -12,9 +13,9 @@ use Rattle.std.proofs.lemmas.Str.Parse.{digit_at}
 use Rattle.std.proofs.lemmas.Fmt.{decimal_is_IsNumeral, length-decimal-le}
 use Rattle.cfg_base.specs.Kind.{is_name_byte, is_host_byte}
 use Rattle.cfg_base.specs.declared.kind.Choice.{Choice}
-use Rattle.cfg_base.specs.declared.kind.Choice.TheVariants.{Permission, RootLogin, GroupType, Protocol, NextHop}
+use Rattle.cfg_base.specs.declared.kind.Choice.TheVariants.{Permission, RootLogin, GroupType, Protocol, NextHop, PacketProtocol}
 use Rattle.cfg_base.specs.declared.kind.Kind.{Kind}
-use Rattle.cfg_base.specs.declared.kind.Kind.TheVariants.{Name, Host, Text, Address, Prefix, Area, IfName, IfUnit, Number, OneOf}
+use Rattle.cfg_base.specs.declared.kind.Kind.TheVariants.{Name, Host, Text, Address, Prefix, Prefix6, Area, IfName, IfUnit, Number, OneOf}
 use Rattle.cfg_schema.specs.declared.table.Line.{Line}
 use Rattle.cfg_schema.specs.Keyword.{spelled}
 use Rattle.cfg_schema.specs.Profile.{profile, no_line, head_of, name_of}
@@ -22,12 +23,14 @@ use Rattle.cfg_schema.proofs.TestLemmas.{both, both_true}
 use Rattle.cfg_schema.proofs.LevelLemmas.{all_at}
 use Rattle.cfg_values.specs.Number.{IsNumberWithin}
 use Rattle.cfg_values.specs.Address.{IsAddress, AreOctets, dotted, prefix_text, Network, IsPrefix}
+use Rattle.cfg_values.specs.Address6.{Network6, IsPrefix6, is_group_byte, prefix6_text}
 use Rattle.cfg_values.specs.Interface.{IsInterface, Units, EveryUnit, UnitOf, IsUnits, is_interface_byte, units_text}
 use Rattle.cfg_values.specs.Choice.{words_of}
 use Rattle.cfg_values.specs.Pattern.{IsPattern, is_pattern_byte}
 use Rattle.cfg_values.specs.Spelling.{IsCanonical}
 use Rattle.cfg_values.proofs.NumberLemmas.{number_below}
 use Rattle.cfg_values.proofs.AddressLemmas.{length-dotted-le, area_again, prefix_quad, prefix_bits}
+use Rattle.cfg_values.proofs.Address6Lemmas.{address6_short, prefix6_address, prefix6_bits}
 use Rattle.cfg_lex.specs.Bytes.{is_printing}
 use Rattle.cfg_lex.specs.Printed.{IsPrintable}
 use Rattle.cfg_tree.specs.Typed.{IsName, AreCanonical}
@@ -53,6 +56,9 @@ host_byte b e = grind (arith, nat_tests)
 
 interface_byte : (b : ℕ) → is_interface_byte b ≡ true → is_printing b ≡ true
 interface_byte b e = grind (arith, nat_tests)
+
+group_byte : (b : ℕ) → is_group_byte b ≡ true → is_printing b ≡ true
+group_byte b e = grind (arith, nat_tests)
 
 in_range : (b : ℕ) → 32 ≤ b → b ≤ 126 → is_printing b ≡ true
 in_range b low high = grind (arith, nat_tests)
@@ -110,6 +116,23 @@ prefix_printable bytes net h =
       printing = joined_print (dotted net.quad) (47 ∷ decimal net.bits) quad.printing (decimal_print net.bits (omega (arith, bits)));
     }
 
+prefix6_printable : (bytes : List ℕ) (net : Network6) → IsPrefix6 bytes net → IsPrintable (prefix6_text net)
+prefix6_printable bytes net h =
+    let address = prefix6_address bytes net h
+    in let bits = prefix6_bits bytes net h
+    in record {
+      short =
+          omega (
+            arith,
+            length-append (hex_groups_text net.groups) (47 ∷ decimal net.bits),
+            address6_short _ _ address,
+            decimal_short net.bits (omega (arith, bits)),
+          );
+      printing =
+          joined_print (hex_groups_text net.groups) (47 ∷ decimal net.bits)
+          (weaker is_group_byte is_printing group_byte (hex_groups_text net.groups) address.bare) (decimal_print net.bits (omega (arith, bits)));
+    }
+
 interface_printable : (bytes : List ℕ) → IsInterface bytes → IsPrintable bytes
 interface_printable bytes h = record { short = omega (arith, h.short); printing = weaker is_interface_byte is_printing interface_byte bytes h.each }
 
@@ -135,6 +158,7 @@ choices_short RootLogin = refl
 choices_short GroupType = refl
 choices_short Protocol = refl
 choices_short NextHop = refl
+choices_short PacketProtocol = refl
 
 short_printable : (word : List ℕ) → (nat_le (length word) 255 && list_all is_printing word) ≡ true → IsPrintable word
 short_printable word h = let parts = both (nat_le (length word) 255) _ h in record { short = few (length word) parts.0; printing = parts.1 }
@@ -155,6 +179,7 @@ canonical_printable Host word h = record { short = h.spells.0.1; printing = weak
 canonical_printable Text word h = record { short = h.spells.0.short; printing = h.spells.0.each }
 canonical_printable Address word h = subst (λ (w : List ℕ). IsPrintable w) (sym h.canonical_is) (address_printable word h.value h.spells)
 canonical_printable Prefix word h = subst (λ (w : List ℕ). IsPrintable w) (sym h.canonical_is) (prefix_printable word h.value h.spells)
+canonical_printable Prefix6 word h = subst (λ (w : List ℕ). IsPrintable w) (sym h.canonical_is) (prefix6_printable word h.value h.spells)
 canonical_printable Area word h =
     subst (λ (w : List ℕ). IsPrintable w) (sym h.canonical_is) (address_printable (dotted h.value) h.value (area_again word h.value h.spells))
 canonical_printable IfName word h = interface_printable word h.spells.0
