@@ -25,8 +25,9 @@ use Rattle.group_expand.proofs.OneFullLemmas.{one_full}
 use Rattle.commit_check.specs.declared.fault.CheckFault.{CheckFault}
 use Rattle.commit_check.specs.declared.fault.CheckFault.TheVariants.{Rule, NoMemory}
 use Rattle.commit_check.specs.declared.rule.CommitRule.{CommitRule}
-use Rattle.commit_check.specs.declared.rule.CommitRule.TheVariants.{Width, Groups, Each, Addresses, TextLength}
-use Rattle.commit_check.specs.declared.rule.StatementRule.TheVariants.{UserClass, KnownClass, VlanTagging, PeerAs, Policies, PrefixLists, OneWay, Units, Network}
+use Rattle.commit_check.specs.declared.rule.CommitRule.TheVariants.{Width, Groups, Each, Apart, TextLength}
+use Rattle.commit_check.specs.declared.rule.StatementRule.TheVariants.{UserClass, KnownClass, VlanTagging, PeerAs, Policies, PrefixLists, OneWay, Units, Network, Filters, FilterEnds}
+use Rattle.commit_check.specs.declared.rule.KeyRule.TheVariants.{Addresses, Addresses6, VlanIds}
 use Rattle.commit_check.specs.declared.rule.TheConstants.{RULES, MAX_TEXT}
 use Rattle.commit_check.specs.Least.{Nowhere, IsLeast}
 use Rattle.commit_check.specs.Rules.{number_of, Fails, AtTop}
@@ -51,7 +52,7 @@ rule_back Groups = refl
 rule_back (Each UserClass) = refl
 rule_back (Each KnownClass) = refl
 rule_back (Each VlanTagging) = refl
-rule_back Addresses = refl
+rule_back (Apart Addresses) = refl
 rule_back (Each PeerAs) = refl
 rule_back (Each Policies) = refl
 rule_back (Each PrefixLists) = refl
@@ -59,6 +60,10 @@ rule_back (Each OneWay) = refl
 rule_back (Each Units) = refl
 rule_back (Each Network) = refl
 rule_back TextLength = refl
+rule_back (Apart Addresses6) = refl
+rule_back (Each Filters) = refl
+rule_back (Each FilterEnds) = refl
+rule_back (Apart VlanIds) = refl
 
 pub same_number : (rule other : CommitRule) → number_of rule ≡ number_of other → rule ≡ other
 same_number rule other e = sym (rule_back rule) ∙ ap rule_of e ∙ rule_back other
@@ -72,16 +77,16 @@ rules_numbered : numbered 1 RULES ≡ true
 unfolding numbered
 rules_numbered = refl
 
-rules_length : length RULES ≡ 12
+rules_length : length RULES ≡ 16
 rules_length = refl
 
-number_most : (rule : CommitRule) → number_of rule < 13
+number_most : (rule : CommitRule) → number_of rule < 17
 number_most Width = omega arith
 number_most Groups = omega arith
 number_most (Each UserClass) = omega arith
 number_most (Each KnownClass) = omega arith
 number_most (Each VlanTagging) = omega arith
-number_most Addresses = omega arith
+number_most (Apart Addresses) = omega arith
 number_most (Each PeerAs) = omega arith
 number_most (Each Policies) = omega arith
 number_most (Each PrefixLists) = omega arith
@@ -89,6 +94,10 @@ number_most (Each OneWay) = omega arith
 number_most (Each Units) = omega arith
 number_most (Each Network) = omega arith
 number_most TextLength = omega arith
+number_most (Apart Addresses6) = omega arith
+number_most (Each Filters) = omega arith
+number_most (Each FilterEnds) = omega arith
+number_most (Apart VlanIds) = omega arith
 
 less_or_same : (a n : ℕ) (P : Type 0) → a < n + 1 → (a < n → P) → (a ≡ n → P) → P
 less_or_same a n P h less same = by_test (nat_lt a n) refl
@@ -197,7 +206,7 @@ holds_or_fails : (rule : CommitRule) (m : Statements) (full : Expansion) → Hol
 holds_or_fails Width m full = above_or_not MAX_EXPANDED (map.len full)
 holds_or_fails Groups m full = least_or_not _ (unknown_least m _ refl)
 holds_or_fails (Each rule) m full = least_or_not _ (breach_least rule full _ refl)
-holds_or_fails Addresses m full = least_or_not _ (repeat_least full _ refl)
+holds_or_fails (Apart rule) m full = least_or_not _ (repeat_least rule full _ refl)
 holds_or_fails TextLength m full = above_or_not MAX_TEXT (length (printed m []))
 
 all_or_first : (rules : List CommitRule) (m : Statements) (full : Expansion)

@@ -5,9 +5,11 @@ pub mod GroupLemmas
 pub mod CutLemmas
 pub mod InOrderLemmas
 pub mod KeptLemmas
+pub mod Kept6Lemmas
 pub mod LengthLemmas
 pub mod RepeatLemmas
 pub mod UnitLemmas
 pub mod NothingLemmas
 pub mod RowLemmas
+pub mod UnderLemmas
 pub mod StartLemmas

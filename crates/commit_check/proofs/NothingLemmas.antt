@@ -22,7 +22,7 @@ use Rattle.group_expand.specs.Sources.{groups_step, is_outside}
 use Rattle.group_expand.specs.Expansion.{gift_of, gift_at, is_apply, IsExpansion}
 use Rattle.group_expand.proofs.LivePartLemmas.{gift_own}
 use Rattle.commit_check.specs.declared.rule.CommitRule.{CommitRule}
-use Rattle.commit_check.specs.declared.rule.CommitRule.TheVariants.{Width, Groups, Each, Addresses, TextLength}
+use Rattle.commit_check.specs.declared.rule.CommitRule.TheVariants.{Width, Groups, Each, Apart, TextLength}
 use Rattle.commit_check.specs.Groups.{is_group, names_no_group}
 use Rattle.commit_check.specs.Rules.{Fails}
 use Rattle.commit_check.specs.Accepts.{Accepts}
@@ -135,7 +135,7 @@ nothing_fails : (rule : CommitRule) (path : List Step) → Fails rule nothing no
 nothing_fails Width path fault = omega (arith, fault.fails, finite.len-empty path_cmp Given)
 nothing_fails Groups path fault = not_both (names_no_group nothing path) (no_apply path) fault
 nothing_fails (Each rule) path fault = never_given path fault.given fault.there
-nothing_fails Addresses path fault = not_both (is_some (finite.get no_paths path)) (ap is_some (none_given path)) fault.there
+nothing_fails (Apart rule) path fault = not_both (is_some (finite.get no_paths path)) (ap is_some (none_given path)) fault.there
 nothing_fails TextLength path fault = omega (arith, fault.fails, ap length nothing_printed)
 
 -- the configuration without statements is accepted

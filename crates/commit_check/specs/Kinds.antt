@@ -4,7 +4,7 @@ use Rattle.std.specs.Prelude.{ℕ, Bool, true, false, ◌&&◌, List, [], ◌∷
 use Rattle.std.specs.FinMap as map
 use Rattle.std.specs.List.{list_any}
 use Rattle.cfg_base.specs.declared.path.Step.{Step}
-use Rattle.cfg_schema.specs.Profile.{is_step_of, head_of}
+use Rattle.cfg_schema.specs.Profile.{is_step_of, head_of, name_of}
 use Rattle.cfg_tree.specs.Tree.{step_of}
 use Rattle.cfg_tree.specs.Full.{Expansion}
 
@@ -44,6 +44,13 @@ is_policy_list path =
 abbrev pub is_from_list : List Step → Bool
 is_from_list path = list_any (λ rows. begin_as rows path) ((73 ∷ 76 ∷ 77 ∷ 78 ∷ 81 ∷ []) ∷ (73 ∷ 76 ∷ 91 ∷ 81 ∷ []) ∷ [])
 
+-- `input` and `output` of a unit's filter, and a filter's `then`
+abbrev pub is_filter_use : List Step → Bool
+is_filter_use path = list_any (λ rows. begin_as rows path) ((30 ∷ 31 ∷ 36 ∷ 40 ∷ 96 ∷ 97 ∷ []) ∷ (30 ∷ 31 ∷ 36 ∷ 40 ∷ 96 ∷ 98 ∷ []) ∷ [])
+
+abbrev pub is_filter_end : List Step → Bool
+is_filter_end path = begin_as (99 ∷ 100 ∷ 101 ∷ 102 ∷ 110 ∷ []) path
+
 -- a step of a row: with its first word and this name, or without a name
 abbrev pub named : ℕ → List ℕ → Step
 named row name = step_of (head_of row) name
@@ -60,6 +67,10 @@ policy_of name = plain 73 ∷ named 76 name ∷ []
 
 abbrev pub prefix_list_of : List ℕ → List Step
 prefix_list_of name = plain 73 ∷ named 74 name ∷ []
+
+-- the IPv4 filter of a name
+abbrev pub filter_of : List ℕ → List Step
+filter_of name = plain 99 ∷ named 100 (name_of 100) ∷ named 101 name ∷ []
 
 -- a statement stands in the expansion, and the child of this row stands there
 abbrev pub is_in : Expansion → List Step → Bool

@@ -6,9 +6,10 @@ use Rattle.std.specs.List.{before_first, after_first, list_all, slice_split}
 use Rattle.std.specs.Int.{w32, from_be_bytes}
 use Rattle.std.specs.Str.Parse.{digits_value}
 use Rattle.cfg_base.specs.declared.path.Step.{Step}
-use Rattle.cfg_base.specs.declared.kind.Kind.TheVariants.{Prefix}
+use Rattle.cfg_base.specs.declared.kind.Kind.TheVariants.{Prefix, Prefix6}
 use Rattle.cfg_schema.specs.Profile.{same_word}
 use Rattle.cfg_values.specs.Address.{Network, network, prefix_text}
+use Rattle.cfg_values.specs.Address6.{Network6, prefix6_text}
 use Rattle.cfg_values.specs.Spelling.{Spells}
 use Rattle.cfg_tree.specs.Statements.{last_of}
 use Rattle.commit_check.specs.Kinds.{is_route}
@@ -17,6 +18,11 @@ use Rattle.commit_check.specs.Kinds.{is_route}
 pub record IsKept (name : List ℕ) (net : Network) : Type 0 where
   pub spells : Spells Prefix name net
   pub kept : name ≡ prefix_text net
+
+-- the same of an IPv6 network
+pub record IsKept6 (name : List ℕ) (net : Network6) : Type 0 where
+  pub spells : Spells Prefix6 name net
+  pub kept : name ≡ prefix6_text net
 
 -- the number that the bits of a network's address past its length write
 abbrev pub bits_past : Network → ℕ

@@ -9,15 +9,17 @@ use Rattle.cfg_tree.specs.declared.full.Given.{Given}
 use Rattle.cfg_tree.specs.declared.limit.TheConstants.{MAX_EXPANDED}
 use Rattle.curly_print.specs.Printed.{printed}
 use Rattle.commit_check.specs.declared.rule.CommitRule.{CommitRule}
-use Rattle.commit_check.specs.declared.rule.CommitRule.TheVariants.{Width, Groups, Each, Addresses, TextLength}
+use Rattle.commit_check.specs.declared.rule.CommitRule.TheVariants.{Width, Groups, Each, Apart, TextLength}
 use Rattle.commit_check.specs.declared.rule.StatementRule.{StatementRule}
-use Rattle.commit_check.specs.declared.rule.StatementRule.TheVariants.{UserClass, KnownClass, VlanTagging, PeerAs, Policies, PrefixLists, OneWay, Units, Network}
+use Rattle.commit_check.specs.declared.rule.StatementRule.TheVariants.{UserClass, KnownClass, VlanTagging, PeerAs, Policies, PrefixLists, OneWay, Units, Network, Filters, FilterEnds}
+use Rattle.commit_check.specs.declared.rule.KeyRule.{KeyRule}
+use Rattle.commit_check.specs.declared.rule.KeyRule.TheVariants.{Addresses, Addresses6, VlanIds}
 use Rattle.commit_check.specs.declared.rule.TheConstants.{MAX_TEXT}
 use Rattle.commit_check.specs.Groups.{names_no_group}
 use Rattle.commit_check.specs.Units.{names_no_unit}
 use Rattle.commit_check.specs.Network.{has_stray_bits}
 use Rattle.commit_check.specs.Repeats.{Repeats}
-use Rattle.commit_check.specs.Tests.{lacks_class, names_no_class, lacks_tagging, lacks_peer_as, names_no_policy, names_no_list, lacks_one_way}
+use Rattle.commit_check.specs.Tests.{lacks_class, names_no_class, lacks_tagging, lacks_peer_as, names_no_policy, names_no_list, lacks_one_way, names_no_filter, ends_twice}
 
 -- a rule's number
 abbrev pub number_of_each : StatementRule → ℕ
@@ -30,12 +32,19 @@ number_of_each PrefixLists = 8
 number_of_each OneWay = 9
 number_of_each Units = 10
 number_of_each Network = 11
+number_of_each Filters = 14
+number_of_each FilterEnds = 15
+
+abbrev pub number_of_key : KeyRule → ℕ
+number_of_key Addresses = 5
+number_of_key Addresses6 = 13
+number_of_key VlanIds = 16
 
 abbrev pub number_of : CommitRule → ℕ
 number_of Width = 0
 number_of Groups = 1
 number_of (Each rule) = number_of_each rule
-number_of Addresses = 5
+number_of (Apart rule) = number_of_key rule
 number_of TextLength = 12
 
 -- a statement, by its path and its words, breaks a rule
@@ -49,6 +58,8 @@ breaks PrefixLists full path words = names_no_list full path
 breaks OneWay full path words = lacks_one_way full path
 breaks Units full path words = names_no_unit full path
 breaks Network full path words = has_stray_bits path
+breaks Filters full path words = names_no_filter full path words
+breaks FilterEnds full path words = ends_twice full path
 
 -- a statement of the expansion that breaks a rule stands at a path
 pub record BreaksAt (rule : StatementRule) (full : Expansion) (path : List Step) : Type 0 where
@@ -66,5 +77,5 @@ abbrev pub Fails : CommitRule → Statements → Expansion → List Step → Typ
 Fails Width m full path = AtTop (MAX_EXPANDED < map.len full) path
 Fails Groups m full path = names_no_group m path ≡ true
 Fails (Each rule) m full path = BreaksAt rule full path
-Fails Addresses m full path = Repeats full path
+Fails (Apart rule) m full path = Repeats rule full path
 Fails TextLength m full path = AtTop (MAX_TEXT < length (printed m [])) path

@@ -8,7 +8,7 @@ use Rattle.cfg_base.specs.declared.path.Step.{Step}
 use Rattle.cfg_tree.specs.Statements.{last_of}
 use Rattle.cfg_tree.specs.Full.{Expansion}
 use Rattle.cfg_tree.specs.declared.full.Given.{Given}
-use Rattle.commit_check.specs.Kinds.{is_user, is_user_class, is_vlan_id, is_route, is_neighbor, is_policy_list, is_from_list, plain, class_of, policy_of, prefix_list_of, is_in, has_child}
+use Rattle.commit_check.specs.Kinds.{is_user, is_user_class, is_vlan_id, is_route, is_neighbor, is_policy_list, is_from_list, is_filter_use, is_filter_end, plain, class_of, policy_of, prefix_list_of, filter_of, is_in, has_child}
 
 -- rule 2: a user without a class
 abbrev pub lacks_class : Expansion → List Step → Bool
@@ -53,3 +53,14 @@ names_no_list full path = is_from_list path && not (is_in full (prefix_list_of (
 -- rule 9: a route with both `next-hop` and `discard`, or with neither
 abbrev pub lacks_one_way : Expansion → List Step → Bool
 lacks_one_way full path = is_route path && not (if has_child full path 46 then not (has_child full path 47) else has_child full path 47)
+
+-- rule 14: a use of a filter that isn't there
+abbrev pub names_no_filter : Expansion → List Step → List (List ℕ) → Bool
+names_no_filter full path words = is_filter_use path && list_any (λ name. not (is_in full (filter_of name))) words
+
+-- rule 15: a filter's `then` with two of `accept`, `discard` and `reject`
+abbrev pub two_of : Bool → Bool → Bool → Bool
+two_of a b c = (a && (b || c)) || (b && c)
+
+abbrev pub ends_twice : Expansion → List Step → Bool
+ends_twice full path = is_filter_end path && two_of (has_child full path 112) (has_child full path 113) (has_child full path 114)

@@ -6,20 +6,23 @@ ghost use Rattle.std.specs.FinMap as map;
 ghost use Rattle.commit_check.specs.Least.{Nowhere, IsLeast};
 ghost use Rattle.commit_check.specs.Rules.{breaks, BreaksAt};
 ghost use Rattle.cfg_base.specs.Order.{path_cmp};
+ghost use Rattle.cfg_schema.specs.Profile.{head_of};
 ghost use Rattle.cfg_schema.specs.declared.rows.TheConstants.{ROWS};
 ghost use Rattle.commit_check.specs.Kinds.{plain};
 ghost use Rattle.commit_check.specs.First.{first_of, top_row};
 
+use crate::filters::{ends_twice, names_no_filter};
 use crate::interfaces::lacks_tagging;
-use crate::lookup::{below, plain};
 use crate::network::has_stray_bits;
 use crate::peers::lacks_peer_as;
 use crate::policies::{names_no_list, names_no_policy};
 use crate::routes::lacks_one_way;
 use crate::rule::StatementRule;
+use crate::under::{is_headed, top_of};
 use crate::unit::names_no_unit;
 use crate::users::{lacks_class, names_no_class};
 use cfg_base::{NoMemory, Path, WordList};
+use cfg_schema::{RowId, head};
 use cfg_tree::Full;
 use std::alloc::Global;
 
@@ -43,6 +46,8 @@ fn breaks(
         StatementRule::OneWay => lacks_one_way(alloc, full, path),
         StatementRule::Units => names_no_unit(alloc, full, path),
         StatementRule::Network => Ok(has_stray_bits(path)),
+        StatementRule::Filters => names_no_filter(alloc, full, path, words),
+        StatementRule::FilterEnds => ends_twice(alloc, full, path),
     }
 }
 
@@ -53,32 +58,32 @@ fn top_row(rule: StatementRule) -> u8
 {
     match rule {
         StatementRule::UserClass | StatementRule::KnownClass => 6,
-        StatementRule::VlanTagging => 30,
+        StatementRule::VlanTagging | StatementRule::Filters => 30,
         StatementRule::OneWay | StatementRule::Network => 43,
         StatementRule::PeerAs | StatementRule::Policies | StatementRule::Units => 51,
         StatementRule::PrefixLists => 73,
+        StatementRule::FilterEnds => 99,
     }
 }
 
-/// The path of that row.
-fn top_of(alloc: Global, rule: StatementRule) -> Result<Path, NoMemory>
-    ensures { IfOk result (λ path. path ≡ plain (top_row rule) ∷ []) }
-{
-    below(&Path::top(alloc), plain(alloc, top_row(rule))?)
-}
-
-/// The first path at which a statement breaks a rule, from a path on.
+/// The first path at which a statement breaks a rule, from a path on, up to the first with another head.
 fn first_from(
     alloc: Global,
     rule: StatementRule,
     full: &Full,
     start: &Path,
+    head: &[u8],
 ) -> Result<Option<Path>, NoMemory>
+    requires start { start.now ≡ plain (top_row rule) ∷ [] }
+    requires head { head.now ≡ head_of (top_row rule) }
     ensures { IfOk result (λ found. found ≡ first_of (λ e. breaks rule full.now e.0 e.1.words)
         (filter (λ e. is_le (path_cmp start.now e.0)) (map.entries full.now))) }
 {
     let mut left = full.walk_from(start);
     while let Some((path, given)) = left.next() {
+        if !is_headed(head, path) {
+            return Ok(None);
+        }
         if breaks(alloc, rule, full, path, &given.words)? {
             return Ok(Some(path.clone()?));
         }
@@ -90,8 +95,9 @@ fn first_from(
 fn first_breach(alloc: Global, rule: StatementRule, full: &Full) -> Result<Option<Path>, NoMemory>
     ensures { IfOk result (λ found. found ≡ first_of (λ e. breaks rule full.now e.0 e.1.words) (map.entries full.now)) }
 {
-    let start = top_of(alloc, rule)?;
-    first_from(alloc, rule, full, &start)
+    let row = top_row(rule);
+    let start = top_of(alloc, row)?;
+    first_from(alloc, rule, full, &start, head(RowId::at(usize::from(row))))
 }
 
 /// The least path at which a statement breaks a rule.

@@ -4,7 +4,7 @@ ghost use Rattle.std.specs.Prelude.{◌≡◌, ◌<◌};
 ghost use Rattle.std.specs.List.{AllByRecursion};
 ghost use Rattle.cfg_schema.specs.Profile.{is_step_of};
 ghost use Rattle.cfg_schema.specs.declared.rows.TheConstants.{ROWS};
-ghost use Rattle.commit_check.specs.Kinds.{begin_as, is_user, is_user_class, is_vlan_id, is_route, is_neighbor, is_policy_list, is_from_list};
+ghost use Rattle.commit_check.specs.Kinds.{begin_as, is_user, is_user_class, is_vlan_id, is_route, is_neighbor, is_policy_list, is_from_list, is_filter_use, is_filter_end};
 
 use cfg_base::{Path, Step};
 use cfg_schema::{RowId, RowWords};
@@ -92,4 +92,19 @@ pub fn is_from_list(path: &Path) -> bool
 {
     let steps = path.steps();
     begin_as(steps, &[73, 76, 77, 78, 81]) || begin_as(steps, &[73, 76, 91, 81])
+}
+
+/// Whether a path is that of a filter's use at a unit.
+pub fn is_filter_use(path: &Path) -> bool
+    ensures { result ≡ is_filter_use path.now }
+{
+    let steps = path.steps();
+    begin_as(steps, &[30, 31, 36, 40, 96, 97]) || begin_as(steps, &[30, 31, 36, 40, 96, 98])
+}
+
+/// Whether a path is that of the end of a filter's term.
+pub fn is_filter_end(path: &Path) -> bool
+    ensures { result ≡ is_filter_end path.now }
+{
+    begin_as(path.steps(), &[99, 100, 101, 102, 110])
 }

@@ -31,7 +31,7 @@ pub fn least(
         CommitRule::Width => Ok(None),
         CommitRule::Groups => least_unknown(alloc, tree),
         CommitRule::Each(rule) => least_breach(alloc, rule, full),
-        CommitRule::Addresses => least_repeat(alloc, full),
+        CommitRule::Apart(rule) => least_repeat(alloc, rule, full),
         CommitRule::TextLength => Ok(least_too_long(alloc, tree)),
     }
 }

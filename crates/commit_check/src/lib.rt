@@ -8,6 +8,7 @@
 mod breach;
 mod checking;
 mod fault;
+mod filters;
 mod groups;
 mod interfaces;
 mod judge;
@@ -23,6 +24,7 @@ mod repeat;
 mod routes;
 mod rule;
 mod size;
+mod under;
 mod unit;
 mod users;
 
@@ -34,5 +36,5 @@ pub use laws::{
     rows_have_their_words,
 };
 pub use network::stray_bits_are_told;
-pub use repeat::numbers_are_told_by_their_text;
+pub use repeat::{groups_are_told_by_their_text, numbers_are_told_by_their_text};
 pub use unit::names_of_units_are_cut;

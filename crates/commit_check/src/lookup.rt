@@ -2,12 +2,12 @@
 
 ghost use Rattle.std.specs.Prelude.{◌≡◌, ◌<◌, ◌≤◌, ◌∷◌, [], ◌++◌, length, take, IfOk};
 ghost use Rattle.cfg_base.specs.declared.path.TheConstants.{MAX_STEPS};
-ghost use Rattle.cfg_schema.specs.Profile.{head_of};
+ghost use Rattle.cfg_schema.specs.Profile.{head_of, name_of};
 ghost use Rattle.cfg_schema.specs.declared.rows.TheConstants.{ROWS};
-ghost use Rattle.commit_check.specs.Kinds.{named, plain, class_of, policy_of, prefix_list_of, is_in, has_child};
+ghost use Rattle.commit_check.specs.Kinds.{named, plain, class_of, policy_of, prefix_list_of, filter_of, is_in, has_child};
 
 use cfg_base::{NoMemory, Path, PathFault, Step, Word};
-use cfg_schema::{RowId, head};
+use cfg_schema::{RowId, fixed_name, head};
 use cfg_tree::Full;
 use std::alloc::Global;
 
@@ -108,4 +108,26 @@ pub fn has_prefix_list(alloc: Global, full: &Full, name: &Word) -> Result<bool, 
     let options = below(&top, plain(alloc, 73)?)?;
     let list = below(&options, named(alloc, 74, name.as_bytes())?)?;
     Ok(is_in(full, &list))
+}
+
+/// The step of a Fixed row.
+fn fixed(alloc: Global, row: u8) -> Result<Step, NoMemory>
+    requires { row < ROWS }
+    ensures { IfOk result (λ step. step ≡ named row (name_of row)) }
+{
+    Ok(Step {
+        head: head_word(alloc, row)?,
+        name: Word::short(alloc, fixed_name(RowId::at(usize::from(row))))?,
+    })
+}
+
+/// Whether the expansion has an IPv4 filter of this name.
+pub fn has_filter(alloc: Global, full: &Full, name: &Word) -> Result<bool, NoMemory>
+    ensures { IfOk result (λ there. there ≡ is_in full.now (filter_of name.now)) }
+{
+    let top = Path::top(alloc);
+    let firewall = below(&top, plain(alloc, 99)?)?;
+    let family = below(&firewall, fixed(alloc, 100)?)?;
+    let filter = below(&family, named(alloc, 101, name.as_bytes())?)?;
+    Ok(is_in(full, &filter))
 }

@@ -1,7 +1,7 @@
 //! The rules of commit check, in the order of their numbers.
 
 ghost use Rattle.std.specs.Prelude.{◌≡◌};
-ghost use Rattle.commit_check.specs.Rules.{number_of, number_of_each};
+ghost use Rattle.commit_check.specs.Rules.{number_of, number_of_each, number_of_key};
 ghost use Rattle.commit_check.specs.declared.rule.TheConstants.{RULES};
 
 /// The most bytes of a canonical text.
@@ -28,6 +28,21 @@ pub enum StatementRule {
     Units,
     /// 11: in each route's prefix the bits past its length are 0.
     Network,
+    /// 14: each filter that a unit uses is there.
+    Filters,
+    /// 15: each term of a filter ends in at most one of three ways.
+    FilterEnds,
+}
+
+/// A rule that no two statements of a kind have the same key.
+#[derive(Clone, Copy, Debug, PartialEq, Eq)]
+pub enum KeyRule {
+    /// 5: no two IPv4 addresses of interfaces have the same four numbers.
+    Addresses,
+    /// 13: no two IPv6 addresses of interfaces have the same eight groups.
+    Addresses6,
+    /// 16: no two VLANs have the same number.
+    VlanIds,
 }
 
 /// A rule of commit check.
@@ -39,19 +54,19 @@ pub enum CommitRule {
     Groups,
     /// A rule that each statement of the expansion meets by itself.
     Each(StatementRule),
-    /// 5: no two addresses of interfaces have the same four numbers.
-    Addresses,
+    /// A rule that no two statements of a kind have the same key.
+    Apart(KeyRule),
     /// 12: the canonical text has at most 1,048,576 bytes.
     TextLength,
 }
 
 /// All rules after the first one. A rule that is added is a line here, at the place of its number.
-static RULES: [CommitRule; 12] = [
+static RULES: [CommitRule; 16] = [
     CommitRule::Groups,
     CommitRule::Each(StatementRule::UserClass),
     CommitRule::Each(StatementRule::KnownClass),
     CommitRule::Each(StatementRule::VlanTagging),
-    CommitRule::Addresses,
+    CommitRule::Apart(KeyRule::Addresses),
     CommitRule::Each(StatementRule::PeerAs),
     CommitRule::Each(StatementRule::Policies),
     CommitRule::Each(StatementRule::PrefixLists),
@@ -59,6 +74,10 @@ static RULES: [CommitRule; 12] = [
     CommitRule::Each(StatementRule::Units),
     CommitRule::Each(StatementRule::Network),
     CommitRule::TextLength,
+    CommitRule::Apart(KeyRule::Addresses6),
+    CommitRule::Each(StatementRule::Filters),
+    CommitRule::Each(StatementRule::FilterEnds),
+    CommitRule::Apart(KeyRule::VlanIds),
 ];
 
 /// All rules after the first one.
@@ -81,6 +100,18 @@ fn number_of_each(rule: StatementRule) -> u8
         StatementRule::OneWay => 9,
         StatementRule::Units => 10,
         StatementRule::Network => 11,
+        StatementRule::Filters => 14,
+        StatementRule::FilterEnds => 15,
+    }
+}
+
+fn number_of_key(rule: KeyRule) -> u8
+    ensures { result ≡ number_of_key rule }
+{
+    match rule {
+        KeyRule::Addresses => 5,
+        KeyRule::Addresses6 => 13,
+        KeyRule::VlanIds => 16,
     }
 }
 
@@ -92,7 +123,7 @@ pub fn number_of(rule: CommitRule) -> u8
         CommitRule::Width => 0,
         CommitRule::Groups => 1,
         CommitRule::Each(rule) => number_of_each(rule),
-        CommitRule::Addresses => 5,
+        CommitRule::Apart(rule) => number_of_key(rule),
         CommitRule::TextLength => 12,
     }
 }
