@@ -1,5 +1,5 @@
 -- The statements of a rule are below the rule's row at the top, and steps that are of rows are as many.
-use Rattle.std.proofs.Common.{◌≡◌, ◌<◌, ℕ, Bool, true, false, ◌&&◌, ◌||◌, List, [], ◌∷◌, length, map as each, filter, refl, arith, ap, sym, subst, ◌∙◌, Option, None}
+use Rattle.std.proofs.Common.{◌≡◌, ◌<◌, ℕ, Bool, true, false, not, ◌&&◌, ◌||◌, List, [], ◌∷◌, length, map as each, filter, refl, arith, ap, sym, subst, ◌∙◌, Option, None}
 use Rattle.std.specs.FinMap as map
 use Rattle.std.specs.List.{list_any}
 use Rattle.std.specs.Ordering.{is_le}
@@ -17,7 +17,7 @@ use Rattle.commit_check.specs.declared.rule.StatementRule.TheVariants.{UserClass
 use Rattle.commit_check.specs.Kinds.{begin_as, plain, is_user, is_user_class, is_vlan_id, is_route, is_neighbor, is_policy_list, is_from_list, is_filter_use, is_filter_end}
 use Rattle.commit_check.specs.Units.{is_ospf_interface}
 use Rattle.commit_check.specs.Rules.{breaks}
-use Rattle.commit_check.specs.First.{first_of, top_row, key_row, is_headed, is_under}
+use Rattle.commit_check.specs.First.{first_of, top_row, key_row, has_left, is_headed, is_under}
 use Rattle.commit_check.specs.Repeats.{has_key, first_repeat}
 use Rattle.commit_check.specs.declared.rule.KeyRule.{KeyRule}
 use Rattle.commit_check.specs.declared.rule.KeyRule.TheVariants.{Addresses, Addresses6, VlanIds}
@@ -124,12 +124,22 @@ pub from_grouped : (row : ℕ) (full : Expansion) (start : List Step) → start 
 from_grouped row full start e =
     subst (λ (s : List Step). IsGrouped row (from s full)) (sym e) (grouped row (map.entries full) (map.entries_sorted full))
 
+-- a path at which a walk has left a head doesn't have it
+left_is_out : (head : List ℕ) (path : List Step) → true ≡ has_left head path → is_headed head path ≡ false
+left_is_out head [] h = cc
+left_is_out head (s ∷ []) h = by (same_word head s.head) h
+  where
+    by : (b : Bool) → true ≡ not b → b ≡ false
+    by false e = refl
+    by true e = cc
+left_is_out head (s ∷ t ∷ ts) h = cc
+
 -- where a walk has left the row nothing more is found
 module _ (full : Expansion) (head : List ℕ) (e : Entry) (es left : List Entry) (all : Option (List Step)) (first : left ≡ e ∷ es)
-    (away : false ≡ is_headed head e.0) where
+    (away : true ≡ has_left head e.0) where
   out : (row : ℕ) → head ≡ head_of row → IsGrouped row left → AreOut row left
   out row headed groups =
-      let here : is_under row e.0 ≡ false = ap (λ (h : List ℕ). is_headed h e.0) (sym headed) ∙ sym away
+      let here : is_under row e.0 ≡ false = ap (λ (h : List ℕ). is_headed h e.0) (sym headed) ∙ left_is_out head e.0 away
       in subst (λ (xs : List Entry). AreOut row xs) (sym first) (here, (subst (λ (xs : List Entry). IsGrouped row xs) first groups).0 here)
 
   pub no_more_breaks : (rule : StatementRule) → head ≡ head_of (top_row rule) → IsGrouped (top_row rule) left

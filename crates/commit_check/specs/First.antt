@@ -1,5 +1,5 @@
 -- The first entry that a test takes, and where the statements of a rule stand. For the inner functions.
-use Rattle.std.specs.Prelude.{ℕ, Bool, false, List, [], ◌∷◌, Option, Some, None, if◌then◌else◌}
+use Rattle.std.specs.Prelude.{ℕ, Bool, false, not, List, [], ◌∷◌, Option, Some, None, if◌then◌else◌}
 use Rattle.cfg_base.specs.declared.path.Step.{Step}
 use Rattle.cfg_schema.specs.Profile.{same_word, head_of}
 use Rattle.commit_check.specs.declared.rule.KeyRule.{KeyRule}
@@ -39,3 +39,9 @@ is_headed head (step ∷ steps) = same_word head step.head
 
 abbrev pub is_under : ℕ → List Step → Bool
 is_under row path = is_headed (head_of row) path
+
+-- a path at the top has another head than this: no statement after it is below that head
+abbrev pub has_left : List ℕ → List Step → Bool
+has_left head [] = false
+has_left head (step ∷ []) = not (same_word head step.head)
+has_left head (step ∷ next ∷ steps) = false

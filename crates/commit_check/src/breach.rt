@@ -18,7 +18,7 @@ use crate::peers::lacks_peer_as;
 use crate::policies::{names_no_list, names_no_policy};
 use crate::routes::lacks_one_way;
 use crate::rule::StatementRule;
-use crate::under::{is_headed, top_of};
+use crate::under::{has_left, top_of};
 use crate::unit::names_no_unit;
 use crate::users::{lacks_class, names_no_class};
 use cfg_base::{NoMemory, Path, WordList};
@@ -81,7 +81,7 @@ fn first_from(
 {
     let mut left = full.walk_from(start);
     while let Some((path, given)) = left.next() {
-        if !is_headed(head, path) {
+        if has_left(head, path) {
             return Ok(None);
         }
         if breaks(alloc, rule, full, path, &given.words)? {

@@ -18,7 +18,7 @@ ghost use Rattle.commit_check.specs.Repeats.{has_key, key_with, numbers_in, Repe
 use crate::kinds::begin_as;
 use crate::name::{cut, last_name};
 use crate::rule::KeyRule;
-use crate::under::{is_headed, top_of};
+use crate::under::{has_left, top_of};
 use cfg_base::{NoMemory, Path, Word, WordList, learn};
 use cfg_schema::{RowId, head};
 use cfg_tree::Full;
@@ -90,7 +90,7 @@ fn first_from(
     let mut met = BTreeSet::new(alloc);
     let mut rest = full.walk_from(start);
     while let Some((path, given)) = rest.next() {
-        if !is_headed(head, path) {
+        if has_left(head, path) {
             return Ok(None);
         }
         if has_key(rule, path) {

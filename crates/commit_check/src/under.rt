@@ -3,7 +3,7 @@
 ghost use Rattle.std.specs.Prelude.{◌≡◌, ◌<◌, ◌∷◌, [], IfOk};
 ghost use Rattle.cfg_schema.specs.declared.rows.TheConstants.{ROWS};
 ghost use Rattle.commit_check.specs.Kinds.{plain};
-ghost use Rattle.commit_check.specs.First.{is_headed};
+ghost use Rattle.commit_check.specs.First.{has_left};
 
 use crate::lookup::{below, plain};
 use cfg_base::{NoMemory, Path};
@@ -17,12 +17,12 @@ pub fn top_of(alloc: Global, row: u8) -> Result<Path, NoMemory>
     below(&Path::top(alloc), plain(alloc, row)?)
 }
 
-/// Whether a path's first step has this head.
-pub fn is_headed(head: &[u8], path: &Path) -> bool
-    ensures { result ≡ is_headed head.now path.now }
+/// Whether a walk has left the statements below the head at the top: one at the top has another head.
+pub fn has_left(head: &[u8], path: &Path) -> bool
+    ensures { result ≡ has_left head.now path.now }
 {
     match path.steps() {
-        [] => false,
-        [step, ..] => step.head.as_bytes() == head,
+        [step] => step.head.as_bytes() != head,
+        _ => false,
     }
 }

@@ -16,7 +16,7 @@ loop-path-init c =
           (from_grouped (top_row c.args.rule) c.args.full.now c.args.start.now c.requires.start),
     )
 
-pub returns-then-not-is_headed : goal.returns-then-not-is_headed
-returns-then-not-is_headed c =
-    no_more_breaks c.args.full.now c.args.head.now _ _ _ _ c.in-Some.ensures c.if-not-is_headed.ensures c.args.rule c.requires.head
+pub returns-then-has_left : goal.returns-then-has_left
+returns-then-has_left c =
+    no_more_breaks c.args.full.now c.args.head.now _ _ _ _ c.in-Some.ensures c.if-has_left.ensures c.args.rule c.requires.head
     c.loop-path.invariant.1 c.loop-path.invariant.0
