@@ -10,7 +10,7 @@ work=$(mktemp -d -p /dev/shm 2> /dev/null || mktemp -d)
 trap 'rm -rf "$work"' EXIT
 
 # serves an input once over a new journal, on one processor, since moves between processors double the time of some runs, and notes
-# how many nanoseconds of the processor's time that took: by the clock a run ends up to one beat of the ticker after its session
+# how many nanoseconds of the processor's time that took
 serve() {
     rm -rf "$work/journal"
     mkdir "$work/journal"

@@ -3,28 +3,32 @@
 ghost use Rattle.std.specs.Prelude.{None};
 
 use io_edge::Beat;
-use std::rt::Clock;
-use std::thread;
+use service::Waker;
+use std::sync::Wait;
 use std::time::Duration;
 
-/// A beat fifty times a second: so soon a deadline is met, and so soon the program ends after its last session.
+/// How many seconds the ticker sleeps between two looks. Deadlines are in whole seconds.
+const PAUSE: u64 = 1;
+
+/// A beat once a second, and at once when all sessions have ended.
 #[derive(Drop)]
-pub(crate) struct Pace<R: Clock + Drop> {
-    clock: R,
+pub(crate) struct Pace<R: Wait + Drop> {
+    rt: R,
+    waker: Waker,
 }
 
-impl<R: Clock + Drop> Pace<R> {
-    /// A beat that sleeps by this clock.
-    pub(crate) fn new(clock: R) -> Pace<R> {
-        Pace { clock }
+impl<R: Wait + Drop> Pace<R> {
+    /// A beat that sleeps until it is woken by this.
+    pub(crate) fn new(rt: R, waker: Waker) -> Pace<R> {
+        Pace { rt, waker }
     }
 }
 
-impl<R: Clock + Drop> Beat for Pace<R> {
+impl<R: Wait + Drop> Beat for Pace<R> {
     ghost coming = { λ _. None };
 
     fn beat(&mut self) -> bool {
-        thread::sleep(&self.clock, Duration::from_millis(20));
+        self.waker.sleep(&self.rt, Duration::from_secs(PAUSE));
         true
     }
 }

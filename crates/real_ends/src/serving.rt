@@ -14,7 +14,7 @@ use cfg_base::{NoMemory, Words};
 use command_line::{Asked, RunMode, Usage, read_words, words_ask_one_thing};
 use disk_model::Disk;
 use io_edge::StdClock;
-use service::{StartWhy0, Ticker, run};
+use service::{StartWhy0, Ticker, Waker, run};
 use std::fs::File;
 use std::io::{Read, Write};
 use std::rt::{Clock, Files};
@@ -22,10 +22,18 @@ use std::sync::Wait;
 use std::thread::Threads;
 
 /// The system's clock, and when it is looked at.
-fn ticker_of<R: Clock + Clone + Drop>(rt: &R) -> Result<Ticker<Pace<R>, StdClock<R>>, NoMemory> {
-    let beat = Pace::new(rt.clone()?);
+fn ticker_of<R>(rt: &R) -> Result<Ticker<Pace<R>, StdClock<R>>, NoMemory>
+where
+    R: Wait + Clock + AllocGlobal + Clone + Drop,
+{
+    let waker = Waker::new(rt.alloc())?;
+    let beat = Pace::new(rt.clone()?, waker.again()?);
     let clock = StdClock::new(rt.clone()?);
-    Ok(Ticker { beat, clock })
+    Ok(Ticker {
+        beat,
+        clock,
+        waker: Some(waker),
+    })
 }
 
 /// Runs the service over these ends, the system's clock and two disks.

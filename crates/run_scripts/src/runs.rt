@@ -80,6 +80,7 @@ fn ticker_of(alloc: Global, part: Option<Part>) -> Result<Ticker<ListBeat, ListC
         return Ok(Ticker {
             beat: ListBeat::new(beats),
             clock: ListClock::new(Vec::new(alloc)),
+            waker: None,
         });
     };
     for _ in 0..part.clock.len() {
@@ -88,6 +89,7 @@ fn ticker_of(alloc: Global, part: Option<Part>) -> Result<Ticker<ListBeat, ListC
     Ok(Ticker {
         beat: ListBeat::new(beats),
         clock: ListClock::new(part.clock),
+        waker: None,
     })
 }
 

@@ -18,4 +18,4 @@ pub use closed::Closed;
 pub use laws::{fronts_tell_what_was_kept, generated_texts_are_one, sessions_have_one_text};
 pub use modes::StartWhy0;
 pub use serving::{run, run_keeping};
-pub use session_threads::Ticker;
+pub use session_threads::{Ticker, Waker};

@@ -36,6 +36,7 @@ use Rattle.session_threads.specs.contracts.seat.Seat as Seat
 use Rattle.session_threads.specs.contracts.served.Served as Served
 use Rattle.session_threads.specs.contracts.served.Served.TheInside as ServedInside
 use Rattle.session_threads.specs.contracts.served.ServedBook.TheImpl as book
+use Rattle.session_threads.specs.contracts.waking.Waker as Waker
 
 users_send : IsSend Users.the_row
 users_send = search (sendable, crosses, users.the_send) depth 150 fits 40000
@@ -51,6 +52,9 @@ turns_send = search (sendable, crosses, turn.the_send) depth 150 fits 40000
 
 core_send : IsSend Core.the_row
 core_send = search (sendable, crosses, core.the_send) depth 150 fits 40000
+
+pub waker_send : IsSend Waker.the_row
+waker_send = search (sendable, crosses) depth 150 fits 40000
 
 module _ (D : RattleType) (d : disk.Ghosts D.Denot) where
   journal_send : IsSend D → IsSend (Journal.the_row D d)
@@ -95,7 +99,7 @@ module _ (D J : RattleType) (d : disk.Ghosts D.Denot) (j : naming.Ghosts J.Denot
       let databases : IsSend (Database.the_row D J d j) = database_send sent name shared in
       view_send (ServedInside.the_row D J d j) _ _ _ _ (declared_send (ServedInside.the_type D J d j) (
         search sendable depth 20,
-        (search (sendable, begun_send) depth 20, (search sendable depth 20, tt)),
+        (search (sendable, begun_send) depth 20, (search sendable depth 20, (search (sendable, waker_send) depth 20, tt))),
       ))
 
   -- the lock over a database

@@ -10,6 +10,7 @@ ghost use Rattle.session_threads.specs.Looks.{LooksAlone};
 ghost use Rattle.session_threads.specs.Passes.{FollowsAlone};
 
 use crate::served::Served;
+use crate::waking::Waker;
 use active_snapshot::{Naming, Shown, SnapNote};
 use cfg_base::Moment;
 use commands::Command;
@@ -99,6 +100,16 @@ fn waiting_after(waiting: u32, is_first: bool) -> u32 {
     }
 }
 
+/// Wakes the ticker where no session is served any more.
+fn wake_after(waiting: u32, waker: &Option<Waker>) {
+    if waiting > 0 {
+        return;
+    }
+    if let Some(waker) = waker {
+        waker.wake();
+    }
+}
+
 impl<D: Disk, J: Naming> Deed<Served<D, J>> for Leave {
     type Answer = SnapNote<J>;
 
@@ -109,6 +120,7 @@ impl<D: Disk, J: Naming> Deed<Served<D, J>> for Leave {
 
     fn act<R: Wait>(self, _rt: &R, _caller: u32, served: &mut Served<D, J>) -> SnapNote<J> {
         served.waiting = waiting_after(served.waiting, self.is_first);
+        wake_after(served.waiting, &served.waker);
         served.database.note()
     }
 }

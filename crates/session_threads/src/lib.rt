@@ -14,7 +14,9 @@ mod seat;
 mod served;
 mod threads;
 mod ticking;
+mod waking;
 mod whole;
 
 pub use ticking::Ticker;
+pub use waking::Waker;
 pub use whole::{Room, Sessions, make_room, serve_all};

@@ -6,6 +6,8 @@ ghost use Rattle.session_threads.specs.Begun.{start_of};
 ghost use Rattle.session_threads.specs.Served.{IsUnderway};
 
 use crate::begun::Begun;
+use crate::ticking::Ticker;
+use crate::waking::Waker;
 use active_snapshot::Naming;
 use config_db::Database;
 use disk_model::Disk;
@@ -20,6 +22,8 @@ pub(crate) struct Served<D: Disk, J: Naming> {
     first: Begun<D>,
     /// How many sessions have not ended.
     pub(crate) waiting: u32,
+    /// What wakes the ticker, where it sleeps.
+    pub(crate) waker: Option<Waker>,
 }
 
 impl<D: Disk, J: Naming> Model for Served<D, J> {
@@ -53,8 +57,12 @@ impl<D: Disk, J: Naming> Book for Served<D, J> {
 }
 
 impl<D: Disk, J: Naming> Served<D, J> {
-    /// A database in which nothing happened yet, for so many sessions.
-    pub(crate) fn of(database: Database<D, J>, sessions: u32) -> Served<D, J>
+    /// A database in which nothing happened yet, for so many sessions beside a ticker.
+    pub(crate) fn of<B, C>(
+        database: Database<D, J>,
+        sessions: u32,
+        ticker: &Ticker<B, C>,
+    ) -> Served<D, J>
         requires fresh { database.events ≡ [] }
         requires starts { database.state ≡ opened database }
         ensures { result ≡ record { first = start_of database; database = database } }
@@ -64,6 +72,7 @@ impl<D: Disk, J: Naming> Served<D, J> {
             database,
             first,
             waiting: sessions,
+            waker: ticker.waker_again(),
         }
     }
 
@@ -76,6 +85,7 @@ impl<D: Disk, J: Naming> Served<D, J> {
             database,
             first: _,
             waiting: _,
+            waker: _,
         } = self;
         database
     }

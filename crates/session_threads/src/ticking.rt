@@ -8,6 +8,7 @@ ghost use Rattle.session_threads.specs.Ticks.{IsTickersPass, Ticks, TicksOn};
 use crate::begun::Begun;
 use crate::deeds::Look;
 use crate::served::Served;
+use crate::waking::Waker;
 use active_snapshot::Naming;
 use disk_model::Disk;
 use io_edge::{Beat, Clock};
@@ -15,11 +16,23 @@ use session_history::Happened;
 use std::sync::Wait;
 use turn_lock::{Pass, Turns};
 
-/// What tells when another look at the time is due, and the time of it.
+/// What tells when another look at the time is due, and the time of it; and what wakes the beat once all sessions have
+/// ended, where it sleeps.
 #[derive(Drop)]
 pub struct Ticker<B, C> {
     pub beat: B,
     pub clock: C,
+    pub waker: Option<Waker>,
+}
+
+impl<B, C> Ticker<B, C> {
+    /// What wakes it, where it has that and it can be counted once more. Without it the run goes on up to the next beat.
+    pub(crate) fn waker_again(&self) -> Option<Waker> {
+        match &self.waker {
+            Some(waker) => waker.again().ok(),
+            None => None,
+        }
+    }
 }
 
 /// Waits for the beat, and looks at the time. It reports whether another look may be due.

@@ -236,7 +236,11 @@ where
     let mut database = database;
     let mut readers = database.readers();
     let count = ends.len() as u32;
-    let (lock, mut pass) = match Turns::new(alloc, Served::of(database, count), count + 1) {
+    let (lock, mut pass) = match Turns::new(
+        alloc,
+        Served::of(database, count, &ticker),
+        count + 1,
+    ) {
         Ok(made) => made,
         Err(NoTurns { value }) => {
             seats.destroy_empty();

@@ -1,12 +1,12 @@
 //! The cases, and what is reported of each.
 
-use crate::edges::{Asked, Counting, Gate, Held, Still, Waiting};
+use crate::edges::{Asked, Asleep, Counting, Gate, Held, Still, Waiting};
 use crate::runs::{Part, Ran, made_disks, ran};
 use cfg_base::Moment;
 use config_core::Event;
 use disk_model::MemDisk;
 use script_lines::Fault;
-use service::Ticker;
+use service::{Ticker, Waker};
 use session_history::Happened;
 use session_shell::{Turn, TurnList};
 use std::alloc::Global;
@@ -44,6 +44,7 @@ fn ticker<R: std::rt::Clock + Clone + Drop>(
             clock: rt.clone()?,
         },
         clock: Still { moment },
+        waker: None,
     })
 }
 
@@ -182,6 +183,33 @@ where
     ran(rt, alloc, "serve d alice:a bob:b", parts, ticker, disks)
 }
 
+/// Two sessions that end once the ticker was asked for its first look, before which it sleeps for an hour.
+fn ends_asleep<R>(rt: &R, alloc: Global) -> Result<Ran<Waiting<R>, Asleep<R>, MemDisk>, Fault>
+where
+    R: Threads + Wait + Sync + Send + std::rt::Clock + Clone + Drop,
+{
+    let beats = count(alloc)?;
+    let mut parts = Vec::new(alloc);
+    for _ in 0..2 {
+        let asked = Gate::of_lines(&beats, 1, &beats)?;
+        parts.push(session(rt, alloc, b"exit\n", 0, asked, count(alloc)?)?)?;
+    }
+    let waker = Waker::new(alloc)?;
+    let ticker = Ticker {
+        beat: Asleep {
+            count: beats,
+            waker: waker.again()?,
+            rt: rt.clone()?,
+        },
+        clock: Still {
+            moment: Moment::of(1000),
+        },
+        waker: Some(waker),
+    };
+    let disks = made_disks(rt, alloc)?;
+    ran(rt, alloc, "serve d alice:a bob:b", parts, ticker, disks)
+}
+
 /// How many entries the lists had that a session was shown without an event.
 fn say_fronts(out: &mut String, turns: &[Turn]) -> Result<(), Fault> {
     for turn in turns {
@@ -269,5 +297,11 @@ where
         out,
         "shows within another session's commit: status {status}, in time {in_time}"
     )?;
-    say_shown(out, &ran.turns)
+    say_shown(out, &ran.turns)?;
+    let status = ends_asleep(rt, alloc)?.status;
+    writeln!(
+        out,
+        "sessions that end while the ticker sleeps: status {status}"
+    )?;
+    Ok(())
 }

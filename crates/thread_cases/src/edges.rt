@@ -6,10 +6,11 @@ use cfg_base::Moment;
 use disk_model::{Disk, DiskDone, DiskLen, DiskRead};
 use io_edge::{Beat, Clock, Got, Put, Sink, Source};
 use script_lines::Fault;
+use service::Waker;
 use std::alloc::Global;
-use std::sync::Arc;
 use std::sync::atomic::AtomicU64;
 use std::sync::atomic::Ordering::SeqCst;
+use std::sync::{Arc, Wait};
 use std::thread;
 use std::time::Duration;
 
@@ -167,6 +168,24 @@ impl<R: std::rt::Clock + Drop> Beat for Asked<R> {
     fn beat(&mut self) -> bool {
         self.count.fetch_add(1, SeqCst);
         thread::sleep(&self.clock, Duration::from_millis(1));
+        true
+    }
+}
+
+/// A beat that counts how often it was asked, and sleeps for an hour unless it is woken.
+#[derive(Drop)]
+pub(crate) struct Asleep<R: Wait + Drop> {
+    pub count: Arc<AtomicU64>,
+    pub waker: Waker,
+    pub rt: R,
+}
+
+impl<R: Wait + Drop> Beat for Asleep<R> {
+    ghost coming = { λ _. None };
+
+    fn beat(&mut self) -> bool {
+        self.count.fetch_add(1, SeqCst);
+        self.waker.sleep(&self.rt, Duration::from_secs(3_600));
         true
     }
 }

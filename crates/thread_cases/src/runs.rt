@@ -114,6 +114,7 @@ pub(crate) fn made_disks<R: Threads + Wait + Sync>(
         clock: Still {
             moment: Moment::of(SESSIONS),
         },
+        waker: None,
     };
     let disks = (empty_disk(alloc)?, empty_disk(alloc)?);
     let Closed { disk_a, disk_b, .. } = ran(rt, alloc, "init d", parts, ticker, disks)?;

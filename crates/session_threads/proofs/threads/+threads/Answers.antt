@@ -13,7 +13,7 @@ use Rattle.std.specs.contracts.alloc.Global as Global
 use Rattle.cfg_base.specs.contracts.limits.Limits as Limits
 use Rattle.session_threads.specs.contracts.ticking.Ticker as Ticker
 use Rattle.session_threads.specs.Rows.{Pairs}
-use Rattle.session_threads.proofs.SendLemmas.{lock_row, lock_sync, pass_row, pass_send}
+use Rattle.session_threads.proofs.SendLemmas.{lock_row, lock_sync, pass_row, pass_send, waker_send}
 use Rattle.session_threads.proofs.threads.+threads.Given as given
 use Rattle.session_threads.proofs.threads.+threads.Lts-serve_both.{arg-0-1}
 use Rattle.session_threads.proofs.threads.+threads.Goals as goal
@@ -25,7 +25,7 @@ send_others : (g : given.Over) (κs : Lfts 16) → IsSync (param 0 g.row.R) → 
     g.R.Threads g.R.Threads-dict g.R.Wait g.R.Wait-dict g.T.Serve g.T.Serve-dict g.B.Beat g.B.Beat-dict g.C.Clock g.C.Clock-dict
     g.D.Disk g.D.Disk-dict g.J.Naming g.J.Naming-dict κs))
 send_others g κs rt seats beat clock disk name shared =
-    let tickers : IsSend (Ticker.the_row (param 2 g.row.B) (param 3 g.row.C)) = search sendable depth 20 in
+    let tickers : IsSend (Ticker.the_row (param 2 g.row.B) (param 3 g.row.C)) = search (sendable, waker_send) depth 20 in
     let ends : Lfts 8 = κs.1.1.1.1.1.1.1.1 in
     let all : AllSend (
     ShrRef (named 8) ends.0 (param 0 g.row.R)
