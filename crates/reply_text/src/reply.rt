@@ -85,14 +85,14 @@ pub fn put_reply<K: Sink>(sink: &mut K, reply: &Reply) -> Result<(), PutFailed>
 }
 
 /// Writes the text for a line that was refused.
-pub fn put_fault<K: Sink>(sink: &mut K, fault: ShellFault) -> Result<(), PutFailed>
-    ensures wrote { Wrote result (text_of_fault fault) (K.view sink.old).held (K.view sink.new).held }
+pub fn put_fault<K: Sink>(sink: &mut K, fault: &ShellFault) -> Result<(), PutFailed>
+    ensures wrote { Wrote result (text_of_fault fault.now) (K.view sink.old).held (K.view sink.new).held }
     ensures cause { OnErr result (Rose (K.view sink.old).faults (K.view sink.new).faults) }
     ensures later { (K.view sink.old).faults ≤ (K.view sink.new).faults }
 {
     match fault {
         ShellFault::Syntax(place) => {
-            put_number_between(sink, b"error: syntax error at byte ", place, b"\n")
+            put_number_between(sink, b"error: syntax error at byte ", *place, b"\n")
         }
         ShellFault::LineTooLong => put_all(sink, b"error: line too long\n"),
         ShellFault::TextTooLong => put_all(sink, b"error: text too long\n"),

@@ -128,8 +128,9 @@ impl<S: Source, K: Sink, C: Clock> Serving<S, K, C> {
                 answer(&mut self.sink, &mut self.reading, given)
             }
             Item::Wrong(fault) => {
+                let put = put_fault(&mut self.sink, &fault);
                 self.turns.note(Turn::Local(fault));
-                put_fault(&mut self.sink, fault)
+                put
             }
         }
     }

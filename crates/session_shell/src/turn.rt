@@ -7,7 +7,7 @@ use std::marker::Model;
 use trace_list::Trace;
 
 /// What one item of a session's input came to.
-#[derive(Clone, Copy, Debug, PartialEq, Eq)]
+#[derive(Clone, Debug, Drop, PartialEq, Eq)]
 pub enum Turn {
     /// The event at that place of the history, counted from 0.
     Kept(u64),

@@ -17,9 +17,9 @@ returns-in-Ask-clause-serves g c =
 pub returns-in-Wrong-clause-serves : goal.returns-in-Wrong-clause-serves
 returns-in-Wrong-clause-serves g c =
     let old : SessionView = view_of g.C.Clock.coming c.args.self.now in
-    let new : SessionView = record { coming = g.C.Clock.coming c.now-moment.new.self; held = (g.K.Sink.view c.put_fault.new.sink).held; faults = (g.K.Sink.view c.put_fault.new.sink).faults; turns = c.note-in-Wrong.new.self.items } in
+    let new : SessionView = record { coming = g.C.Clock.coming c.now-moment.new.self; held = (g.K.Sink.view c.put_fault-put.new.sink).held; faults = (g.K.Sink.view c.put_fault-put.new.sink).faults; turns = c.note-in-Wrong.new.self.items } in
     let is : c.args.item ≡ Wrong c.in-Wrong.fault = search rules in
     let read : c.args.self.now.reading ≡ c.self.inside.reading = search rules in
-    subst (λ r. ServesItem g.D.Door.follows c.args.item c.put_fault.result (standing c.args.door.now c.args.self.now.reading old) (standing c.args.door.now r new)) read
-    (subst (λ i. ServesItem g.D.Door.follows i c.put_fault.result (standing c.args.door.now c.args.self.now.reading old) (standing c.args.door.now c.args.self.now.reading new)) (sym is)
-    (Serves-refused g.D.Door.follows c.now-moment.result c.in-Wrong.fault c.put_fault.result c.args.door.now c.args.self.now.reading old new (search rules) (search rules) (search rules)))
+    subst (λ r. ServesItem g.D.Door.follows c.args.item c.put_fault-put.result (standing c.args.door.now c.args.self.now.reading old) (standing c.args.door.now r new)) read
+    (subst (λ i. ServesItem g.D.Door.follows i c.put_fault-put.result (standing c.args.door.now c.args.self.now.reading old) (standing c.args.door.now c.args.self.now.reading new)) (sym is)
+    (Serves-refused g.D.Door.follows c.now-moment.result c.in-Wrong.fault c.put_fault-put.result c.args.door.now c.args.self.now.reading old new (search rules) (search rules) (search rules)))
