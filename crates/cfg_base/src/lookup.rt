@@ -7,6 +7,7 @@ ghost use Rattle.cfg_base.specs.Words.{same_word, lists, Knows};
 ghost use Rattle.cfg_base.specs.declared.lookup.TheConstants.{FEW};
 
 use crate::fault::NoMemory;
+use crate::order::same_bytes;
 use crate::word::Word;
 use std::alloc::Global;
 use std::collections::BTreeSet;
@@ -21,7 +22,7 @@ pub(crate) fn has_word(words: &[Word], word: &Word) -> bool
 {
     words
         .iter()
-        .any(|other| word.as_bytes() == other.as_bytes())
+        .any(|other| same_bytes(word.as_bytes(), other.as_bytes()))
 }
 
 /// Adds a word to a set of words, and reports whether it is new there.

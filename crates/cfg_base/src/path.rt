@@ -85,14 +85,11 @@ fn row_with_last(alloc: Global, above: &[Step], last: Step) -> Result<Shared<Ste
     Shared::new(alloc, steps)
 }
 
-/// Steps with one more after them.
-fn with_last(alloc: Global, above: &[Step], last: Step) -> Result<Steps, NoMemory>
+/// Three or more steps with one more after them.
+fn many_with_last(alloc: Global, above: &[Step], last: Step) -> Result<Steps, NoMemory>
     ensures { IfOk result (λ steps. steps_of steps ≡ above.now ++ last ∷ []) }
 {
     match above {
-        [] => Ok(Steps::One(Arc::new(alloc, [last])?)),
-        [a] => Ok(Steps::Two(Arc::new(alloc, [a.clone()?, last])?)),
-        [a, b] => Ok(Steps::Three(Arc::new(alloc, [a.clone()?, b.clone()?, last])?)),
         [a, b, c] => {
             let steps = [a.clone()?, b.clone()?, c.clone()?, last];
             Ok(Steps::Four(Arc::new(alloc, steps)?))
@@ -113,6 +110,19 @@ fn with_last(alloc: Global, above: &[Step], last: Step) -> Result<Steps, NoMemor
             Ok(Steps::Six(Arc::new(alloc, steps)?))
         }
         _ => Ok(Steps::More(row_with_last(alloc, above, last)?)),
+    }
+}
+
+/// Steps with one more after them.
+fn with_last(alloc: Global, above: &[Step], last: Step) -> Result<Steps, NoMemory>
+    ensures { IfOk result (λ steps. steps_of steps ≡ above.now ++ last ∷ []) }
+{
+    // A function pays at its entry for the places of all its arms: most paths need those of three steps at most.
+    match above {
+        [] => Ok(Steps::One(Arc::new(alloc, [last])?)),
+        [a] => Ok(Steps::Two(Arc::new(alloc, [a.clone()?, last])?)),
+        [a, b] => Ok(Steps::Three(Arc::new(alloc, [a.clone()?, b.clone()?, last])?)),
+        _ => many_with_last(alloc, above, last),
     }
 }
 

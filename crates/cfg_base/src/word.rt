@@ -10,6 +10,7 @@ ghost use Rattle.cfg_base.specs.Kept.{bytes_of, IsKept};
 ghost use Rattle.cfg_base.specs.declared.word.TheConstants.{IN_PLACE};
 
 use crate::fault::NoMemory;
+use crate::order::order_of;
 use crate::shared::Shared;
 use std::alloc::{AllocError, Global};
 use std::cmp::Ordering;
@@ -222,6 +223,6 @@ impl Ord for Word {
     ghost matches_eq = { Prim.search (comparing, rules) };
 
     fn cmp(&self, other: &Word) -> Ordering {
-        self.as_bytes().cmp(other.as_bytes())
+        order_of(self.as_bytes(), other.as_bytes())
     }
 }

@@ -1,8 +1,7 @@
 use Rattle.std.proofs.Common.{rules}
 use Rattle.cfg_base.proofs.StepLemmas.{four, five}
-use Rattle.cfg_base.proofs.path.with_last.Goals as goal
+use Rattle.cfg_base.proofs.path.many_with_last.Goals as goal
 
--- src/path.rt:92:1
 pub returns-in_ok-new-in-len4 : goal.returns-in_ok-new-in-len4
 returns-in_ok-new-in-len4 c =
     let is =
@@ -10,7 +9,6 @@ returns-in_ok-new-in-len4 c =
     c.a-item-then-above-lt5.is c.b-item-then-above-lt5.is c.c-item-then-above-lt5.is c.d-item.is
     in search (is, rules)
 
--- src/path.rt:92:1
 pub returns-in_ok-new-in-len5 : goal.returns-in_ok-new-in-len5
 returns-in_ok-new-in-len5 c =
     let is =
