@@ -32,6 +32,7 @@ pub mod TameLemmas
 pub mod ExpandLemmas
 pub mod EndLemmas
 pub mod LivePartLemmas
+pub mod KeysLemmas
 pub mod AlikeLemmas
 pub mod KidsLemmas
 pub mod DepthLemmas

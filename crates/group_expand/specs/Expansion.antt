@@ -97,3 +97,11 @@ pub record DifferUnapplied (m n : Statements) : Type 0 where
   pub given : (level : List Step) (group : List ℕ) → is_outside level ≡ true
       → has_word (applied (finite.get m) (steps_below m) level) group ≡ true
       → (path : List Step) → finite.get m (in_group group path) ≡ finite.get n (in_group group path)
+
+-- two configurations are the same in a part of the top: at and below the statements there that pass a test, among them `groups` and what
+-- applies and excepts groups
+pub record AreAlikeIn (in_part : Step → Bool) (m n : Statements) : Type 0 where
+  pub statements : (step : Step) (path : List Step) → in_part step ≡ true → finite.get m (step ∷ path) ≡ finite.get n (step ∷ path)
+  pub groups : in_part groups_step ≡ true
+  pub applied : in_part apply_step ≡ true
+  pub excepted : in_part except_step ≡ true

@@ -29,6 +29,7 @@ pub use expanding::expand;
 pub use fault::ExpandFault;
 pub use laws::{
     expansion_is_of_what_is_applied, expansion_is_one, expansion_is_what_is_local_or_has_a_source,
-    expansion_without_groups_is_the_live_part, limit_is_stated,
+    expansion_of_a_part_is_of_that_part, expansion_without_groups_is_the_live_part,
+    limit_is_stated,
 };
 pub use step::is_apply;
