@@ -13,7 +13,6 @@ use Rattle.logbook.proofs.tokens.Seen.TheSendSync as seen
 use Rattle.logbook.proofs.word.Word.TheSendSync as word
 use Rattle.active_snapshot.specs.declared.book.Naming as naming
 use Rattle.active_snapshot.specs.contracts.book.Front as Front
-use Rattle.active_snapshot.specs.contracts.note.SnapNote as SnapNote
 use Rattle.active_snapshot.specs.contracts.reader.SnapReader as SnapReader
 use Rattle.active_snapshot.specs.contracts.reader.SnapReaders as SnapReaders
 use Rattle.active_snapshot.specs.contracts.slot.Slot as Slot
@@ -39,9 +38,6 @@ pub slot_sync : IsSync Slot.the_row
 slot_sync = search (sendable, crosses, front_sync, shown_send, shown_sync) depth 20
 
 module _ (J : RattleType) (j : naming.Ghosts J.Denot) where
-  pub note_send : IsSend J → IsSend (SnapNote.the_row J j)
-  note_send sent = search (sendable, front_send) depth 20
-
   pub reader_send : IsSend J → IsSync J → IsSend (SnapReader.the_row J j)
   reader_send sent shared =
       search (

@@ -60,10 +60,6 @@ pub length-views : (views : List Kept) (last : Kept) → AreViews views → IsLa
 length-views [] last are is = absurd are
 length-views (opening ∷ more) last are is = omega (arith, count-last opening last more are is)
 
-FollowsOn-prefix : (view : Kept) (one more : List Kept) → FollowsOn view (one ++ more) → FollowsOn view one
-FollowsOn-prefix view [] more follows = tt
-FollowsOn-prefix view (v ∷ one) more follows = (follows.0, FollowsOn-prefix v one more follows.1)
-
 last_count-prefix : (view last later : Kept) (one more : List Kept) → FollowsOn view (one ++ more)
     → last_or (Some view) one ≡ Some last → last_or (Some view) (one ++ more) ≡ Some later → last.count ≤ later.count
 last_count-prefix view last later [] more follows is is_later =

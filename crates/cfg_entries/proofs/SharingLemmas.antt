@@ -3,8 +3,7 @@ use mathlib.Core.Bool.{beq}
 use Rattle.std.specs.Bool.{Decides}
 use Rattle.std.specs.Cmp.Lexicographic.{pointwise_decides}
 use Rattle.std.proofs.lemmas.Bool.Decides.{Decides-and, Decides-like}
-use Rattle.std.proofs.Common.{◌≡◌, Bool, false, ℕ, ◌<◌, ◌+◌, true, List, [], ◌∷◌, ◌++◌, take, length, get_or, refl, sym, ap, ◌∙◌, append_assoc}
-use Rattle.std.proofs.lemmas.List.{take_more}
+use Rattle.std.proofs.Common.{◌≡◌, Bool, false, ℕ, true, List, refl, sym, ap, ◌∙◌}
 use Rattle.std.specs.Ordering.{eq_by_cmp}
 use Rattle.cfg_base.specs.Order.{path_cmp, words_total, words_eq}
 use Rattle.cfg_base.specs.declared.path.Step.{Step}
@@ -21,15 +20,6 @@ told_entry e p q v w tie k l same =
     let a = sym k ∙ same_paths p q tie
     in let b = sym l ∙ same
     in λ i. (a i, b i)
-
--- one more entry that is the same in both
-pub same_more : {V : Type 0} (os es left rest : List (Pair V)) (i : ℕ) (o f d : Pair V) → i < length os → es ≡ take i os ++ left → left ≡ f ∷ rest
-    → o ≡ get_or os i d → o ≡ f → es ≡ take (i + 1) os ++ rest
-same_more {V} os es left rest i o f d l e g read same =
-    e
-    ∙ ap (λ (xs : List (Pair V)). take i os ++ xs) (g ∙ ap (λ (x : Pair V). x ∷ rest) (sym same ∙ read))
-    ∙ sym (append_assoc (take i os) (get_or os i d ∷ []) rest)
-    ∙ ap (λ (xs : List (Pair V)). xs ++ rest) (sym (take_more os i d l))
 
 same_words : (xs ys : List (List ℕ)) → Decides (words_eq xs ys) (xs ≡ ys)
 same_words = pointwise_decides (ties_decide words_total word_same)

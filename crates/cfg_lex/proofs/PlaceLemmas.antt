@@ -13,10 +13,6 @@ pub shifted-later : (count : ℕ) (place : Option ℕ) → shifted (count + 1) p
 shifted-later count None = refl
 shifted-later count (Some place) = ap Some (omega arith)
 
-pub shifted-zero : (place : Option ℕ) → shifted 0 place ≡ place
-shifted-zero None = refl
-shifted-zero (Some place) = ap Some (omega arith)
-
 -- where no `*/` begins at a place, the first one is the first after it
 pub close_step : (text : List ℕ) (place : ℕ) → place < length text → (eqb (get_or text place 0) 42 && begins_with 47 (drop (place + 1) text)) ≡ false → shifted (place + 1) (close_of (drop (place + 1) text)) ≡ shifted place (close_of (drop place text))
 close_step text place within none =

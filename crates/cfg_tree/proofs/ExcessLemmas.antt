@@ -1,7 +1,5 @@
 -- Paths that are counted in the order in which they are met.
 use Rattle.std.proofs.Common.{◌≡◌, ℕ, zero, suc, ◌+◌, ◌<◌, ◌≤◌, Bool, true, false, not, cond, ◌||◌, List, [], ◌∷◌, ◌++◌, take, length, get_or, refl, sym, ap, subst, ◌∙◌, arith}
-use Rattle.std.specs.List.{list_any}
-use Rattle.std.specs.BTreeMap.{is_at}
 use Rattle.std.specs.BTreeSet.{BTreeSet, contains}
 use Rattle.std.specs.Ordering.{eq_by_cmp}
 use Rattle.std.proofs.lemmas.List.{take_more, get_or-map, length-map}
@@ -20,9 +18,6 @@ KnowsPaths paths known = (path : List Step) → contains path_cmp known path ≡
 -- so many of the first paths are different, and no more than a tree has statements
 abbrev pub Counts : List (List Step) → ℕ → BTreeSet (List Step) → ℕ → Type 0
 Counts paths at known count = KnowsPaths (take at paths) known × (count ≡ different (take at paths)) × (count ≤ MAX_STATEMENTS)
-
-pub nothing_known : (known : BTreeSet (List Step)) → known.keys ≡ [] → KnowsPaths [] known
-nothing_known known none path = ap (λ (ps : List (List Step)). list_any (is_at (path_cmp path)) ps) none
 
 pub less_room : (n m : ℕ) → n ≤ m → (n ≡ m → ⊥) → n < m
 less_room zero zero l ne = absurd (ne refl)

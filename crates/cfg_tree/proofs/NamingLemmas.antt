@@ -3,7 +3,6 @@ use Rattle.std.proofs.Common.{◌≡◌, ℕ, ◌<◌, Bool, true, false, ◌||�
 use Rattle.std.specs.Prelude.{IsSome}
 use Rattle.std.specs.FinMap as map
 use Rattle.std.specs.Option.{option_to_list, option_map}
-use Rattle.cfg_base.specs.Order.{path_cmp}
 use Rattle.cfg_base.specs.declared.path.Step.{Step}
 use Rattle.cfg_base.specs.declared.value.Value.{Value}
 use Rattle.cfg_base.specs.Words.{with_word}
@@ -15,10 +14,9 @@ use Rattle.cfg_entries.specs.EntryMap.{Pair}
 use Rattle.cfg_tree.specs.Statements.{Statements, parent_of, last_of}
 use Rattle.cfg_tree.specs.Tree.{ordered_head, step_of, lists, IsOrderBy, IsStatementMap, IsTyped}
 use Rattle.cfg_tree.specs.Change.{has_head, is_ordered, with_order, with_order_of, put_last, listed}
-use Rattle.cfg_tree.specs.Gather.{words_of_both, is_many_at, value_of_both, joined_at, gathered, gathered_one, gathered_from_none, told}
+use Rattle.cfg_tree.specs.Gather.{words_of_both, is_many_at, value_of_both, joined_at, gathered, gathered_one, gathered_from_none}
 use Rattle.cfg_tree.specs.Stated.{stated_one, stated, stated_from_none, IsSaid, AreSaid}
 use Rattle.cfg_tree.specs.Naming.{naming, named_in_parent, with_child_names}
-use Rattle.cfg_tree.proofs.GatheredLemmas.{get_gathered}
 use Rattle.cfg_tree.proofs.MapLemmas.{same_statements}
 use Rattle.cfg_tree.proofs.OrderLemmas.{top_is_unordered}
 use Rattle.cfg_tree.proofs.PathLemmas.{split, get_here, get_other, same_or_not}
@@ -136,10 +134,3 @@ pub names_from_none : (m : Statements) (items all : List (Pair Value)) → AreSa
     → m ≡ stated_from_none items
 names_from_none m items all said e f =
     f ∙ ap (λ (xs : List (Pair Value)). gathered_from_none xs) e ∙ names_said map.empty items nothing_is.statements nothing_is.typed said
-
--- what a look-up finds after statements that are said from nothing: what the items of its path give, with the names of its ordered children
-pub get-stated : (items : List (Pair Value)) (q : List Step) → AreSaid map.empty items → map.get (stated_from_none items) q ≡ told q None (with_child_names items)
-get-stated items q said =
-    ap (λ (m : Statements). map.get m q) (sym (names_said map.empty items nothing_is.statements nothing_is.typed said))
-    ∙ get_gathered (with_child_names items) map.empty q
-    ∙ ap (λ (o : Option Value). told q o (with_child_names items)) (map.get-empty path_cmp q)

@@ -50,10 +50,6 @@ child_longer a s = length-append a (s ∷ [])
 pub child_differs : (a : List Step) (s : Step) → a ++ s ∷ [] ≢ a
 child_differs a s e = let k = ap (λ (xs : List Step). length xs) e in omega (arith, k, child_longer a s)
 
-pub grandchild_differs : (a : List Step) (s t : Step) → (a ++ s ∷ []) ++ t ∷ [] ≢ a
-grandchild_differs a s t e =
-    let k = ap (λ (xs : List Step). length xs) e in omega (arith, k, child_longer (a ++ s ∷ []) t, child_longer a s)
-
 -- whether two paths are one
 pub same_or_not : (p q : List Step) (P : Type 0) → (p ≡ q → P) → (p ≢ q → P) → P
 same_or_not p q P yes_ no_ = by_test _ refl

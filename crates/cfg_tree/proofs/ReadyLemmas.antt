@@ -85,13 +85,6 @@ kept_ready m path old value tree found order words =
     ready m path value tree.statements (tree.typed.paths path (ap is_some found)) (tree.statements.parents path (ap is_some found))
     (order ∙ sym (ap order_in found)) words
 
--- the same where its words stay too, as where only marks change
-pub marked_ready : (m : Statements) (path : List Step) (old value : Value) → IsTree m → map.get m path ≡ Some old
-    → value.order ≡ old.order → value.words ≡ old.words → IsReady m path value
-marked_ready m path old value tree found order words =
-    kept_ready m path old value tree found order
-    (λ here e. subst (λ (ws : List (List ℕ)). AreCounted (row_of here.row).shape ws) (sym words) (tree.typed.words path old here found e).0)
-
 -- words that are counted at the place of a path
 pub counted_there : (path steps : List Step) (here : Place) (words : List (List ℕ)) → steps ≡ path → Some here ≡ place_of steps
     → AreCounted (row_of here.row).shape words → (there : Place) → place_of path ≡ Some there → AreCounted (row_of there.row).shape words

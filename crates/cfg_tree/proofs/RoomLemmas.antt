@@ -1,5 +1,5 @@
 -- Whether there is room, and that a tree stays one.
-use Rattle.std.proofs.Common.{◌≡◌, ℕ, zero, suc, ◌+◌, ◌-◌, ◌<◌, ◌≤◌, nat_le, Bool, true, false, not, ◌&&◌, List, length, refl, sym, ap, subst, ◌∙◌, Option, Some, None, is_some, is_none, arith, rules, Fits, w32, take}
+use Rattle.std.proofs.Common.{◌≡◌, ℕ, zero, suc, ◌+◌, ◌-◌, ◌<◌, nat_le, Bool, true, not, ◌&&◌, List, length, refl, sym, ap, subst, ◌∙◌, Option, Some, None, is_some, is_none, arith, take}
 use Rattle.std.specs.FinMap as map
 use Rattle.cfg_entries.specs.EntryMap.{EntryMap, IsOrdered, is_at}
 use Rattle.std.specs.Map.{lookup}
@@ -11,7 +11,7 @@ use Rattle.cfg_tree.specs.Statements.{Statements, size_of, parent_of}
 use Rattle.cfg_tree.specs.Shown.{shown}
 use Rattle.cfg_tree.specs.Typed.{IsTypedPath}
 use Rattle.cfg_tree.specs.Tree.{IsTree}
-use Rattle.cfg_tree.specs.Change.{put_at, is_ordered, cleared, removed, IsReady, IsAlmostFit, IsPut}
+use Rattle.cfg_tree.specs.Change.{put_at, is_ordered, removed, IsReady, IsAlmostFit}
 use Rattle.cfg_tree.specs.Change as change
 use Rattle.cfg_tree.proofs.MapLemmas.{get_is, len_is}
 use Rattle.cfg_tree.proofs.PutLemmas.{Puts, put_statements, put_typed}
@@ -34,10 +34,6 @@ full_is m n e sorted = ap (λ (k : ℕ). nat_le MAX_STATEMENTS k) (e ∙ sym (le
 pub is_absent : (o : Option Value) → true ≡ is_none o → o ≡ None
 is_absent None e = refl
 is_absent (Some v) e = cc
-
-pub is_present : (o : Option Value) → false ≡ is_none o → o ≡ None → ⊥
-is_present None e f = cc
-is_present (Some v) e f = cc
 
 typed_parent : (m : Statements) (path : List Step) (value : Value) → IsTree m → IsReady m path value → (n : ℕ) → length path ≡ n → IsTypedPath (parent_of path)
 typed_parent m path value tree ready zero e = let some = ready.parent.steps in absurd (omega (arith, some, e))
@@ -72,9 +68,3 @@ removed_tree m n path count tree e counted =
     in let few = tree.few
     in subst (λ (x : Statements). IsTree x) (sym e)
     (remove_keeps m (removed m path) path tree (removes m path (omega (arith, same_size, few, counted))))
-
-pub count_small : (m n : Statements) (count : ℕ) → IsTree m → count + size_of n ≡ size_of m → Fits w32 count
-count_small m n count tree counted = small count (let few = tree.few in omega (arith, few, counted))
-  where
-    small : (k : ℕ) → k ≤ 16384 → Fits w32 k
-    small k h = search rules

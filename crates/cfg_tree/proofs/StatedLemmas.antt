@@ -1,5 +1,5 @@
 -- Statements said one after another: what a look-up gives, and that they keep what holds of the statements of a tree.
-use Rattle.std.proofs.Common.{◌≡◌, ◌≢◌, ℕ, zero, suc, ◌+◌, ◌<◌, ◌≤◌, Bool, true, false, cond, ◌||◌, ◌&&◌, List, [], ◌∷◌, ◌++◌, take, length, get_or, refl, sym, ap, subst, ◌∙◌, Option, Some, None, is_some, is_none, option_map, arith, if◌then◌else◌}
+use Rattle.std.proofs.Common.{◌≡◌, ℕ, zero, suc, ◌+◌, ◌<◌, ◌≤◌, Bool, true, false, cond, ◌||◌, ◌&&◌, List, [], ◌∷◌, ◌++◌, take, length, get_or, refl, sym, ap, subst, ◌∙◌, Option, Some, None, is_some, is_none, option_map, arith, if◌then◌else◌}
 use Rattle.std.specs.Prelude.{IsSome}
 use Rattle.std.specs.FinMap as map
 use Rattle.std.specs.Ordering.{eq_by_cmp}
@@ -18,7 +18,7 @@ use Rattle.cfg_schema.specs.Profile.{row_of}
 use Rattle.cfg_schema.specs.Place.{place_of}
 use Rattle.cfg_entries.specs.EntryMap.{Pair}
 use Rattle.cfg_tree.specs.declared.limit.TheConstants.{MAX_STATEMENTS}
-use Rattle.cfg_tree.specs.Statements.{Statements, size_of, parent_of, last_of, HasParent}
+use Rattle.cfg_tree.specs.Statements.{Statements, size_of, parent_of, last_of}
 use Rattle.cfg_tree.specs.Typed.{AreCounted, AreCanonical, AreWordsOf}
 use Rattle.cfg_tree.specs.Tree.{IsStatementMap, IsTyped, IsTree}
 use Rattle.cfg_tree.specs.Change.{with_order, put_last, put_at, is_ordered, IsReady, FitsProfile}
@@ -38,10 +38,6 @@ pub stated-append : (m : Statements) (xs ys : List (Pair Value)) → stated m (x
 stated-append m [] ys = refl
 stated-append m (x ∷ xs) ys = stated-append (stated_one m x) xs ys
 
-pub said_front : (m : Statements) (xs ys : List (Pair Value)) → AreSaid m (xs ++ ys) → AreSaid m xs
-said_front m [] ys h = tt
-said_front m (x ∷ xs) ys h = (h.0, said_front (stated_one m x) xs ys h.1)
-
 pub said_back : (m : Statements) (xs ys : List (Pair Value)) → AreSaid m (xs ++ ys) → AreSaid (stated m xs) ys
 said_back m [] ys h = h
 said_back m (x ∷ xs) ys h = said_back (stated_one m x) xs ys h.1
@@ -53,17 +49,6 @@ said_join m (x ∷ xs) ys h k = (h.0, said_join (stated_one m x) xs ys h.1 k)
 -- what a look-up gives after one statement: at its path
 pub stated_here : (m : Statements) (item : Pair Value) → 0 < length item.0 → map.get (stated_one m item) item.0 ≡ Some (joined_at item.0 (map.get m item.0) item.1)
 stated_here m item long = (puts m item.0 (joined_at item.0 (map.get m item.0) item.1) long).here
-
--- at its parent, whose order has one more name where the path is that of a new ordered child
-pub stated_parent : (m : Statements) (item : Pair Value) → 0 < length item.0
-    → map.get (stated_one m item) (parent_of item.0)
-    ≡ option_map (renamed (if is_none (map.get m item.0) && is_ordered item.0 then put_last (last_of item.0).name else (λ names. names))) (map.get m (parent_of item.0))
-stated_parent m item long = (puts m item.0 (joined_at item.0 (map.get m item.0) item.1) long).parent
-
--- and elsewhere
-pub stated_other : (m : Statements) (item : Pair Value) (q : List Step) → 0 < length item.0 → q ≢ item.0 → q ≢ parent_of item.0
-    → map.get (stated_one m item) q ≡ map.get m q
-stated_other m item q long = (puts m item.0 (joined_at item.0 (map.get m item.0) item.1) long).others q
 
 or_none : (b : Bool) → b ≡ (b || false)
 or_none true = refl
@@ -118,9 +103,6 @@ stated_there m (x ∷ xs) q =
 -- what is there stays there
 pub stays_there : (m : Statements) (xs : List (Pair Value)) (q : List Step) → IsSome (map.get m q) → IsSome (map.get (stated m xs) q)
 stays_there m xs q h = stated_there m xs q ∙ ap (λ (b : Bool). b || is_met (paths_of xs) q) h
-
-pub parent_stays : (m : Statements) (xs : List (Pair Value)) (q : List Step) → HasParent m q → HasParent (stated m xs) q
-parent_stays m xs q h = record { steps = h.steps; parent = λ long. stays_there m xs (parent_of q) (h.parent long) }
 
 -- what is made of statements one by one, each of which adds its path, has a statement for each path
 module _ (made : List (Pair Value) → Statements) (one : Statements → Pair Value → Statements) (none : made [] ≡ map.empty)

@@ -59,12 +59,6 @@ union_shown mine theirs both up e =
     union_is (shown mine) (shown theirs) (shown both)
     (e ∙ ap (λ (es : List (Pair Value)). gathered (shown mine) es) (sym (entries_is theirs.entries up)))
 
-pub joined_on : (m n both : EntryMap (List Step) Value) (left rest : List (Pair Value)) (path : List Step) (value : Value) (es : List (Pair Value))
-    → gathered (shown m) left ≡ gathered (shown n) es → left ≡ (path, value) ∷ rest → shown both ≡ gathered_one (shown m) (path, value)
-    → gathered (shown both) rest ≡ gathered (shown n) es
-joined_on m n both left rest path value es e f g =
-    ap (λ (x : Statements). gathered x rest) g ∙ ap (λ (xs : List (Pair Value)). gathered (shown m) xs) (sym f) ∙ e
-
 -- two maps have one union
 pub union_once : (m n one other : Statements) → IsUnion m n one → IsUnion m n other → one ≡ other
 union_once m n one other a b = same_statements one other (λ q. a q ∙ sym (b q))

@@ -58,15 +58,6 @@ image_of number image gen next bytes sound some is gen_is next_is bound =
       bound = omega (arith, next_is);
     }
 
--- the sides of a journal whose files changed places
-pub swap_first : {X : Type 0} (b : Bool) (x y : X) → first_of (not b) y x ≡ first_of b x y
-swap_first false x y = refl
-swap_first true x y = refl
-
-pub swap_second : {X : Type 0} (b : Bool) (x y : X) → second_of (not b) y x ≡ second_of b x y
-swap_second false x y = refl
-swap_second true x y = refl
-
 -- a journal by its fields
 abbrev pub view_of : Bool → ℕ → Flight → ℕ → DiskView → DiskView → ℕ → ℕ → JournalView
 view_of b gate flight limit counting other n m =

@@ -5,7 +5,7 @@ use Rattle.std.proofs.lemmas.List.{append-nil}
 use Rattle.std.specs.Int.{w64, from_be_bytes}
 use Rattle.std.specs.List.{All}
 use Rattle.disk_model.specs.Disk.{DiskGoesOn, Write, Sync, History, DiskState, put, during, written, settled, state_of, contents_of, IsImage, Leaves, Wrote, Synced}
-use Rattle.disk_model.proofs.Images.{calm_from, quiet_synced, put_other, put_same, put_no_shorter, image_byte, image_inside, settled_image, after_write, after_sync, synced_within, contents_image, started, since_append, state_later, goes_on_write, goes_on_sync, wrote_done, synced_done}
+use Rattle.disk_model.proofs.Images.{calm_from, quiet_synced, put_other, put_same, put_no_shorter, image_byte, image_inside, settled_image, after_write, synced_within, contents_image, started, goes_on_write, goes_on_sync, wrote_done, synced_done}
 use Rattle.record_code.specs.Record.{Record, IsSound, bodies, gated}
 use Rattle.record_code.specs.Reading.{byte, slice, Agree, Spells, first_gate}
 use Rattle.record_code.proofs.Slices.{slice_is, slice_same, slice_byte, slice_back}
@@ -287,9 +287,6 @@ module _ (o : List ℕ) (number : ℕ) (image : List Record) (next : ℕ) where
 
             opened : file_gate (contents_of h1) ≡ 1
             opened = ap (λ (s : DiskState). get_or s.contents 16 0) state1 ∙ put_same 16 one_byte (contents_of h) 16 0 (omega (arith, is.shut.long)) (omega arith) (omega arith)
-
-        pub open_quiet : done2 → IsQuiet h2
-        open_quiet is2 k = ap (λ (s : DiskState). s.pending k) (synced_done h1 h2 done2 synced2 is2)
 
 -- no call that is done makes a file shorter
 pub wrote_long : (n : ℕ) (h h1 : History) (at : ℕ) (bytes : List ℕ) (done : Type 0) → n ≤ length (contents_of h) → Wrote h at bytes done h1 → done → n ≤ length (contents_of h1)

@@ -1,14 +1,12 @@
 -- Commits that are read from records one after another, after others.
 use Rattle.std.proofs.Common.{◌≡◌, ◌≢◌, ◌≤◌, ◌-◌, ◌∙◌, inl, inr, ℕ, Bool, false, List, [], ◌∷◌, ◌++◌, length, take, drop, get_or, sym, ap, subst, arith, append_assoc}
-use Rattle.std.proofs.lemmas.List.{append-nil, take_all}
+use Rattle.std.proofs.lemmas.List.{take_all}
 use Rattle.cfg_tree.specs.Statements.{Statements}
 use Rattle.record_code.specs.declared.payloads.Placed.{Placed}
 use Rattle.record_code.specs.Listed.{record_of}
 use Rattle.commit_ledger.specs.declared.entry.Commit.{Commit}
 use Rattle.commit_ledger.specs.declared.entry.Entry.TheVariants.{Commit as CommitOf}
-use Rattle.commit_ledger.specs.Kept.{Kept}
 use Rattle.commit_ledger.specs.Checkpoint.{KeepForm, IsAmong}
-use Rattle.commit_ledger.specs.Restored.{IsBadKeep, IsReadKeep, IsRestored}
 use Rattle.commit_ledger.specs.Restoring.{AreCommits, AreReadBehind, IsBadCommit, IsReadBehind}
 use Rattle.commit_ledger.specs.Rules.{IsRecordOf, new_after}
 use Rattle.commit_ledger.proofs.ImageLemmas.{first_and_rest}
@@ -55,10 +53,6 @@ module _ (P : Statements → Type 0) (new : Bool) (records : List Placed) (first
     place = bad.place;
   }
 
--- of no record no commit
-pub read_none : (P : Statements → Type 0) (new : Bool) (records : List Placed) (commits : List Commit) → records ≡ [] → AreReadBehind P new records commits commits
-read_none P new records commits is = record { commits = []; are = subst (λ (l : List Placed). AreCommits P new l []) (sym is) tt; is = sym (append-nil commits) }
-
 -- the commits of records, after none
 module _ (P : Statements → Type 0) (f : KeepForm) (place : ℕ) (records : List Placed) (before after : List Commit) (none : before ≡ []) (read : AreReadBehind P false records before after) where
   whole : after ≡ read.commits
@@ -66,9 +60,3 @@ module _ (P : Statements → Type 0) (f : KeepForm) (place : ℕ) (records : Lis
 
   pub read_size : length after ≡ length records
   read_size = ap length whole ∙ sym (how_many P false records read.commits read.are)
-
-  pub read_keep_ok : (kept : Kept) → IsRestored f after kept → IsReadKeep P f records kept
-  read_keep_ok kept restored = record { commits = read.commits; are = read.are; restored = subst (λ (l : List Commit). IsRestored f l kept) whole restored }
-
-  pub read_keep_bad : (offset : ℕ) → offset ≡ place → ((kept : Kept) → IsRestored f after kept → ⊥) → IsBadKeep P f place records offset
-  read_keep_bad offset is broken = inr (read.commits, read.are, is, λ kept restored. broken kept (subst (λ (l : List Commit). IsRestored f l kept) (sym whole) restored))

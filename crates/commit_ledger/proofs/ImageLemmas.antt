@@ -40,9 +40,6 @@ module _ (kept : Kept) (short : HaveShortTexts (listed kept)) where
   abbrev far : List Commit
   far = far_target (first_number kept) kept.pending
 
-  pub short_far : HaveShortTexts far
-  short_far = short_front far (commits_of kept) short
-
   short_kept : HaveShortTexts (commits_of kept)
   short_kept = short_back far (commits_of kept) short
 

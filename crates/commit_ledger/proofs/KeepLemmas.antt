@@ -8,14 +8,13 @@ use Rattle.record_code.specs.Listed.{record_of, records_of}
 use Rattle.record_code.specs.Record.{Record}
 use Rattle.commit_ledger.specs.declared.entry.Commit.{Commit}
 use Rattle.commit_ledger.specs.declared.limit.TheConstants.{MAX_ENTRIES}
-use Rattle.commit_ledger.specs.Form.{KeepFits}
 use Rattle.commit_ledger.specs.Kept.{Kept, Unconfirmed}
 use Rattle.commit_ledger.specs.Rules.{IsCommit, new_after}
 use Rattle.commit_ledger.specs.Reading.{IsBegun}
-use Rattle.commit_ledger.specs.Checkpoint.{KeepForm, AreWritten, far_target, first_number, keep_bytes, keep_form, keep_record, listed, target_number, IsRestorable, IsRunAmong, Restores}
+use Rattle.commit_ledger.specs.Checkpoint.{KeepForm, AreWritten, keep_bytes, keep_form, keep_record, listed, IsRunAmong, Restores}
 use Rattle.commit_ledger.specs.Restored.{IsBadKeep, IsReadKeep, IsRestored}
 use Rattle.commit_ledger.specs.Restoring.{AreCommits, IsBadCheckpoint, IsKeep}
-use Rattle.commit_ledger.proofs.BadLemmas.{same_commits, written_are}
+use Rattle.commit_ledger.proofs.BadLemmas.{written_are}
 use Rattle.commit_ledger.proofs.GrownLemmas.{all_among, most_entries}
 use Rattle.commit_ledger.proofs.RestoreLemmas.{OneKeep, full_far, one_keep, one_list, target_small}
 
@@ -38,13 +37,6 @@ same_form f g count target commits =
     ∙ ap (λ (n : ℕ). record { count = g.count; target = n; commits = f.commits }) target
     ∙ ap (λ (n : ℕ). record { count = g.count; target = g.target; commits = n }) commits in
     path
-
--- a Keep that isn't told apart by its bytes
-pub same_keep : (f g : KeepForm) (behind : List Placed) → KeepFits f → IsKeep g behind → keep_bytes f ≡ keep_bytes g → IsKeep f behind
-same_keep f g behind fits keep is =
-    let one = one_keep f g fits.count (omega (arith, keep.numbers.room, most_entries)) fits.target keep.numbers.fits is in
-    let commits : f.commits ≡ g.commits = same_commits f g fits.commits (omega (arith, keep.numbers.few)) is in
-    subst (λ (h : KeepForm). IsKeep h behind) (sym (same_form f g one.count one.target commits)) keep
 
 module _ (P : Statements → Type 0) (f : KeepForm) (rs : List Record) (cs : List Commit) (each : AllByRecursion (IsCommit P) cs) (written : AreWritten false rs cs) where
   pub restored_of : f.count < 2 ^ 64 → f.target < 2 ^ 64 → (kept : Kept) → Restores P (keep_record f ∷ rs) kept → IsRestored f cs kept

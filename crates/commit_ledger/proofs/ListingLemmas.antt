@@ -57,10 +57,6 @@ line_is_added n commit before placed dated after place date end = record {
       ∙ append_assoc before (in_four_places n) (date.added ++ line_end commit);
 }
 
--- the lines of the last commit alone
-pub lists_last : (last : Commit) (text : List ℕ) → Adds (AreLinesOf 0 last) [] text → Lists (last ∷ []) text
-lists_last last text adds = ([], adds.added, refl, adds.is, adds.at_end)
-
 -- the lines of the commit before those that are listed stand after theirs
 lists_one : (commit : Commit) (newer : List Commit) (n : ℕ) (before after : List ℕ) → n ≡ length newer → Lists newer before → Adds (AreLinesOf n commit) before after → Lists (commit ∷ newer) after
 lists_one commit newer n before after place lists adds =

@@ -1,5 +1,5 @@
 -- Records have one reading or a bad record, and what is read or grew from it has a checkpoint that is read.
-use Rattle.std.proofs.Common.{◌≡◌, ◌≢◌, ◌≤◌, inl, inr, ℕ, Bool, false, List, [], ◌∷◌, ◌++◌, length, Option, Some, None, refl, sym, ◌∙◌, ap, subst, arith, append_assoc, length-append}
+use Rattle.std.proofs.Common.{◌≡◌, ◌≤◌, inl, inr, ℕ, Bool, false, List, [], ◌∷◌, ◌++◌, length, Option, Some, None, refl, sym, ◌∙◌, ap, subst, arith, append_assoc, length-append}
 use Rattle.std.specs.Prelude.{IfSome, IsSome}
 use Rattle.std.proofs.lemmas.List.{append-nil, length-map, map-append}
 use Rattle.std.proofs.lemmas.List.Elements.{All-from_recursion}
@@ -303,9 +303,6 @@ one_unread P (p ∷ ps) m n (inr one) (inr two) = one_behind P (p ∷ ps) m n on
 pub begun_alone : (P : Statements → Type 0) (p : Placed) (ps : List Placed) (kept : Kept) → Opens P (record_of p) kept → (new : Bool) → new ≡ new_after false (record_of p ∷ []) → IsBegun P (p ∷ ps) kept new ps
 begun_alone P p ps kept opens new is = record { front = p ∷ []; cut = refl; begins = inl (record_of p, refl, opens); newness = is }
 
-pub begins_badly : (P : Statements → Type 0) (p : Placed) (ps : List Placed) (offset : ℕ) → p.kind ≢ 3 → offset ≡ p.offset → ((kept : Kept) → Opens P (record_of p) kept → ⊥) → BeginsBadly P p ps offset
-begins_badly P p ps offset other place none = inr (other, place, none)
-
 pub read_whole : (P : Statements → Type 0) (placed rest : List Placed) (first last : Kept) (new : Bool) → IsBegun P placed first new rest → GoesThrough P new first (records_of rest) last → ReadsAs P (records_of placed) last
 read_whole P placed rest first last new begun reads = record {
   front = records_of begun.front;
@@ -319,6 +316,3 @@ read_whole P placed rest first last new begun reads = record {
 pub unread_behind : (P : Statements → Type 0) (p : Placed) (ps rest : List Placed) (first : Kept) (new : Bool) (offset : ℕ) → IsBegun P (p ∷ ps) first new rest → IsFirstBad P new first rest offset
     → IsUnread P (p ∷ ps) offset
 unread_behind P p ps rest first new offset begun bad = inr (record { first = first; new = new; rest = rest; begun = begun; bad = bad })
-
-pub unread_at_once : (P : Statements → Type 0) (p : Placed) (ps : List Placed) (offset : ℕ) → BeginsBadly P p ps offset → IsUnread P (p ∷ ps) offset
-unread_at_once P p ps offset badly = inl badly

@@ -82,9 +82,6 @@ module _ (f : KeepForm) (far older : List Commit) (last : Commit) (apart : IsApa
     first_is : first_number kept ≡ first_of older last.number
     first_is = ap (λ (l : List Commit). first_of l kept.last.number) ends.0 ∙ ap (λ (c : Commit). first_of older c.number) ends.1
 
-    pub number_fits : last.number ≤ f.count
-    number_fits = omega (arith, restored.number, restored.count, ap (λ (c : Commit). c.number) ends.1)
-
     run_at : (run : Unconfirmed) → kept.pending ≡ Some run → IsRunAmong (far ++ (older ++ last ∷ [])) kept run
     run_at run is = subst (λ p. IfSome p (IsRunAmong (far ++ (older ++ last ∷ [])) kept)) is restored.run
 
@@ -118,25 +115,6 @@ module _ (f : KeepForm) (far older : List Commit) (last : Commit) (apart : IsApa
       target_at run is,
     )
 
-    -- with one before the others that is the target
-    pub far_is : (t : Commit) → far ≡ t ∷ [] → (run : Unconfirmed) × (kept.pending ≡ Some run) × (run.target ≡ t) × (t.number < first_of older last.number)
-    far_is t is = by kept.pending refl
-      where
-        row_is : far_target (first_number kept) kept.pending ≡ t ∷ []
-        row_is = parts.far ∙ is
-
-        test : (run : Unconfirmed) (b : Bool) → nat_lt run.target.number (first_number kept) ≡ b → cond b (run.target ∷ []) [] ≡ t ∷ [] → (run.target ≡ t) × (t.number < first_of older last.number)
-        test run true told same =
-            let e : run.target ≡ t = cc in
-            (e, omega (arith, below run.target.number (first_number kept) told, first_is, ap (λ (c : Commit). c.number) e))
-        test run false told same = absurd (let e = ap length same in omega (arith, e))
-
-        by : (p : Option Unconfirmed) → kept.pending ≡ p → (run : Unconfirmed) × (kept.pending ≡ Some run) × (run.target ≡ t) × (t.number < first_of older last.number)
-        by None none = absurd (let e = ap length (ap (far_target (first_number kept)) (sym none) ∙ row_is) in omega (arith, e))
-        by (Some run) some =
-            let found = test run (nat_lt run.target.number (first_number kept)) refl (ap (far_target (first_number kept)) (sym some) ∙ row_is) in
-            (run, some, found.0, found.1)
-
   -- the value that is put together
   abbrev value : Option Unconfirmed → Kept
   value pending = record { count = f.count; last = last; older = older; pending = pending; moment = last.moment }
@@ -157,9 +135,6 @@ module _ (f : KeepForm) (far older : List Commit) (last : Commit) (apart : IsApa
     run = run;
     numbered = numbered;
   }
-
-  pub made_plain : far ≡ [] → f.target ≡ 0 → last.number ≤ f.count → IsRestored f (far ++ (older ++ last ∷ [])) (value None)
-  made_plain none target number = made None (sym none) (sym target) number tt tt
 
   abbrev run_to : Commit → Unconfirmed
   run_to t = record { deadline = after_minutes last.moment last.minutes; target = t }

@@ -4,7 +4,6 @@ use Rattle.std.specs.Prelude.{MatchBool, IfOk}
 use Rattle.commands.specs.declared.command.Form.{Form}
 use Rattle.commands.specs.declared.command.LoadWay.{LoadWay}
 use Rattle.commands.specs.declared.command.Op.{Op}
-use Rattle.commands.specs.declared.command.Command.{Command}
 use Rattle.commands.specs.declared.command.Command.TheVariants.{Change, Load}
 use Rattle.cfg_base.specs.declared.path.Step.{Step}
 use Rattle.cfg_tree.specs.Full.{Expansion}
@@ -22,9 +21,8 @@ use Rattle.config_core.specs.declared.reply.Reply.TheVariants.{Done, Loaded}
 use Rattle.config_core.specs.Plan.{PreparedView}
 use Rattle.config_core.specs.State.{State, fresh_of}
 use Rattle.config_core.specs.Callers.{candidate_of, level_of}
-use Rattle.config_core.specs.Serving.{Turned, refused, Unless, Does, Serves, Shows, Replaces, Updates, IsOwnMerge, IsNotMerged, Checks, ChecksWhole}
+use Rattle.config_core.specs.Serving.{Turned, refused, Unless, Does, Shows, Replaces, Updates, IsOwnMerge, Checks, ChecksWhole}
 use Rattle.config_core.specs.Machine.{later}
-use Rattle.config_core.specs.Access.{bar_to}
 use Rattle.config_core.specs.Prepared.{Prepares, turned_by}
 
 -- a plan of an edit of the caller's candidate
@@ -99,10 +97,6 @@ pub checks_merged : (s : State) (own : Option CandidateView) (mine : CandidateVi
 checks_merged s own mine merged turned accepted is merge checks =
     subst (λ (o : Option CandidateView). ChecksWhole s o turned accepted) (sym is) (inl record { merged = merged; merge = merge; checks = checks })
 
-pub checks_unmerged : (s : State) (own : Option CandidateView) (mine : CandidateView) (turned : Turned) (accepted : Statements → Turned)
-    → own ≡ Some mine → IsNotMerged s mine turned → ChecksWhole s own turned accepted
-checks_unmerged s own mine turned accepted is unmerged = subst (λ (o : Option CandidateView). ChecksWhole s o turned accepted) (sym is) (inr unmerged)
-
 -- what is checked is accepted, or it is refused for a rule that it breaks or because it isn't merged
 by_checks : (s : State) (m : Statements) (turned after : Turned) (P : Turned → Type 0) → (Accepts m → P after) → ((refusal : Refusal) → P (refused s refusal))
     → Checks s m turned after → P turned
@@ -126,24 +120,6 @@ pub by_bar : (bar : Option Refusal) (s : State) (turned : Turned) (A P : Type 0)
     → Unless bar s turned A → P
 by_bar None s turned A P barred done so = done so
 by_bar (Some refusal) s turned A P barred done so = barred refusal so
-
--- a step of a command that is barred, and of one that isn't
-pub prepares_barred : (s : State) (caller moment : ℕ) (command : Command) (refusal : Refusal) (plan : PreparedView) → bar_to s caller command ≡ Some refusal
-    → Prepares s moment (λ turned. turned ≡ refused (later s moment) refusal) plan → Prepares s moment (Serves (later s moment) caller command) plan
-prepares_barred s caller moment command refusal plan bar prep = record {
-  at_moment = prep.at_moment;
-  follows = prep.follows;
-  steps = subst (λ b. Unless b (later s moment) (turned_by plan s) (Does (later s moment) caller command (turned_by plan s))) (sym bar) prep.steps;
-}
-
-pub prepares_unbarred : {E : Type 0} (s : State) (caller moment : ℕ) (command : Command) (answer : Result PreparedView E) → bar_to s caller command ≡ None
-    → IfOk answer (Prepares s moment (Does (later s moment) caller command)) → IfOk answer (Prepares s moment (Serves (later s moment) caller command))
-prepares_unbarred s caller moment command (Err none) bar h = tt
-prepares_unbarred s caller moment command (Ok plan) bar h = record {
-  at_moment = h.at_moment;
-  follows = h.follows;
-  steps = subst (λ b. Unless b (later s moment) (turned_by plan s) (Does (later s moment) caller command (turned_by plan s))) (sym bar) h.steps;
-}
 
 -- one of two
 pub by_bool : (b : Bool) (A B P : Type 0) → (A → P) → (B → P) → MatchBool b A B → P

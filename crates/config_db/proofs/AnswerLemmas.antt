@@ -1,18 +1,15 @@
 -- What comes before a command, and the command, put together.
-use Rattle.std.proofs.Common.{◌≡◌, ◌≤◌, ◌<◌, ◌⊎◌, ⊎_elim, inl, ℕ, Bool, List, [], ◌∷◌, ◌++◌, length, refl, sym, ap, subst, ◌∙◌, Option, None, Some, is_some, append_assoc, arith}
+use Rattle.std.proofs.Common.{◌≡◌, ◌≤◌, ◌⊎◌, ⊎_elim, inl, ℕ, Bool, List, [], ◌∷◌, ◌++◌, length, refl, sym, ap, subst, ◌∙◌, append_assoc, arith}
 use Rattle.commit_journal.specs.Journal.{disks_of}
 use Rattle.disk_model.specs.Pair.{FaultOnEither}
 use Rattle.std.specs.Prelude.{IsSome}
-use Rattle.commands.specs.Sound.{IsSound}
 use Rattle.commands.specs.declared.command.Command.{Command}
 use Rattle.config_core.specs.declared.event.Event.TheVariants.{Settle, Revert, Command as CommandOf}
 use Rattle.config_core.specs.declared.event.Outcome.{Outcome}
 use Rattle.config_core.specs.declared.event.Outcome.TheVariants.{Done, Fault}
 use Rattle.config_core.specs.declared.reply.Reply.{Reply}
-use Rattle.config_core.specs.Machine.{Fits, FitsIn, Free, Missed, waiting_for, waiting_of}
-use Rattle.commit_ledger.specs.Kept.{is_revert_due}
+use Rattle.config_core.specs.Machine.{Missed, waiting_of}
 use Rattle.config_core.specs.Prepared.{IsSettling}
-use Rattle.config_core.specs.State.{State, Made}
 use Rattle.session_history.specs.declared.history.Happened.{Happened}
 use Rattle.session_history.specs.Events.{Leads, NoCommand}
 use Rattle.session_history.proofs.EventLemmas.{Leads-append}
@@ -55,13 +52,6 @@ quiet_one : (v w : DatabaseView) (e : Happened) → e.calls ≡ calls_of w.journ
 quiet_one v w e told = quiet_more v w w e [] told (quiet_none w)
 
 module _ (caller moment : ℕ) where
-  -- nothing is needed
-  pub way_free : (v : DatabaseView) → v.state.greatest ≤ moment → waiting_of v.state moment ≡ Free → MakesWay caller moment Nothing v v
-  way_free v no_earlier free = record { own = []; extends = extends_none caller moment v; no_command = tt; clears = (refl, free); since = omega arith; no_later = no_earlier }
-
-  pub catches_none : (v : DatabaseView) → v.state.greatest ≤ moment → waiting_of v.state moment ≡ Free → CatchesUp caller moment Settled v v
-  catches_none v no_earlier free = record { own = []; extends = extends_none caller moment v; no_command = tt; clears = (refl, free); quiet = quiet_none v; since = omega arith; no_later = no_earlier }
-
   -- a missed deadline is reverted
   pub catches_reverts : (ticked : Ticked) (v w : DatabaseView) → v.state.greatest ≤ moment → waiting_of v.state moment ≡ Missed → Reverts caller moment ticked v w
       → CatchesUp caller moment ticked v w
@@ -175,19 +165,6 @@ module _ (caller moment : ℕ) where
     since = way.since;
     no_later = way.no_later;
   }
-
-  -- a settling that failed
-  pub way_unsettled : (v w : DatabaseView) → v.state.greatest ≤ moment → IsSome v.state.flight → IsUnsettled v w → MakesWay caller moment DiskFault v w
-  way_unsettled v w no_earlier some un =
-      let same : w.state.greatest ≡ v.state.greatest = ap (λ s. s.greatest) un.state in
-      record {
-        own = [];
-        extends = extends_unsettled caller moment v w un;
-        no_command = tt;
-        clears = (ap (λ s. is_some s.flight) un.state ∙ some, un.rose);
-        since = omega (arith, same);
-        no_later = omega (arith, same, no_earlier);
-      }
 
   -- what is after a settling, as reported of both
   behind : (ticked : Ticked) (u v w : DatabaseView) (e : Happened) (own : List Happened) → IsSettling e.event → e.outcome ≡ Done → e.calls ≡ calls_of v.journal → GoesOn u.journal v.journal
@@ -359,19 +336,3 @@ module _ (caller moment : ℕ) where
   -- nothing is done
   pub answers_wanting : (command : Command) (v : DatabaseView) → Answers caller moment command NoMemory v v
   answers_wanting command v = record { own = []; extends = extends_none caller moment v; answer = record { no_command = tt; quiet = quiet_none v } }
-
--- a command fits: of a caller, at no earlier moment, where nothing comes before it or an entry is in flight
-pub command_fits : (s : State) (users : List (List ℕ)) (caller moment : ℕ) (command : Command) → length s.callers ≡ length users → (0 < caller) × (caller ≤ length users) → IsSound command
-    → s.greatest ≤ moment → FitsIn (waiting_of s moment) (CommandOf command) → Fits s caller moment (CommandOf command)
-command_fits s users caller moment command same own sound no_earlier fits =
-    record { no_earlier = no_earlier; askable = ((own.0, omega (arith, own.1, same)), sound); fits = fits }
-
-pub fits_free : (s : State) (moment : ℕ) (command : Command) → waiting_of s moment ≡ Free → FitsIn (waiting_of s moment) (CommandOf command)
-fits_free s moment command free = subst (λ w. FitsIn w (CommandOf command)) (sym free) tt
-
-fits_in : (flight : Option Made) (missed : Bool) (command : Command) → IsSome flight → FitsIn (waiting_for flight missed) (CommandOf command)
-fits_in None missed command some = absurd (cc)
-fits_in (Some made) missed command some = tt
-
-pub fits_flying : (s : State) (moment : ℕ) (command : Command) → IsSome s.flight → FitsIn (waiting_of s moment) (CommandOf command)
-fits_flying s moment command some = fits_in s.flight (is_revert_due s.kept moment) command some

@@ -34,10 +34,6 @@ pub last_push : (from : Calls) (es : List Happened) (e : Happened) → last_call
 last_push from [] e = refl
 last_push from (x ∷ es) e = last_push x.calls es e
 
-pub rising_last : (from : Calls) (es : List Happened) (made : Calls) → AreRising from es made → AreAtMost (last_calls from es) made
-rising_last from [] made r = r
-rising_last from (x ∷ es) made r = rising_last x.calls es made r.1
-
 pub rising_all : (from : Calls) (es : List Happened) (made : Calls) → AreRising from es made → AreAtMost from made
 rising_all from [] made r = r
 rising_all from (x ∷ es) made r = at_most_trans from x.calls made r.0 (rising_all x.calls es made r.1)

@@ -8,14 +8,9 @@ use Rattle.commit_journal.specs.Journal.{JournalView, disks_of}
 use Rattle.config_core.specs.declared.event.Outcome.{Outcome}
 use Rattle.config_core.specs.declared.event.Outcome.TheVariants.{Done, Fault}
 use Rattle.session_history.specs.declared.history.Happened.{Happened}
-use Rattle.session_history.specs.declared.history.History.{History}
 use Rattle.session_history.specs.Events.{is_command, NoCommand}
-use Rattle.config_db.specs.View.{DatabaseView}
 use Rattle.config_db.specs.Disks.{GoesOn}
 use Rattle.config_db.specs.Faults.{FaultsAreCounted, RoseBy, is_failed_command, is_failed_other, is_fault}
-use Rattle.config_db.specs.Starting.{IsBegun}
-use Rattle.config_db.specs.Moves.{Extends}
-use Rattle.config_db.specs.Closing.{IsClosed}
 
 abbrev once : Bool → ℕ
 once b = cond b 1 0
@@ -122,27 +117,3 @@ counted_command i j k own e on more none asks before cause = record {
 
     no_other : count_by is_failed_other (e ∷ []) ≡ 0
     no_other = count-one is_failed_other e ∙ ap (λ b. once (is_fault e.outcome && not b)) asks ∙ ap once (never e.outcome)
-
--- over a run: from the disks that were handed in
-pub counted_begins : (disks : DiskPair) (users : List (List ℕ)) (limit : ℕ) (v : DatabaseView) → IsBegun disks users limit v
-    → FaultsAreCounted v.events disks (disks_of v.journal)
-counted_begins disks users limit v begun =
-    subst (λ es. FaultsAreCounted es disks (disks_of v.journal)) (sym begun.no_events)
-    (counted_none disks (disks_of v.journal) begun.opened.later_a begun.opened.later_b)
-
--- call by call
-pub counted_on : (disks : DiskPair) (caller moment : ℕ) (own : List Happened) (v w : DatabaseView)
-    → FaultsAreCounted v.events disks (disks_of v.journal) → Extends caller moment own v w → FaultsAreCounted w.events disks (disks_of w.journal)
-counted_on disks caller moment own v w before extends =
-    subst (λ es. FaultsAreCounted es disks (disks_of w.journal)) (sym extends.grown)
-    (counted_more v.events own disks (disks_of v.journal) (disks_of w.journal) extends.goes.faults_a extends.goes.faults_b before
-    extends.counted)
-
--- to all events and the disks that are handed back
-pub counted_closed : (disks : DiskPair) (v : DatabaseView) (happened : History) (fault : Bool) (disks' : DiskPair)
-    → FaultsAreCounted v.events disks (disks_of v.journal) → IsClosed v happened fault disks' → FaultsAreCounted happened.events.items disks disks'
-counted_closed disks v happened fault disks' before closed =
-    let w = closed.last in
-    let last = counted_on disks 0 v.state.greatest closed.settles.own v w before closed.settles.extends in
-    subst (λ es. FaultsAreCounted es disks disks') (sym closed.handed.events)
-    (subst (λ d. FaultsAreCounted w.events disks d) (sym closed.handed.disks_are) last)

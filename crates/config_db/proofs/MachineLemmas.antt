@@ -1,5 +1,5 @@
 -- What a step of the machine leaves of the list, of what is in flight, and of the callers.
-use Rattle.std.proofs.Common.{◌≡◌, ◌≤◌, ℕ, ◌-◌, length, Bool, true, false, if◌then◌else◌, refl, sym, ap, subst, ◌∙◌, Option, None, Some, is_some, arith}
+use Rattle.std.proofs.Common.{◌≡◌, ◌≤◌, ℕ, ◌-◌, length, Bool, true, false, if◌then◌else◌, refl, sym, ap, subst, ◌∙◌, Option, None, Some, arith}
 use Rattle.std.specs.Prelude.{IfSome, IsSome}
 use Rattle.std.proofs.Math.ListN.{length-set}
 use Rattle.commands.specs.declared.command.Command.{Command}
@@ -94,11 +94,6 @@ turns_by : (s : State) (caller moment : ℕ) (event : Event) (plan : PreparedVie
     → CanEnd (waiting_of s moment) event (made_in plan.effect) outcome → Turns s caller moment event outcome (replied plan.effect plan.reply outcome) (applied plan outcome s)
 turns_by s caller moment event plan outcome fits prepared ends =
     record { fits = fits; turned = ended plan outcome s; steps = prepared.steps outcome ends; state = refl; replied = refl }
-
-pub free_turns : (s : State) (caller moment : ℕ) (event : Event) (plan : PreparedView) (outcome : Outcome) → s.flight ≡ None → Fits s caller moment event → IsPrepared s caller moment event plan
-    → (made_in plan.effect ≡ None → outcome ≡ Done) → Turns s caller moment event outcome (replied plan.effect plan.reply outcome) (applied plan outcome s)
-free_turns s caller moment event plan outcome free fits prepared calm =
-    turns_by s caller moment event plan outcome fits prepared (can_end s moment event (made_in plan.effect) outcome free fits.fits calm)
 
 -- the step itself
 pub free_steps : (s : State) (caller moment : ℕ) (event : Event) (plan : PreparedView) (outcome : Outcome) → s.flight ≡ None → Fits s caller moment event → IsPrepared s caller moment event plan
@@ -252,9 +247,6 @@ module _ (s : State) (moment : ℕ) where
   pub none_waits : waiting_of s moment ≡ Free → s.flight ≡ None
   none_waits is = none_free s.flight (is_revert_due s.kept moment) is
 
-  pub not_settle : s.flight ≡ None → need.Settle ≡ need_in (waiting_of s moment) → ⊥
-  not_settle none is = absurd (let some = settle_needed is in let no : is_some s.flight ≡ false = ap is_some none in cc)
-
 -- a revert that is done ends the run of commits, so that nothing comes before the next command
 pub after_revert : (s : State) (caller moment : ℕ) (turned : Turned) → waiting_of s moment ≡ Missed → Steps s caller moment Revert Done turned → (waiting_of turned.state moment ≡ Free) × (turned.state.greatest ≡ moment)
 after_revert s caller moment turned missed steps =
@@ -266,6 +258,3 @@ pub after_failed : (s : State) (caller moment : ℕ) (turned : Turned) → waiti
 after_failed s caller moment turned missed steps =
     let put = subst (λ w. StepsFrom w (later s moment) caller Revert Fault turned) missed steps in
     ap (λ t. t.state.greatest) put.is
-
-pub revert_fits : (s : State) (caller moment : ℕ) → waiting_of s moment ≡ Missed → s.greatest ≤ moment → Fits s caller moment Revert
-revert_fits s caller moment missed no_earlier = record { no_earlier = no_earlier; askable = tt; fits = subst (λ w. FitsIn w Revert) (sym missed) tt }

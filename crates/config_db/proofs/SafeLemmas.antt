@@ -2,8 +2,8 @@
 use Rattle.std.proofs.Common.{◌≡◌, ◌≤◌, inl, inr, ⊎_elim, ℕ, ◌+◌, List, [], ◌∷◌, ◌++◌, length, Some, None, refl, sym, ◌∙◌, ap, subst, arith, length-append}
 use Rattle.std.proofs.lemmas.List.{append-nil}
 use Rattle.cfg_base.specs.declared.calls.Calls.{Calls}
-use Rattle.disk_model.specs.Disk.{Call, History, DiskState, state_of, contents_of, IsImage, Since, Leaves}
-use Rattle.disk_model.proofs.Images.{synced_within, contents_image, state_later}
+use Rattle.disk_model.specs.Disk.{Call, History, state_of, contents_of, IsImage, Since}
+use Rattle.disk_model.proofs.Images.{synced_within, contents_image}
 use Rattle.commit_journal.specs.Journal.{JournalView, CountsCalls, a_of, b_of, calls_a, calls_b}
 use Rattle.commit_journal.specs.Steps.{Counts}
 use Rattle.commit_journal.specs.Pair.{LeavesPair, WasLeft}
@@ -13,7 +13,7 @@ use Rattle.session_history.specs.Events.{Leads}
 use Rattle.config_db.specs.Numbers.{AreRising, none_called}
 use Rattle.config_db.specs.Crash.{CountsOn, InSpan, IsReckoned, IsSafeNow, IsSafeWhile, Spelt, CountsAgree, last_calls}
 use Rattle.config_db.proofs.DiskLemmas.{tell_each}
-use Rattle.config_db.proofs.SpanLemmas.{Grows, first_moment, grown_length, last_moment, span_now, span_split}
+use Rattle.config_db.proofs.SpanLemmas.{Grows, first_moment, grown_length, span_now, span_split}
 use Rattle.config_db.proofs.CrashLemmas.{event_is_safe, settling_is_safe}
 
 pub told_counts : (h h' : History) (m m' : ℕ) → CountsCalls h h' m m' → CountsAgree h h' m m'
@@ -40,18 +40,6 @@ module _ (a b a' b' : History) (l : LeavesPair a b a' b' (WasLeft a b)) where
 
   left_b : (d : List ℕ) → Since (state_of b) l.b_calls d → IsImage (state_of b) d
   left_b d since = (l.each (contents_of a) d (since_here a l.a_calls) since).1
-
--- a pair of images of the last moment
-pub pair_now : (a b a' b' : History) (P : List ℕ → List ℕ → Type 0) (l : LeavesPair a b a' b' P) (c d : List ℕ) → IsImage (state_of a') c → IsImage (state_of b') d → P c d
-pair_now a b a' b' P l c d in_a in_b = l.each c d
-    (last_moment (state_of a) l.a_calls c (subst (λ (s : DiskState). IsImage s c) (state_later a a' (Since (state_of a) l.a_calls) (alone_a)) in_a))
-    (last_moment (state_of b) l.b_calls d (subst (λ (s : DiskState). IsImage s d) (state_later b b' (Since (state_of b) l.b_calls) (alone_b)) in_b))
-  where
-    alone_a : Leaves a a' (Since (state_of a) l.a_calls)
-    alone_a = record { calls = l.a_calls; first = l.a_first; made = l.a_made; each = λ x since. since }
-
-    alone_b : Leaves b b' (Since (state_of b) l.b_calls)
-    alone_b = record { calls = l.b_calls; first = l.b_first; made = l.b_made; each = λ x since. since }
 
 module _ (first : State) (one_state : (events : List Happened) (s t : State) → Leads first events s → Leads first events t → s ≡ t)
     (events : List Happened) (made made' : Calls) (a b a' b' : History) (told_a : CountsAgree a a' made.a made'.a) (told_b : CountsAgree b b' made.b made'.b)

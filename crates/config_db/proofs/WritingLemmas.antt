@@ -13,10 +13,9 @@ use Rattle.curly_print.specs.Printed.{printed}
 use Rattle.commit_check.specs.Accepts.{Accepts}
 use Rattle.commit_check.specs.declared.rule.TheConstants.{MAX_TEXT}
 use Rattle.commit_ledger.specs.declared.entry.Entry.{Entry}
-use Rattle.commit_ledger.specs.declared.entry.Entry.TheVariants.{Commit as CommitOf, Confirm as ConfirmOf}
 use Rattle.commit_ledger.specs.Checkpoint.{checkpoint}
 use Rattle.commit_ledger.specs.Kept.{Kept}
-use Rattle.commit_ledger.specs.Payload.{text_of, most_text, entry_record, HasShortText}
+use Rattle.commit_ledger.specs.Payload.{text_of, most_text, entry_record}
 use Rattle.commit_ledger.specs.Rules.{IsEntry, Follows}
 use Rattle.commit_journal.specs.Journal.{JournalView, IsInFlight, IsImageInFlight, LeavesBoth, PairCause, Tell, a_of, b_of, disk_a, disk_b, disks_of}
 use Rattle.commit_journal.specs.Pair.{SpellsEither}
@@ -245,10 +244,6 @@ made_is_next kept (Some m) entry is follows ranges = let same : m.entry ≡ entr
 pub short_text : (m : Statements) → length (printed m []) ≤ MAX_TEXT → length (text_of m) ≤ most_text
 unfolding text_of
 short_text m short = short
-
-pub entry_short : (entry : Entry) → IsEntry Accepts entry → HasShortText entry
-entry_short (CommitOf commit) is = is.text
-entry_short (ConfirmOf confirm) is = tt
 
 -- a printable comment is a text
 pub text_of_comment : (comment : List ℕ) → IsPrintable comment → IsText comment

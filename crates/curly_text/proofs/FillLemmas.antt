@@ -1,5 +1,5 @@
 -- The statements of a tree, said in printing order, make that tree.
-use Rattle.std.proofs.Common.{◌≡◌, ◌≢◌, ℕ, zero, suc, ◌+◌, ◌<◌, ◌≤◌, Bool, true, false, cond, List, [], ◌∷◌, ◌++◌, length, map as each, filter, flat_map, refl, sym, ap, subst, ◌∙◌, inl, inr, Option, Some, None, is_some, is_none, option_map, if◌then◌else◌, ◌&&◌, arith, length-append, append-nil}
+use Rattle.std.proofs.Common.{◌≡◌, ◌≢◌, ℕ, zero, suc, ◌+◌, ◌≤◌, Bool, true, false, cond, List, [], ◌∷◌, ◌++◌, length, map as each, filter, flat_map, refl, sym, ap, subst, ◌∙◌, inl, inr, Option, Some, None, is_some, is_none, option_map, if◌then◌else◌, ◌&&◌, arith, length-append, append-nil}
 use Rattle.std.specs.FinMap as map
 use Rattle.std.proofs.lemmas.List.{append_assoc, append_cancel_left}
 use Rattle.cfg_base.specs.Order.{path_cmp}
@@ -138,9 +138,6 @@ module _ (m : Statements) (tree : IsTree m) (p : List Step) (s : Step) (v : Valu
     (below : Adds m (stated_one x (p ++ s ∷ [], record v { order = [] })) y (p ++ s ∷ []) (children_of m (p ++ s ∷ []))) where
   abbrev child : List Step
   child = p ++ s ∷ []
-
-  child_some : 0 < length (p ++ s ∷ [])
-  child_some = omega (arith, child_longer p s)
 
   along : (rest : List Step) → (p ++ s ∷ []) ++ rest ≡ p ++ s ∷ rest
   along rest = append_assoc p (s ∷ []) rest

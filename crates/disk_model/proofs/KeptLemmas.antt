@@ -130,10 +130,6 @@ has_place kept refused limit all limit' is same lt none = grind (arith, nat_test
 pub no_place : (kept refused limit all limit' : ℕ) → all ≡ kept + refused → limit ≡ limit' → 2 * limit ≤ kept → nat_lt all (2 * limit') ≡ false
 no_place kept refused limit all limit' is same full = grind (arith, nat_tests)
 
--- where one call more may be done, the record has room for it
-pub call_place : (all limit : ℕ) → IsTrue (nat_lt all limit) → IsTrue (nat_lt all (2 * limit))
-call_place all limit room = grind (arith, nat_tests)
-
 pub total_of-take : (n : ℕ) (kept : List Kept) → total_of (take n kept) ≤ total_of kept
 total_of-take zero kept = omega arith
 total_of-take (suc n) [] = omega arith

@@ -162,13 +162,3 @@ part m path value gone tree found = record {
         );
   };
 }
-
-pub other_left : (m : Statements) (path : List Step) (value : Value) (left : List (List ℕ)) → 0 < length path → IsPart m path value left
-    → 0 < length left → IsOther m path (record value { words = left })
-other_left m path value left long some_left some = record {
-  steps = long;
-  old = value;
-  found = some_left.found;
-  order = refl;
-  fits = some_left.fits some;
-}

@@ -12,7 +12,7 @@ use Rattle.cfg_base.specs.declared.path.Step.{Step}
 use Rattle.cfg_base.specs.declared.value.Value.{Value}
 use Rattle.cfg_tree.specs.Statements.{Statements, is_below}
 use Rattle.cfg_tree.specs.Tree.{IsTree}
-use Rattle.cfg_tree.specs.After.{IsNext, IsLast}
+use Rattle.cfg_tree.specs.After.{IsNext}
 use Rattle.cfg_tree.proofs.MapLemmas.{path_same, same_path}
 use Rattle.cfg_tree.proofs.TypedLemmas.{not_both}
 use Rattle.cfg_tree.proofs.BelowLemmas.{below_self, below_le, below_between}
@@ -107,9 +107,6 @@ passed_none m path = record { below = below_self path; rest = λ other below aft
 
 there : (m : Statements) (other : List Step) → IsProtected m other → IsSome (map.get m other)
 there m other p = ap is_some p.found
-
-pub none_after : (m : Statements) (path before : List Step) → Passed m path before → IsLast m before → IsOpenBelow m path
-none_after m path before passed last other below after p = last other (there m other p) (passed.rest other below after p)
 
 three : (a b : List Step) (P : Type 0) → path_cmp b a ≢ Less → (a ≡ b → P) → (path_cmp a b ≡ Less → P) → P
 three a b P h same less = by_order (path_cmp a b) refl

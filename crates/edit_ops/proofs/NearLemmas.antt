@@ -180,8 +180,3 @@ set_there m path old words long tree e =
     ap (λ (x : Statements). put_at x path (value_set path (value_or_none (map.get m path)) words))
     (levels_there m (length path - 1) path tree (omega (arith, long)) (ap is_some e))
     ∙ ap (λ (o : Option Value). put_at m path (value_set path (value_or_none o) words)) e
-
-pub set_new : (m : Statements) (path : List Step) (words : List (List ℕ)) → map.get m path ≡ None
-    → set_of m path words ≡ put_at (with_levels m (length path - 1) path) path (value_set path no_value words)
-set_new m path words e =
-    ap (λ (o : Option Value). put_at (with_levels m (length path - 1) path) path (value_set path (value_or_none o) words)) e

@@ -18,7 +18,7 @@ use Rattle.std.specs.Bool.{Decides}
 use Rattle.cfg_base.specs.contracts.value.ValuePartialEq.TheImpl as equal
 use Rattle.cfg_tree.proofs.SameLemmas.{same_value}
 use Rattle.cfg_tree.proofs.FollowLemmas.{typed_front, typed_place, parent_is_level, level_counted}
-use Rattle.cfg_tree.proofs.ReadyLemmas.{level_ready, new_ready, kept_ready}
+use Rattle.cfg_tree.proofs.ReadyLemmas.{level_ready, new_ready}
 use Rattle.edit_ops.specs.declared.fault.EditFault.{EditFault}
 use Rattle.edit_ops.specs.declared.fault.EditFault.TheVariants.{Unknown, BadValue, Incomplete, Extra, NotNamed, NotOrdered, NotThere, AlreadyThere, Protected, TooMany, NoMemory}
 use Rattle.edit_ops.specs.Block.{Blocks}
@@ -205,9 +205,6 @@ module _ (m : Statements) (path : List Step) (value : Value) (spared : Bool) (tr
   differs : ¬ (map.get m path ≡ Some value) → map.get m path ≢ map.get (put_at m path value) path
   differs h e = h (e ∙ put_here m path value other.steps)
 
-  pub is_ready : IsReady m path value
-  is_ready = kept_ready m path other.old value tree other.found other.order (λ here e. (other.fits.words here e).0)
-
   pub replaced : ¬ (map.get m path ≡ Some value) → IsOpen m (guarded spared (length path)) path
       → IsPartMade m (Ok (put_at m path value)) (IsItself spared path) (Ok (Some (put_at m path value)))
   replaced h free =
@@ -221,19 +218,6 @@ module _ (m : Statements) (path : List Step) (value : Value) (spared : Bool) (tr
       refused m (put_at m path value) path (guarded spared (length path)) (IsItself spared path)
       (near_on_way m (put_at m path value) path (IsItself spared path) (put_near m path value)) (differs h)
       (few_guarded spared path) (λ found. unspared_found m spared path found other.steps)
-
-  pub replace_room : (fault : EditFault) → IsRoomFault m path fault → IsPartMade m (Ok (put_at m path value)) (IsItself spared path) (Err fault)
-  replace_room (Unknown p) e = absurd e
-  replace_room (BadValue p) e = absurd e
-  replace_room (Incomplete p) e = absurd e
-  replace_room (Extra p) e = absurd e
-  replace_room (NotThere p) e = absurd e
-  replace_room (NotNamed p) e = absurd e
-  replace_room (NotOrdered p) e = absurd e
-  replace_room (AlreadyThere p) e = absurd e
-  replace_room (Protected p) e = absurd e
-  replace_room TooMany e = let k = sym other.found ∙ e.0 in cc
-  replace_room NoMemory e = tt
 
 -- whether what is there is a value
 pub has_value : (o : Option Value) (there value : Value) (r : Bool) → Some there ≡ o → r ≡ (equal.ghosts).eq there value → Decides r (o ≡ Some value)

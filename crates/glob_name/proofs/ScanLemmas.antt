@@ -27,19 +27,6 @@ pub record Scans (tail : ℕ) (pattern name rest left : List ℕ) (star : Bool) 
   pub rest_tail : IsTail tail rest
   pub after_tail : IsTail tail after
 
-pub scan_begins : (tail : ℕ) (pattern name : List ℕ) → IsTail tail pattern → Scans tail pattern name pattern name false pattern name
-scan_begins tail pattern name t = record {
-  only = λ m. inl m;
-  here = λ m. m;
-  there = λ k. absurd k;
-  later = λ k. absurd k;
-  shorter = omega arith;
-  within = omega arith;
-  inside = omega arith;
-  rest_tail = t;
-  after_tail = t;
-}
-
 scan_star : (tail : ℕ) (pattern name rest left : List ℕ) (star : Bool) (after tried : List ℕ) → Scans tail pattern name rest left star after tried
     → begins_with_star rest ≡ true → Scans tail pattern name (drop 1 rest) left true (drop 1 rest) left
 scan_star tail pattern name rest left star after tried s e =

@@ -206,9 +206,6 @@ module _ (row : List StatementView) (p : List Step) (s : Step) (path : List Step
       let a = ap (λ (xs : List (List Step × Given)). length xs) e in let b = ap (λ (xs : List (List Step × Given)). length xs) some_is
       in omega (arith, k, a, b, length-append made ((q, g) ∷ []))
 
-  pub one_wide : (made : List (List Step × Given)) (limit : ℕ) → limit < length made + 1 → limit < length made + length (given_for row n p s)
-  one_wide made limit k = let b = ap (λ (xs : List (List Step × Given)). length xs) some_is in omega (arith, k, b)
-
 -- one level
 module _ (row : List StatementView) (path : List Step) where
   pub nothing_below : (n : ℕ) → n ≡ 0 → given_below row n path ≡ []

@@ -39,10 +39,6 @@ comparable (s ∷ p) (t ∷ q) (u ∷ r) h k =
       | inr m ↦ inr (ap (λ (c : Bool). c && is_below q p) ((same_step t s).1 (sym e)) ∙ m)
     ]
 
--- what is below each other is one path
-pub below_both : (p q : List Step) → is_below p q ≡ true → is_below q p ≡ true → length p ≡ length q
-below_both p q h k = let a = below_long p q h in let b = below_long q p k in omega (arith, a, b)
-
 pub less_apart : (p q : List Step) → path_cmp p q ≡ Less → is_below q p ≡ true → ⊥
 less_apart p q less below = clash (path_cmp q p) (below_le q p below) (paths_total.antisymm q p ∙ ap ordering_reverse less)
   where
@@ -230,10 +226,6 @@ module _ (above : List Step) (below : List StatementView) where
         inside = all_kept (λ y. is_inside above y.path ≡ true) (λ z. not (is_under x.path z)) xs i.1;
         whole = hop_all x xs o.0 way.whole;
       })
-
-  pub way_ends : (left : List StatementView) (met : List Node) → IsOnWay above below left met → length left ≡ 0 → met ≡ live_children above below
-  way_ends [] met way e = sym (append_nothing met) ∙ way.met_all
-  way_ends (x ∷ xs) met way e = absurd (omega (arith, e))
 
 -- the part of a statement has its sizes too
 counted_under : (p : List Step) (xs : List StatementView) → Counted xs → Counted (filter (is_under p) xs)

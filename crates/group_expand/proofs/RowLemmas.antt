@@ -182,9 +182,6 @@ pub so_far_ends : (p : List Step) (rest left : List StatementView) → IsSoFar p
     → length rest - length left ≡ length (filter (is_under p) rest)
 so_far_ends p rest left i some e = let k = no_more p left some i.2 i.3 e in let j = i.0 in let l = i.4 in omega (arith, j, k, l)
 
-pub so_far_within : (p : List Step) (rest left : List StatementView) → IsSoFar p rest left → 0 < length left → length rest - length left ≤ length rest
-so_far_within p rest left i some = omega arith
-
 pub next_shorter : (left next : List StatementView) → 0 < length left → Counted left → Ordered left → next ≡ beside_of left → length next < length left
 next_shorter left next some c o e = subst (λ (ys : List StatementView). length ys < length left) (sym e) (beside_kept left some c o).2
 

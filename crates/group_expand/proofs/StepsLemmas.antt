@@ -212,9 +212,6 @@ pub record IsRunWay (level left : List Ranked) : Type 0 where
   pub climbs_on : Climbs left
   pub alike : (s : Step) → (filter (is_at s) left ≡ []) ⊎ (filter (is_at s) left ≡ filter (is_at s) level)
 
-pub way_start : (level : List Ranked) → Climbs level → IsRunWay level level
-way_start level c = record { climbs_on = c; alike = λ s. inr refl }
-
 -- where offers are left, the level has some
 pub way_some : (level left : List Ranked) → IsRunWay level left → 0 < length left → 0 < length level
 way_some (x ∷ level) left way some = omega arith

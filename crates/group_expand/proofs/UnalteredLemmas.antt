@@ -188,10 +188,6 @@ inside_entries p (x ∷ xs) = by_test (is_inside p x.path) refl (inside_entries 
     by_test true e go = (e, go)
     by_test false e go = go
 
-some_map : {X Y : Type 0} (f : X → Y) (o : Option X) → is_some (option_map f o) ≡ is_some o
-some_map f None = refl
-some_map f (Some x) = refl
-
 abbrev own_gift : Value → Gift
 own_gift v = record { words = v.words; group = [] }
 

@@ -43,10 +43,6 @@ module _ (head : List ℕ) (level : Level) where
       by_test true e = refl
       by_test false e = refl
 
-  pub names_end : (left : List Ranked) (now all : List (List ℕ)) → length left ≡ 0 → now ++ names_left left ≡ all → now ≡ all
-  names_end [] now all l e = sym (append_nothing now) ∙ e
-  names_end (r ∷ rs) now all l e = absurd (omega (arith, l))
-
 -- where nothing stands below a path, it has no order
 none_listed : (names : List (List ℕ)) → filter (lists []) names ++ [] ≡ []
 none_listed [] = refl

@@ -1,23 +1,12 @@
 -- Bytes before and after what is told, once and twice.
-use Rattle.std.proofs.Common.{◌≡◌, ℕ, List, [], ◌++◌, refl, ap, sym, append_assoc, Option, None}
+use Rattle.std.proofs.Common.{◌≡◌, ℕ, List, ◌++◌, refl, ap, sym, append_assoc, Option, None}
 use Rattle.std.proofs.Common.{Some}
-use Rattle.std.proofs.lemmas.List.{append-nil}
 use Rattle.io_edge.specs.Ends.{onto, held_after}
-
--- no bytes before what is told
-pub onto-nothing : (told : Option (List ℕ)) → onto [] told ≡ told
-onto-nothing None = refl
-onto-nothing (Some left) = refl
 
 -- bytes before bytes before what is told
 pub onto-onto : (a b : List ℕ) (told : Option (List ℕ)) → onto a (onto b told) ≡ onto (a ++ b) told
 onto-onto a b None = refl
 onto-onto a b (Some left) = ap Some (sym (append_assoc a b left))
-
--- no bytes after what is told
-pub behind-nothing : (told : Option (List ℕ)) → held_after told [] ≡ told
-behind-nothing None = refl
-behind-nothing (Some held) = ap Some (append-nil held)
 
 -- bytes after bytes after what is told
 pub behind-behind : (told : Option (List ℕ)) (a b : List ℕ) → held_after (held_after told a) b ≡ held_after told (a ++ b)

@@ -10,7 +10,6 @@ use Rattle.cfg_tree.specs.Tree.{ordered_head}
 use Rattle.std.specs.List.{list_any, AllByRecursion}
 use Rattle.std.specs.Ordering.{eq_by_cmp}
 use Rattle.std.specs.BTreeSet.{BTreeSet, contains}
-use Rattle.std.specs.BTreeMap.{is_at}
 use Rattle.std.specs.FinMap.Entries.{find, is_sorted, below_all}
 use Rattle.std.proofs.lemmas.List.{take_more}
 use Rattle.cfg_base.specs.Order.{path_cmp}
@@ -26,9 +25,6 @@ use Rattle.edit_ops.proofs.WayLemmas.{below_trans, below_not_after}
 use Rattle.load_ops.specs.Left.{is_tagged, is_replaced, value_left, left_at}
 use Rattle.load_ops.specs.Parts.{Knows, is_covered, entries_left}
 use Rattle.load_ops.proofs.OrderLemmas.{first, second, is_less, find_none, found_all, all_less}
-
-pub none_known : (known : BTreeSet (List Step)) → known.keys ≡ [] → Knows [] known
-none_known known none path = ap (λ (ps : List (List Step)). list_any (is_at (path_cmp path)) ps) none
 
 known_or : (a b : Bool) → cond a true b ≡ (b || a)
 known_or true true = refl

@@ -130,15 +130,6 @@ abbrev pub IsViewed : State → List Happened → Exchange → Type 0
 IsViewed opening final (Asked moment command given) = IsViewGiven opening final command given
 IsViewed opening final (Refused moment fault) = Unit {0}
 
-plain_given : (opening : State) (final : List Happened) (command : Command) (given : Given0) → IsViewGiven opening final command given → IsViewGiven opening (plain final) command given
-plain_given opening final command (KeptAt place reply) view = tt
-plain_given opening final command (Seen front reply) view = plain_view opening final command front reply view
-plain_given opening final command NoMemory view = tt
-
-plain_viewed : (opening : State) (final : List Happened) (exchange : Exchange) → IsViewed opening final exchange → IsViewed opening (plain final) exchange
-plain_viewed opening final (Asked moment command given) view = plain_given opening final command given view
-plain_viewed opening final (Refused moment fault) view = tt
-
 -- each of these items that was answered from a view
 pub all_viewed : (opening : State) (caller : ℕ) (final : List Happened) (exchanges : List Exchange) (d e : Known) → GoesBy (FollowsAsked opening caller final) exchanges d e → AllByRecursion (IsViewed opening (plain final)) exchanges
 all_viewed opening caller final [] d e goes = tt

@@ -78,10 +78,6 @@ missed_in (InFlight made) is = cc
 missed_in Missed is = refl
 missed_in Free is = cc
 
--- a deadline was missed
-pub missed_of : (s : State) (moment : ℕ) → need.Revert ≡ need_in (waiting_of s moment) → waiting_of s moment ≡ Missed
-missed_of s moment is = missed_in (waiting_of s moment) is
-
 free_in : (missed : Bool) (n : Need) → n ≡ need_in (waiting_for None missed) → (n ≡ need.Revert → ⊥) → waiting_for None missed ≡ Free
 free_in true n is other = absurd (other is)
 free_in false n is other = refl
@@ -97,10 +93,3 @@ pub after_revert : (s : State) (caller moment : ℕ) (turned : Turned) → waiti
 after_revert s caller moment turned missed steps =
     let is : turned ≡ reverted (later s moment) = subst (λ w. StepsFrom w (later s moment) caller Revert Done turned) missed steps in
     (ap (λ t. waiting_of t.state moment) is, ap (λ t. t.state.greatest) is)
-
--- a command fits where nothing comes before it
-pub FitsIn-free : (s : State) (moment : ℕ) (event : Event) → waiting_of s moment ≡ Free → FitsIn Free event → FitsIn (waiting_of s moment) event
-FitsIn-free s moment event free fits = subst (λ w. FitsIn w event) (sym free) fits
-
-pub FitsIn-missed : (s : State) (moment : ℕ) → waiting_of s moment ≡ Missed → FitsIn (waiting_of s moment) Revert
-FitsIn-missed s moment missed = subst (λ w. FitsIn w Revert) (sym missed) tt

@@ -4,8 +4,6 @@ use Rattle.std.specs.List.{AllByRecursion}
 use Rattle.std.proofs.lemmas.List.{take-append-le, length-append}
 use Rattle.config_core.specs.declared.reply.Reply.{Reply}
 use Rattle.config_core.specs.State.{State}
-use Rattle.config_core.specs.Serving.{Turned}
-use Rattle.config_core.specs.Machine.{Fits, Steps}
 use Rattle.session_history.specs.declared.history.Happened.{Happened}
 use Rattle.session_history.specs.Events.{Leads, IsAt, IsAskedAt, is_asked_by, is_command, places_from, places_of}
 use Rattle.commands.specs.declared.command.Command.{Command}
@@ -14,10 +12,6 @@ use Rattle.commands.specs.declared.command.Command.{Command}
 pub Leads-append : (s : State) (events more : List Happened) (mid last : State) → Leads s events mid → Leads mid more last → Leads s (events ++ more) last
 Leads-append s [] more mid last front back = subst (λ x. Leads x more last) front back
 Leads-append s (event ∷ events) more mid last front back = (front.0, front.1, front.2, Leads-append front.1.state events more mid last front.3 back)
-
--- one event that fits, and its step
-pub Leads-one : (s : State) (event : Happened) (turned : Turned) → Fits s event.caller event.moment event.event → Steps s event.caller event.moment event.event event.outcome turned → Leads s (event ∷ []) turned.state
-Leads-one s event turned fits steps = (fits, turned, steps, refl)
 
 -- an element that is there stays there
 slice_get-append : {A : Type 0} → (xs ys : List A) (place : ℕ) → place < length xs → slice_get (xs ++ ys) place ≡ slice_get xs place

@@ -211,10 +211,6 @@ WasKept-append s events more kept was =
     let longer = leads_before s events more was.count was.state was.leads in
     record { count = longer.0; state = was.state; leads = longer.1; is = was.is }
 
--- no list that was kept has fewer entries than the opening's
-pub WasKept-first_count : (s : State) (events : List Happened) (kept : Kept) → WasKept s events kept → s.kept.count ≤ kept.count
-WasKept-first_count s events kept was = omega (arith, count_grows s (take was.count events) was.state was.leads, ap (λ (k : Kept). k.count) was.is)
-
 module _ (s : State) (one_state : (events : List Happened) (one other : State) → Leads s events one → Leads s events other → one ≡ other) where
   -- nor more than what is kept after the last event
   pub WasKept-last_count : (events : List Happened) (last : State) (kept : Kept) → Leads s events last → WasKept s events kept → kept.count ≤ last.kept.count
@@ -222,11 +218,6 @@ module _ (s : State) (one_state : (events : List Happened) (one other : State) �
       let split = leads_split s events was.count last leads in
       let here : split.0 ≡ was.state = one_state (take was.count events) split.0 was.state split.1 was.leads in
       omega (arith, count_grows split.0 (drop was.count events) last split.2, ap (λ (x : State). x.kept.count) here, ap (λ (k : Kept). k.count) was.is)
-
-  -- the count never falls from some of the events to more of them
-  pub count_grows-append : (events more : List Happened) (mid last : State) → Leads s events mid → Leads s (events ++ more) last → mid.kept.count ≤ last.kept.count
-  count_grows-append events more mid last leads longer =
-      WasKept-last_count (events ++ more) last mid.kept longer (WasKept-append s events more mid.kept (WasKept-last s events mid leads))
 
   fewer_kept : (events : List Happened) (one other : Kept) (a : WasKept s events one) (b : WasKept s events other) → a.count ≤ b.count → other.count ≤ one.count → other ≡ one
   fewer_kept events one other a b before few =

@@ -71,10 +71,6 @@ module _ (command : Command) (answer : ℕ) (old new : ReaderView) (later : IsPr
           (sym is) (count ∙ ap (λ (k : Kept). k.count) (sym is)) gives;
     }
 
-    -- without memory it has none
-    pub ReadsShow-wanting : ReadsShow command answer (Some NoMemory) old new
-    ReadsShow-wanting = record { reads = ReadsOn-read old new later same; gives = tt }
-
 looks_at : (d : GateView) (command : Command) (answer : ℕ) (given : Option Given0) (reader : ReaderView) → KnowsOwn d.pass
     → ((first : DatabaseView) → d.pass.fixed ≡ Some first → IsLegal (opened first) d.pass.seen) → IsActiveShow command
     → GivesShow command answer given reader → LooksAt d command answer given reader
@@ -94,12 +90,6 @@ LooksIn-read lock pass old new command answer given ready is read = record {
       (λ first fixed. subst (λ (f : DatabaseView). IsLegal (opened f) pass.seen) (some_is (sym ready.1.fixed ∙ fixed)) ready.1.legal)
       is read.gives;
 }
-
--- no show is asked for
-pub LooksIn-other : (d : GateView) (command : Command) (answer : ℕ) → (IsActiveShow command → ⊥)
-    → LooksIn d command answer None d
-LooksIn-other d command answer other =
-    record { same = refl; reads = ReadsOn-same d.reader; looks = λ is. absurd (other is) }
 
 -- a show was answered without a turn
 pub FollowsIn-looked : (d e : GateView) (command : Command) (answer : ℕ) (given : Given0) → LooksIn d command answer (Some given) e

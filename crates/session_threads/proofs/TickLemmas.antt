@@ -41,15 +41,6 @@ round_of : (goes_on : Bool) (opening : State) (old new : TickerView) (events eve
 round_of true opening old new events events' look = look
 round_of false opening old new events events' look = inl look
 
--- the beat said that no look is due
-pub Ticks-none : (first : DatabaseView) (pass : CallerPass) (ticker ticker' : TickerView) → KnowsOwn pass
-    → TakesAnswer ticker.due ticker'.due false → ticker'.coming ≡ ticker.coming
-    → Ticks false first pass pass ticker ticker'
-Ticks-none first pass ticker ticker' own beat clock = record {
-  goes = WentOn-same pass own;
-  round = inr (record { beat_told = (ticker'.due, beat, refl); clock_told = clock; looks = refl });
-}
-
 -- the beat called for a look
 pub Ticks-look : (lock : TableId) (first : DatabaseView) (old new : CallerPass) (ticker ticker' : TickerView) (answer : ℕ)
     (goes_on : Bool) → IsTickersPass lock first old → TakesAnswer ticker.due ticker'.due true

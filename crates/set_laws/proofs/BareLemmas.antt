@@ -122,10 +122,6 @@ module _ (m : Statements) (tree : IsTree m) where
   below_paths zero p = refl
   below_paths (suc levels) p = steps_paths levels p (children_of m p) (child_there m tree p) (λ s. below_paths levels (p ++ s ∷ []))
 
-  -- what the `set` lines make
-  abbrev pub bare_of : Statements
-  bare_of = stated map.empty (bare (items_below MAX_STEPS m []))
-
   pub bare_is : IsBare m (stated map.empty (bare (items_below MAX_STEPS m [])))
   bare_is q =
       all_bare map.empty map.empty (items_below MAX_STEPS m []) (below_orderless MAX_STEPS [])

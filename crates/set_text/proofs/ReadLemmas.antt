@@ -1,6 +1,6 @@
 -- What a line says, and the lines of a text one after another.
-use Rattle.std.proofs.Common.{◌≡◌, ◌<◌, ◌+◌, ◌==◌, false, inl, inr, ℕ, List, [], ◌∷◌, ◌++◌, length, get_or, Option, None, Some, Ok, Err, refl, sym, ap, ◌∙◌, subst, arith, append_assoc, length-append}
-use Rattle.std.proofs.lemmas.List.{append-nil, take_all, drop_all, drop_more}
+use Rattle.std.proofs.Common.{◌≡◌, ◌+◌, ◌==◌, false, inl, inr, ℕ, List, [], ◌∷◌, ◌++◌, length, Option, None, Some, Ok, Err, refl, sym, ap, ◌∙◌, subst, arith, append_assoc, length-append}
+use Rattle.std.proofs.lemmas.List.{append-nil, take_all, drop_all}
 use Rattle.commands.specs.declared.command.Op.{Op}
 use Rattle.cfg_lex.specs.declared.token.Token.{Token}
 use Rattle.cfg_lex.specs.declared.fault.LexFault.{LexFault}
@@ -11,8 +11,8 @@ use Rattle.set_text.specs.declared.stop.Stop.TheVariants.{At, NoMemory}
 use Rattle.set_text.specs.declared.fit.Fit.TheVariants.{More}
 use Rattle.cfg_lex.specs.Lexed.{Lexed}
 use Rattle.set_text.specs.Form.{parts_in, Spells, Begins}
-use Rattle.set_text.specs.Fit.{FitsForms, StopsBehind}
-use Rattle.set_text.specs.Lines.{told, lines_in, IsSkipped, AsksChange, StopsAt, IsRefused, AreRead, IsFirstRefused}
+use Rattle.set_text.specs.Fit.{FitsForms}
+use Rattle.set_text.specs.Lines.{told, lines_in, IsSkipped, AsksChange, StopsAt, IsRefused, AreRead}
 use Rattle.set_text.specs.Stop.{IsStopOf, Says, IsReadTo}
 
 -- what a line says that isn't refused
@@ -45,18 +45,6 @@ pub refused_at_end : (line : List ℕ) (tokens : List Token) (place : ℕ) → I
 refused_at_end line [] place cut more some is = absurd cc
 refused_at_end line (token ∷ tokens) place cut more some is = stops_last line (token ∷ tokens) None place cut more.0 (omega arith, more.1, is)
 
--- at a token
-pub refused_at_token : (line : List ℕ) (tokens : List Token) (fault : Option LexFault) (count place : ℕ) (d : Token) → IsCut line tokens fault → StopsBehind line tokens count → place ≡ told (get_or tokens count d).start → IsRefused line place
-refused_at_token line tokens fault count place d cut stops is = record {
-  tokens = tokens;
-  fault = fault;
-  cut = cut;
-  count = count;
-  within = omega (arith, stops.within);
-  begun = stops.begun;
-  stops = subst (λ ts. StopsAt line tokens count ts fault place) (sym (drop_more tokens count d stops.within)) (stops.not_more, is);
-}
-
 -- lines that are read, and then others
 pub read_both : (number : ℕ) (xs ys : List (List ℕ)) (one other : List OpLine) → AreRead number xs one → AreRead (number + length xs) ys other → AreRead number (xs ++ ys) (one ++ other)
 read_both number [] ys one other front back =
@@ -71,9 +59,6 @@ read_both number (x ∷ xs) ys one other (inr front) back =
       ap (λ cs. cs ++ other) front.3,
       read_both (number + 1) xs ys front.1 other front.4 (subst (λ n. AreRead n ys other) (omega arith) back),
     )
-
-pub read_nothing : (text : List ℕ) → IsReadTo text text 0 []
-read_nothing text = record { lines = []; joined = refl; read = refl; counted = refl }
 
 longer : (lines : List (List ℕ)) (line : List ℕ) (count number : ℕ) → count ≡ told (length lines) → number ≡ told (count + 1) → number ≡ told (length (lines ++ line ∷ []))
 longer lines line count number counted next = omega (arith, counted, next, length-append lines (line ∷ []))
@@ -100,19 +85,3 @@ change_more text rest behind line count number changes change so_far first next 
           (inr (change, [], asks, ap (λ n. record { line = n; op = change } ∷ []) is, refl));
       counted = longer so_far.lines line count number so_far.counted next;
     }
-
-pub first_refused : (text rest behind line : List ℕ) (count number place : ℕ) (changes : List OpLine) → IsReadTo text rest count changes → lines_in rest ≡ line ∷ lines_in behind → number ≡ told (count + 1) → IsRefused line place → IsFirstRefused text number place
-first_refused text rest behind line count number place changes so_far first next refused = record {
-  before = so_far.lines;
-  line = line;
-  after = lines_in behind;
-  joined = so_far.joined ∙ ap (λ ls. so_far.lines ++ ls) first;
-  changes = changes;
-  read = so_far.read;
-  refused = refused;
-  numbered = omega (arith, so_far.counted, next);
-}
-
-pub read_all : (text rest : List ℕ) (count : ℕ) (changes : List OpLine) → IsReadTo text rest count changes → length rest < 1 → AreRead 1 (lines_in text) changes
-read_all text [] count changes so_far none = subst (λ ls. AreRead 1 ls changes) (sym (so_far.joined ∙ append-nil so_far.lines)) so_far.read
-read_all text (b ∷ rest) count changes so_far none = absurd (omega (arith, none))

@@ -1,17 +1,16 @@
 -- A journal that was made or attached, as a list of commits.
-use Rattle.std.proofs.Common.{◌≡◌, ◌≢◌, inl, inr, ℕ, Bool, true, false, List, [], ◌∷◌, IsTrue, refl, sym, subst, ap, ◌∙◌, rules}
-use Rattle.disk_model.specs.Disk.{DiskView, History, Sync, Called, DiskGoesOn, MaySync, IsImage, state_of, contents_of}
-use Rattle.disk_model.specs.Pair.{BothTell, DiskPair}
+use Rattle.std.proofs.Common.{◌≡◌, ℕ, Bool, true, false, List, [], ◌∷◌, IsTrue, refl, sym, subst, ap, ◌∙◌, rules}
+use Rattle.disk_model.specs.Disk.{DiskView, History, Sync, Called, DiskGoesOn, IsImage, state_of, contents_of}
+use Rattle.disk_model.specs.Pair.{DiskPair}
 use Rattle.record_code.specs.declared.payloads.Placed.{Placed}
 use Rattle.record_code.specs.Listed.{records_of}
 use Rattle.commit_journal.specs.declared.why.AttachWhy.{AttachWhy}
 use Rattle.commit_journal.specs.declared.why.AttachWhy.TheVariants.{NotAJournal as NoPair, Damaged as DamagedPair, DiskFault as PairFault, NoMemory as PairNoMemory}
 use Rattle.commit_journal.specs.declared.why.CreateWhy.TheVariants.{NoMemory as MakingNoMemory}
-use Rattle.stored_ledger.specs.declared.why.StartWhy.{StartWhy}
-use Rattle.stored_ledger.specs.declared.why.StartWhy.TheVariants.{Exists, NotAJournal, Damaged, BadRecord, DiskFault, NoMemory}
+use Rattle.stored_ledger.specs.declared.why.StartWhy.TheVariants.{DiskFault, NoMemory}
 use Rattle.commit_journal.specs.Attach.{ExplainsPair}
 use Rattle.commit_journal.specs.Journal.{JournalView, Tell, a_of, b_of, disk_a, disk_b, disks_of}
-use Rattle.commit_journal.specs.Opening.{IsOpened, IsCreated, IsAttached, IsNotAttached, making_a, making_b}
+use Rattle.commit_journal.specs.Opening.{IsOpened, IsCreated, IsAttached, making_a, making_b}
 use Rattle.commit_journal.specs.Pair.{first_of, second_of}
 use Rattle.commit_check.specs.Accepts.{Accepts}
 use Rattle.commit_ledger.specs.declared.entry.Commit.{Commit}
@@ -21,8 +20,8 @@ use Rattle.commit_ledger.specs.Payload.{entry_record, kind_of, payload_bytes}
 use Rattle.commit_ledger.specs.Reading.{ReadsAs}
 use Rattle.commit_ledger.proofs.ReadingLemmas.{read_maps_are_accepted}
 use Rattle.stored_ledger.specs.Stored.{IsStored, factory_records}
-use Rattle.stored_ledger.specs.Starting.{Explains, IsMade, IsNotMade, IsFound, IsNotFound}
-use Rattle.stored_ledger.specs.Whys.{IsUnreadFor, why_of_opening}
+use Rattle.stored_ledger.specs.Starting.{Explains, IsMade, IsNotMade, IsFound}
+use Rattle.stored_ledger.specs.Whys.{why_of_opening}
 use Rattle.stored_ledger.proofs.SoundLemmas.{read_lists_are_numbered}
 
 -- the record of a commit that is the factory's
@@ -60,33 +59,11 @@ explained_by a b (DamagedPair offset kept computed) is = is
 explained_by a b PairFault is = tt
 explained_by a b PairNoMemory is = tt
 
-never_there : (why : AttachWhy) → why_of_opening why ≢ Exists
-never_there NoPair is = cc
-never_there (DamagedPair offset kept computed) is = cc
-never_there PairFault is = cc
-never_there PairNoMemory is = cc
-
 fault_of : (why : AttachWhy) → why_of_opening why ≡ DiskFault → why ≡ PairFault
 fault_of NoPair is = cc
 fault_of (DamagedPair offset kept computed) is = cc
 fault_of PairFault is = refl
 fault_of PairNoMemory is = cc
-
-unread_is_not_there : (placed : List Placed) (why : StartWhy) → IsUnreadFor placed why → why ≢ Exists
-unread_is_not_there placed Exists unread is = unread
-unread_is_not_there placed NotAJournal unread is = unread
-unread_is_not_there placed (Damaged offset kept computed) unread is = unread
-unread_is_not_there placed (BadRecord offset) unread is = cc
-unread_is_not_there placed DiskFault unread is = unread
-unread_is_not_there placed NoMemory unread is = cc
-
-unread_is_no_fault : (placed : List Placed) (why : StartWhy) → IsUnreadFor placed why → why ≢ DiskFault
-unread_is_no_fault placed Exists unread is = unread
-unread_is_no_fault placed NotAJournal unread is = unread
-unread_is_no_fault placed (Damaged offset kept computed) unread is = unread
-unread_is_no_fault placed (BadRecord offset) unread is = cc
-unread_is_no_fault placed DiskFault unread is = unread
-unread_is_no_fault placed NoMemory unread is = cc
 
 abbrev pair : DiskView → DiskView → DiskPair
 pair a b = record { a = a; b = b }
@@ -163,39 +140,3 @@ module _ (a b : DiskView) (limit : ℕ) (v : JournalView) (is_opened : IsOpened 
     synced_b = λ tell. called_b (Called b.history (Sync true)) (found.synced_b tell);
     contents = λ tell. (ap contents_of a_is ∙ (found.contents tell.0 tell.1).0, ap contents_of b_is ∙ (found.contents tell.0 tell.1).1);
   }
-
-  -- the journal's records aren't a list of commits, and its disks are given back
-  pub unread_is : (placed : List Placed) (why : StartWhy) → IsAttached a b placed v → IsUnreadFor placed why
-      → IsNotFound (pair a b) why (disks_of v)
-  unread_is placed why found unread = record {
-    explained = λ tell. explains tell why unread;
-    not_there = unread_is_not_there placed why unread;
-    synced_a = λ tell. called_a (MaySync a.history) (inr (inl (found.synced_a tell)));
-    synced_b = λ tell. called_b (MaySync b.history) (inr (inl (found.synced_b tell)));
-    contents = λ tell. (ap contents_of a_is ∙ (found.contents tell.0 tell.1).0, ap contents_of b_is ∙ (found.contents tell.0 tell.1).1);
-    tells_a = is_opened.tells_a;
-    tells_b = is_opened.tells_b;
-    cause = record { later_a = is_opened.later_a; later_b = is_opened.later_b; rose = λ is. absurd (unread_is_no_fault placed why unread is) };
-  }
-    where
-      explains : BothTell (pair a b) → (why : StartWhy) → IsUnreadFor placed why → Explains (contents_of a.history) (contents_of b.history) why
-      explains tell Exists is = is
-      explains tell NotAJournal is = absurd is
-      explains tell (Damaged offset kept computed) is = absurd is
-      explains tell (BadRecord offset) is = record { placed = placed; spelled = found.spelled tell.0 tell.1; last = v.gate; places = found.places; unread = is }
-      explains tell DiskFault is = absurd is
-      explains tell NoMemory is = tt
-
--- the journal itself couldn't be opened
-pub not_attached_is : (a b : DiskView) (why : AttachWhy) (a' b' : DiskView)
-    → IsNotAttached a b why a' b' → IsNotFound (pair a b) (why_of_opening why) (pair a' b')
-not_attached_is a b why a' b' is = record {
-  explained = λ tell. explained_by (contents_of a.history) (contents_of b.history) why (is.explained tell.0 tell.1);
-  not_there = never_there why;
-  synced_a = is.synced_a;
-  synced_b = is.synced_b;
-  contents = λ tell. is.contents tell.0 tell.1;
-  tells_a = is.tells_a;
-  tells_b = is.tells_b;
-  cause = record { later_a = is.cause.later_a; later_b = is.cause.later_b; rose = λ fault. is.cause.rose (fault_of why fault) };
-}
