@@ -1,0 +1,11 @@
+pub mod FeedLemmas
+pub mod KeyLemmas
+pub mod LookLemmas
+pub mod MarkLemmas
+pub mod NestedLemmas
+pub mod OneLemmas
+pub mod OrderLemmas
+pub mod RowLemmas
+pub mod SaidLemmas
+pub mod TextLemmas
+pub mod WritingLemmas
