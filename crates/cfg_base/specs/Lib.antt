@@ -2,6 +2,7 @@ pub mod Order
 pub mod Kept
 pub mod Steps
 pub mod Kind
+pub mod Bytes
 pub mod Counts
 pub mod Blocks
 pub mod Words

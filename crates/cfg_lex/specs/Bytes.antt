@@ -1,6 +1,7 @@
 -- The bytes of a configuration text. Junos OS CLI User Guide, on configuration statements and on comments; which bytes a word may have is
 -- this project's own.
 use Rattle.std.specs.Prelude.{ℕ, List, [], ◌∷◌, ◌++◌, Bool, true, false, ◌||◌, ◌&&◌, ◌==◌, not, nat_le, Option, Some, None, if◌then◌else◌}
+pub use Rattle.cfg_base.specs.Bytes.{is_printing}
 use Rattle.cfg_lex.specs.declared.token.TokenKind.{TokenKind}
 use Rattle.cfg_lex.specs.declared.token.TokenKind.TheVariants.{OpenBrace, CloseBrace, OpenBracket, CloseBracket, Semicolon}
 
@@ -17,10 +18,6 @@ is_bare b =
 -- a byte of an angle word, between its angles: bare, or a bracket
 abbrev pub is_angle_byte : ℕ → Bool
 is_angle_byte b = is_bare b || (b == 91 || b == 93)
-
--- a byte that a quoted word may have: 0x20 to 0x7E
-abbrev pub is_printing : ℕ → Bool
-is_printing b = nat_le 32 b && nat_le b 126
 
 -- a byte of a line's rest
 abbrev pub is_in_line : ℕ → Bool

@@ -3,6 +3,7 @@
 use Rattle.std.specs.Prelude.{◌≡◌, ◌⊎◌, ◌<◌, ◌≤◌, ◌+◌, ◌-◌, ℕ, List, [], ◌∷◌, ◌++◌, ◌==◌, length, take, drop}
 use Rattle.std.specs.Prelude.{min, true, false, Option, Some, None}
 use Rattle.std.specs.List.{list_all, list_any, flat_map}
+pub use Rattle.cfg_base.specs.Bytes.{between}
 use Rattle.cfg_lex.specs.declared.token.TokenKind.{TokenKind}
 use Rattle.cfg_lex.specs.declared.token.TokenKind.TheVariants.{OpenBrace, CloseBrace, OpenBracket, CloseBracket, Semicolon, Bare, Quoted}
 use Rattle.cfg_lex.specs.declared.token.Token.{Token}
@@ -29,10 +30,6 @@ pub record IsTokens (text : List ℕ) (tokens : List Token) : Type 0 where
   pub lexemes : List Lexeme
   pub whole : BeginsWith lexemes text []
   pub listed : tokens ≡ tokens_at 0 lexemes
-
--- the bytes that stand between the first and the last
-abbrev pub between : List ℕ → List ℕ
-between bytes = take (length bytes - 2) (drop 1 bytes)
 
 -- the word that a token's bytes mean; of a token that is no word the empty one
 abbrev pub word_spelled : TokenKind → List ℕ → List ℕ
@@ -121,12 +118,16 @@ FaultAt text cause.OpenComment offset = IsOpenComment text × (offset ≡ 0)
 FaultAt text cause.OpenQuote offset = IsOpenQuote text × (offset ≡ 0)
 FaultAt text cause.LongWord offset = IsLong text × (offset ≡ 0)
 
--- a fault with its place; a place that 32 bits can't hold is reported as the last that they can
+-- a number in 32 bits; one that they can't hold is reported as the last that they can
+abbrev pub capped : ℕ → ℕ
+capped n = min n 4294967295
+
+-- a fault with its place
 abbrev pub fault_at : Cause → ℕ → LexFault
-fault_at cause.BadByte place = BadByte (min place 4294967295)
-fault_at cause.OpenComment place = OpenComment (min place 4294967295)
-fault_at cause.OpenQuote place = OpenQuote (min place 4294967295)
-fault_at cause.LongWord place = LongWord (min place 4294967295)
+fault_at cause.BadByte place = BadByte (capped place)
+fault_at cause.OpenComment place = OpenComment (capped place)
+fault_at cause.OpenQuote place = OpenQuote (capped place)
+fault_at cause.LongWord place = LongWord (capped place)
 
 -- the leftmost fault of a text: lexemes stand up to where it is
 pub record IsLeftmostFault (text : List ℕ) (fault : LexFault) : Type 0 where

@@ -1,5 +1,5 @@
-ghost use Rattle.std.specs.Prelude.{◌≡◌, min};
-ghost use Rattle.cfg_lex.specs.Tokens.{fault_at};
+ghost use Rattle.std.specs.Prelude.{◌≡◌};
+ghost use Rattle.cfg_lex.specs.Tokens.{capped, fault_at};
 ghost use Rattle.cfg_lex.specs.declared.fault.LexFault.TheVariants.{NoMemory};
 
 use thiserror::Error;
@@ -38,7 +38,7 @@ pub(crate) enum Cause {
 
 /// A place in 32 bits.
 fn capped(place: usize) -> u32
-    ensures { result ≡ min place 4294967295 }
+    ensures { result ≡ capped place }
 {
     u32::try_from(place).unwrap_or(u32::MAX)
 }

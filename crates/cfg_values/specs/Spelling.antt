@@ -1,9 +1,10 @@
 -- What the spellings of each kind of value stand for, and how each value is spelled in one way.
 -- The kinds and their ranges are this project's own.
-use Rattle.std.specs.Prelude.{◌≡◌, ◌≤◌, ℕ, List, length, nat_le, ◌&&◌, Bool, IsTrue, Contains, Result, MatchResult}
+use Rattle.std.specs.Prelude.{◌≡◌, ◌≤◌, ℕ, List, length, IsTrue, Contains, Result, MatchResult}
 use Rattle.std.specs.List.{list_all}
 use Rattle.std.specs.Fmt.{decimal}
 use Rattle.cfg_base.specs.Kind.{IsName, IsHost}
+use Rattle.cfg_base.specs.Bytes.{is_printing}
 use Rattle.cfg_base.specs.declared.kind.Kind.{Kind}
 use Rattle.cfg_base.specs.declared.kind.Kind.TheVariants.{Name, Host, Text, Address, Prefix, Prefix6, Area, IfName, IfUnit, Number, OneOf}
 use Rattle.cfg_values.specs.declared.fault.ValueFault.{ValueFault}
@@ -14,14 +15,10 @@ use Rattle.cfg_values.specs.Address6.{Network6, IsPrefix6, prefix6_text}
 use Rattle.cfg_values.specs.Interface.{IsInterface, IsUnits, Units, units_text}
 use Rattle.cfg_values.specs.Choice.{words_of}
 
--- a space, or another printable byte of ASCII
-abbrev pub is_text_byte : ℕ → Bool
-is_text_byte b = nat_le 32 b && nat_le b 126
-
--- 0 to 255 such bytes
+-- 0 to 255 bytes that are printed
 pub record IsText (bytes : List ℕ) : Type 0 where
   pub short : length bytes ≤ 255
-  pub each : IsTrue (list_all is_text_byte bytes)
+  pub each : IsTrue (list_all is_printing bytes)
 
 -- what a value of the kind is: its own bytes, four numbers, those or eight groups and a length, units or a number
 abbrev pub ValueOf : Kind → Type 0

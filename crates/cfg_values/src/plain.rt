@@ -1,8 +1,9 @@
 //! The kinds whose spellings are kept as they are read.
 ghost use Rattle.std.specs.Prelude.{◌≡◌, ◌≤◌, ◌↔◌, length, IsTrue, IfOk};
 ghost use Rattle.std.specs.List.{list_all};
+ghost use Rattle.cfg_base.specs.Bytes.{is_printing};
 ghost use Rattle.cfg_base.specs.Kind.{IsHost, is_host_byte};
-ghost use Rattle.cfg_values.specs.Spelling.{IsText, is_text_byte, IsSpelling, IsCanonical, IsAnswer};
+ghost use Rattle.cfg_values.specs.Spelling.{IsText, IsSpelling, IsCanonical, IsAnswer};
 
 use crate::fault::ValueFault;
 use cfg_base::{Kind, NoMemory, Word};
@@ -17,8 +18,8 @@ fn is_host_byte(byte: u8) -> bool
     byte.is_ascii_alphanumeric() || matches!(byte, b'.' | b'-' | b'_')
 }
 
-fn is_text_byte(byte: u8) -> bool
-    ensures { result ≡ is_text_byte byte }
+fn is_printing(byte: u8) -> bool
+    ensures { result ≡ is_printing byte }
 {
     matches!(byte, b' '..=b'~')
 }
@@ -37,9 +38,9 @@ pub fn is_host(bytes: &[u8]) -> bool
 }
 
 fn all_text_bytes(bytes: &[u8]) -> bool
-    ensures { result ≡ list_all is_text_byte bytes.now }
+    ensures { result ≡ list_all is_printing bytes.now }
 {
-    bytes.iter().all(|&byte| is_text_byte(byte))
+    bytes.iter().all(|&byte| is_printing(byte))
 }
 
 /// Whether the bytes are a text.
