@@ -1,9 +1,10 @@
 -- An expansion: what stands at each path once groups are applied, and from whom. Junos OS CLI User Guide, on displaying inherited
 -- configuration. That an empty group means a statement of the configuration itself is this project's own.
-use Rattle.std.specs.Prelude.{ℕ, List, ◌≤◌, refl}
+use Rattle.std.specs.Prelude.{ℕ, List, [], ◌≤◌, refl}
 use Rattle.std.specs.FinMap as map
 use Rattle.std.specs.Coded.{Coded, code_by, coded×, coded_list}
 use Rattle.cfg_base.specs.Order.{path_cmp}
+use Rattle.cfg_base.specs.declared.value.Value.{Value}
 use Rattle.cfg_tree.specs.declared.full.Given.{Given}
 use Rattle.cfg_tree.specs.declared.limit.TheConstants.{MAX_EXPANDED}
 use Rattle.cfg_tree.specs.Statements.{word_code, step_code}
@@ -24,6 +25,10 @@ given_code =
 
 abbrev pub expansion_code : Coded Expansion
 expansion_code = map.code (coded_list step_code) given_code
+
+-- what is given at the path of a statement of the configuration's own
+abbrev pub own_given : Value → Given
+own_given value = record { words = value.words; order = value.order; group = [] }
 
 -- an expansion has so many paths at most
 abbrev pub IsWithin : Expansion → Type 0
