@@ -1,11 +1,12 @@
 -- What a line asks, in operational and in configuration mode.
 -- Junos OS CLI User Guide, on the commands of operational and of configuration mode; the places of faults are this project's own.
-use Rattle.std.specs.Prelude.{◌≡◌, ◌⊎◌, ◌<◌, ◌≤◌, ◌+◌, ℕ, List, [], ◌∷◌, length, map, min, take, drop, Bool}
+use Rattle.std.specs.Prelude.{◌≡◌, ◌⊎◌, ◌<◌, ◌≤◌, ◌+◌, ℕ, List, [], ◌∷◌, length, map, take, drop, Bool}
 use Rattle.std.specs.Prelude.{Option, None, Some, Result, Ok, Err}
 use Rattle.cfg_lex.specs.declared.token.Token.{Token}
 use Rattle.cfg_lex.specs.declared.fault.LexFault.{LexFault}
 use Rattle.cfg_lex.specs.declared.fault.LexFault.TheVariants as lex
 use Rattle.cfg_lex.specs.Tokens.{IsCut}
+pub use Rattle.cfg_lex.specs.Tokens.{capped}
 use Rattle.shell_words.specs.declared.form.CommandForm.{CommandForm}
 use Rattle.shell_words.specs.declared.making.Words0.{Words0}
 use Rattle.shell_words.specs.declared.reader.ReadFault.{ReadFault}
@@ -18,10 +19,6 @@ use Rattle.shell_words.specs.Made.{made_by}
 abbrev pub first_place : List Item → ℕ → ℕ
 first_place [] end = end
 first_place (item ∷ items) end = item.place
-
--- a place as a fault gives it
-abbrev pub capped : ℕ → ℕ
-capped place = min place 4294967295
 
 -- a line of these tokens is in a form, and this is what it asks
 pub record AsksByForm (configuring : Bool) (items : List Item) (answer : Result (Option Words0) ℕ) : Type 0 where
