@@ -4,6 +4,7 @@ use Rattle.std.proofs.Common.{◌≡◌, ◌≢◌, ℕ, Bool, true, false, not,
 use Rattle.std.specs.Prelude.{◌&&◌, ◌||◌, flat_map}
 use Rattle.std.specs.FinMap as finite
 use Rattle.std.specs.List.{AllByRecursion}
+use Rattle.cfg_base.specs.Words.{lists}
 use Rattle.cfg_base.specs.declared.path.Step.{Step}
 use Rattle.cfg_base.specs.declared.value.Value.{Value}
 use Rattle.cfg_schema.specs.Profile.{same_word}
@@ -15,7 +16,7 @@ use Rattle.cfg_tree.specs.Children.{is_child, order_in}
 use Rattle.cfg_tree.specs.Full.{Expansion}
 use Rattle.cfg_tree.specs.declared.full.Given.{Given}
 use Rattle.group_expand.specs.Live.{Look, is_active, is_live, live_from, live_words, words_of}
-use Rattle.group_expand.specs.Sources.{Source, source, groups_step, apply_step, except_step, has_word, fits_wildcard, fitting_below, fitting_from, fitting, live_ones, applied, excepted, sources_by, sources, is_outside, is_plain, outward_from, outward}
+use Rattle.group_expand.specs.Sources.{Source, source, groups_step, apply_step, except_step, fits_wildcard, fitting_below, fitting_from, fitting, live_ones, applied, excepted, sources_by, sources, is_outside, is_plain, outward_from, outward}
 use Rattle.group_expand.specs.Expansion.{Gift, is_apply, is_own, first_gift, gift_of, gift_at, order_by, inherited_names, IsExpansionOf}
 use Rattle.group_expand.proofs.KeysLemmas.{passing_same}
 use Rattle.group_expand.proofs.PlacedLemmas.{child_split}
@@ -42,7 +43,7 @@ module _ (M N : Look) (J K : List Step → List Step)
     (inside : (s : Step) (r : List Step) → in_part s ≡ true → M (s ∷ r) ≡ N (s ∷ r))
     (apply_in : in_part apply_step ≡ true) (except_in : in_part except_step ≡ true)
     (top : M (groups_step ∷ []) ≡ N (groups_step ∷ []))
-    (given : (level : List Step) (g : List ℕ) → IsLevelIn in_part level → has_word (applied M J level) g ≡ true
+    (given : (level : List Step) (g : List ℕ) → IsLevelIn in_part level → lists (applied M J level) g ≡ true
     → (r : List Step) → M (groups_step ∷ step_of [] g ∷ r) ≡ N (groups_step ∷ step_of [] g ∷ r)) where
   live_from_same : (above rest : List Step) → ((r : List Step) → M (above ++ r) ≡ N (above ++ r)) → live_from M above rest ≡ live_from N above rest
   live_from_same above [] same = refl
@@ -172,20 +173,20 @@ module _ (M N : Look) (J K : List Step → List Step)
   read_in g alike (q ∷ qs) h = (ap M h.0.1 ∙ alike h.0.0 ∙ sym (ap N h.0.1), read_in g alike qs h.1)
 
   -- a word of a list is one of these
-  words_had : (ws front gs : List (List ℕ)) → front ++ gs ≡ ws → AllByRecursion (λ g. has_word ws g ≡ true) gs
+  words_had : (ws front gs : List (List ℕ)) → front ++ gs ≡ ws → AllByRecursion (λ g. lists ws g ≡ true) gs
   words_had ws front [] e = tt
-  words_had ws front (g ∷ gs) e = (ap (λ (us : List (List ℕ)). has_word us g) (sym e) ∙ among front, words_had ws (front ++ g ∷ []) gs (append_assoc front (g ∷ []) gs ∙ e))
+  words_had ws front (g ∷ gs) e = (ap (λ (us : List (List ℕ)). lists us g) (sym e) ∙ among front, words_had ws (front ++ g ∷ []) gs (append_assoc front (g ∷ []) gs ∙ e))
     where
-      among : (fs : List (List ℕ)) → has_word (fs ++ g ∷ gs) g ≡ true
-      among [] = ap (λ (b : Bool). b || has_word gs g) (same_is g g refl)
+      among : (fs : List (List ℕ)) → lists (fs ++ g ∷ gs) g ≡ true
+      among [] = ap (λ (b : Bool). b || lists gs g) (same_is g g refl)
       among (f ∷ fs) = either (same_word g f) (among fs)
         where
-          either : (b : Bool) → has_word (fs ++ g ∷ gs) g ≡ true → (b || has_word (fs ++ g ∷ gs) g) ≡ true
+          either : (b : Bool) → lists (fs ++ g ∷ gs) g ≡ true → (b || lists (fs ++ g ∷ gs) g) ≡ true
           either true h = refl
           either false h = h
 
   module _ (s : Step) (rest : List Step) (e : in_part s ≡ true) where
-    brought_same : (level : List Step) → IsLevelIn in_part level → (gs : List (List ℕ)) → AllByRecursion (λ g. has_word (applied M J level) g ≡ true) gs → (t : List ℕ → Bool)
+    brought_same : (level : List Step) → IsLevelIn in_part level → (gs : List (List ℕ)) → AllByRecursion (λ g. lists (applied M J level) g ≡ true) gs → (t : List ℕ → Bool)
         → (flat_map (λ g. map (source g) (fitting M J g (s ∷ rest))) (filter t gs) ≡ flat_map (λ g. map (source g) (fitting N K g (s ∷ rest))) (filter t gs))
         × AreRead (flat_map (λ g. map (source g) (fitting M J g (s ∷ rest))) (filter t gs))
     brought_same level l [] h t = (refl, tt)
@@ -209,17 +210,17 @@ module _ (M N : Look) (J K : List Step → List Step)
         → (sources_by M J (λ g. fitting M J g (s ∷ rest)) out levels ≡ sources_by N K (λ g. fitting N K g (s ∷ rest)) out levels) × AreRead (sources_by M J (λ g. fitting M J g (s ∷ rest)) out levels)
     by_same [] h out = (refl, tt)
     by_same (level ∷ levels) h out =
-        let t : List ℕ → Bool = λ g. not (has_word (excepted M J level) g || out g)
+        let t : List ℕ → Bool = λ g. not (lists (excepted M J level) g || out g)
         in let here = brought_same level h.0 (applied M J level) (words_had (applied M J level) [] (applied M J level) refl) t
-        in let more = by_same levels h.1 (λ g. has_word (excepted M J level) g || out g)
+        in let more = by_same levels h.1 (λ g. lists (excepted M J level) g || out g)
         in (
-          ap (λ (xs : List Source). xs ++ sources_by M J (λ g. fitting M J g (s ∷ rest)) (λ g. has_word (excepted M J level) g || out g) levels) here.0
+          ap (λ (xs : List Source). xs ++ sources_by M J (λ g. fitting M J g (s ∷ rest)) (λ g. lists (excepted M J level) g || out g) levels) here.0
               ∙ ap (λ (xs : List Source). flat_map (λ g. map (source g) (fitting N K g (s ∷ rest))) (filter t (applied M J level)) ++ xs) more.0
-              ∙ ap (λ (ws : List (List ℕ)). flat_map (λ g. map (source g) (fitting N K g (s ∷ rest))) (filter (λ g. not (has_word (excepted M J level) g || out g)) ws)
-              ++ sources_by N K (λ g. fitting N K g (s ∷ rest)) (λ g. has_word (excepted M J level) g || out g) levels) (applied_same level h.0)
-              ∙ ap (λ (ws : List (List ℕ)). flat_map (λ g. map (source g) (fitting N K g (s ∷ rest))) (filter (λ g. not (has_word ws g || out g)) (applied N K level))
-              ++ sources_by N K (λ g. fitting N K g (s ∷ rest)) (λ g. has_word ws g || out g) levels) (excepted_same level h.0),
-          read_both (flat_map (λ g. map (source g) (fitting M J g (s ∷ rest))) (filter t (applied M J level))) (sources_by M J (λ g. fitting M J g (s ∷ rest)) (λ g. has_word (excepted M J level) g || out g) levels) here.1 more.1,
+              ∙ ap (λ (ws : List (List ℕ)). flat_map (λ g. map (source g) (fitting N K g (s ∷ rest))) (filter (λ g. not (lists (excepted M J level) g || out g)) ws)
+              ++ sources_by N K (λ g. fitting N K g (s ∷ rest)) (λ g. lists (excepted M J level) g || out g) levels) (applied_same level h.0)
+              ∙ ap (λ (ws : List (List ℕ)). flat_map (λ g. map (source g) (fitting N K g (s ∷ rest))) (filter (λ g. not (lists ws g || out g)) (applied N K level))
+              ++ sources_by N K (λ g. fitting N K g (s ∷ rest)) (λ g. lists ws g || out g) levels) (excepted_same level h.0),
+          read_both (flat_map (λ g. map (source g) (fitting M J g (s ∷ rest))) (filter t (applied M J level))) (sources_by M J (λ g. fitting M J g (s ∷ rest)) (λ g. lists (excepted M J level) g || out g) levels) here.1 more.1,
         )
 
     levels_in : (above : List Step) (inner : List (List Step)) (more : List Step) → AllByRecursion (IsLevelIn in_part) inner
@@ -338,7 +339,7 @@ module _ (M N : Look) (J K : List Step → List Step)
     (kids_same : (q : List Step) → ((s : Step) → M (q ++ s ∷ []) ≡ N (q ++ s ∷ [])) → J q ≡ K q)
     (outside : (q : List Step) → is_outside q ≡ true → M q ≡ N q)
     (top : M (groups_step ∷ []) ≡ N (groups_step ∷ []))
-    (given : (level : List Step) (g : List ℕ) → is_outside level ≡ true → has_word (applied M J level) g ≡ true
+    (given : (level : List Step) (g : List ℕ) → is_outside level ≡ true → lists (applied M J level) g ≡ true
     → (r : List Step) → M (groups_step ∷ step_of [] g ∷ r) ≡ N (groups_step ∷ step_of [] g ∷ r)) where
   open_gift : (s : Step) (rest : List Step) → is_open s ≡ true → gift_at M J (s ∷ rest) ≡ gift_at N K (s ∷ rest)
   open_gift = gift_same M N J K kids_same is_open (λ s r e. outside (s ∷ r) e) refl refl top (λ level g l. given level g (open_level level l))

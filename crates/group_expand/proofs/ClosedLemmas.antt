@@ -2,9 +2,10 @@
 use Rattle.std.proofs.Common.{◌≡◌, ◌≢◌, ◌⊎◌, inl, inr, ◌<◌, Bool, true, false, not, cond, List, [], ◌∷◌, ◌++◌, length, filter, map, refl, sym, ap, subst, ◌∙◌, arith, Some, is_some}
 use Rattle.std.specs.Prelude.{IsSome, ◌&&◌, ◌||◌}
 use Rattle.std.specs.List.{flat_map, list_any}
+use Rattle.cfg_base.specs.Words.{lists}
 use Rattle.cfg_base.specs.declared.path.Step.{Step}
 use Rattle.group_expand.specs.Live.{Look, is_live, live_from, live_words, words_of}
-use Rattle.group_expand.specs.Sources.{source, apply_step, is_wildcard, has_word, is_outside, is_plain, applied, excepted, fitting, fitting_below, sources}
+use Rattle.group_expand.specs.Sources.{source, apply_step, is_wildcard, is_outside, is_plain, applied, excepted, fitting, fitting_below, sources}
 use Rattle.group_expand.specs.Expansion.{is_apply, is_own, first_gift, gift_at}
 use Rattle.group_expand.specs.Front.{grown, raw, front, applied_at, kept_at}
 use Rattle.group_expand.proofs.FrontLemmas.{raw_more}
@@ -72,10 +73,10 @@ module _ (look : Look) (kids : List Step → List Step) where
   front_some apart p h = elim (some_of_append (flat_map (λ g. map (source g) (fitting look kids g p)) (applied_at look kids p)) (kept_at look kids p) h) [
     | inl k ↦
         let some : HasOne (applied look kids p)
-        = some_of_filter (λ g. not (has_word (excepted look kids p) g || false)) (applied look kids p) (some_of_flat (λ g. map (source g) (fitting look kids g p)) (applied_at look kids p) k)
+        = some_of_filter (λ g. not (lists (excepted look kids p) g || false)) (applied look kids p) (some_of_flat (λ g. map (source g) (fitting look kids g p)) (applied_at look kids p) k)
         in let l = words_live (p ++ apply_step ∷ []) some
         in inl (live_above look [] p apply_step l, apart p apply_step l)
-    | inr k ↦ inr (some_of_filter (λ x. not (has_word (excepted look kids p) x.group)) (raw look kids p) k)
+    | inr k ↦ inr (some_of_filter (λ x. not (lists (excepted look kids p) x.group)) (raw look kids p) k)
   ]
 
   first_full : (xs : List Source) → IsSome (first_gift look xs) → HasOne xs

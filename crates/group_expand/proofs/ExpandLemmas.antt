@@ -2,6 +2,7 @@
 use Rattle.std.proofs.Common.{◌≡◌, inl, inr, ℕ, zero, suc, ◌+◌, ◌-◌, ◌<◌, Bool, true, false, not, cond, List, [], ◌∷◌, ◌++◌, length, filter, map, refl, sym, ap, subst, ◌∙◌, arith, append_assoc, length-append, Option, Some, None, option_map}
 use Rattle.std.specs.Prelude.{IsSome, ◌||◌, flat_map}
 use Rattle.std.specs.List.{AllByRecursion}
+use Rattle.cfg_base.specs.Words.{lists}
 use Rattle.cfg_base.specs.declared.path.Step.{Step}
 use Rattle.cfg_base.specs.declared.value.Value.{Value}
 use Rattle.cfg_schema.specs.Place.{place_of}
@@ -10,7 +11,7 @@ use Rattle.cfg_tree.specs.Statements.{no_step}
 use Rattle.cfg_tree.specs.Tree.{step_of, ordered_head}
 use Rattle.group_expand.specs.Live.{Look, is_active, is_live}
 use Rattle.group_expand.specs.Sources as given
-use Rattle.group_expand.specs.Sources.{groups_step, same_step, live_ones, applied, has_word, is_outside, is_plain, is_wildcard, fitting, sources_by, outward, excepted}
+use Rattle.group_expand.specs.Sources.{groups_step, same_step, live_ones, applied, is_outside, is_plain, is_wildcard, fitting, sources_by, outward, excepted}
 use Rattle.group_expand.specs.Expansion.{Gift, gift_at}
 use Rattle.group_expand.specs.Front.{raw, front, applied_at, kept_at, steps_at}
 use Rattle.group_expand.specs.Listed.{entry_and, listed}
@@ -57,9 +58,9 @@ module _ (look : Look) (kids : List Step → List Step) where
       → AreLive (sources_by look kids found out levels)
   live_by found h [] out = tt
   live_by found h (level ∷ levels) out =
-      live_both (flat_map (λ g. map (given.source g) (found g)) (filter (λ g. not (has_word (excepted look kids level) g || out g)) (applied look kids level))) _
-      (live_brought found h (filter (λ g. not (has_word (excepted look kids level) g || out g)) (applied look kids level)))
-      (live_by found h levels (λ g. has_word (excepted look kids level) g || out g))
+      live_both (flat_map (λ g. map (given.source g) (found g)) (filter (λ g. not (lists (excepted look kids level) g || out g)) (applied look kids level))) _
+      (live_brought found h (filter (λ g. not (lists (excepted look kids level) g || out g)) (applied look kids level)))
+      (live_by found h levels (λ g. lists (excepted look kids level) g || out g))
 
   live_kept : (t : given.Source → Bool) (xs : List given.Source) → AreLive xs → AreLive (filter t xs)
   live_kept t [] h = tt
@@ -124,7 +125,7 @@ module _ (row : List StatementView) (h : IsRow row)
   front_live p =
       live_both L K (flat_map (λ g. map (given.source g) (fitting L K g p)) (applied_at L K p)) (kept_at L K p)
       (live_brought L K (λ g. fitting L K g p) (λ g. fitting_live g p) (applied_at L K p))
-      (live_kept L K (λ x. not (has_word (excepted L K p) x.group)) (raw L K p) (live_by L K (λ g. fitting L K g p) (λ g. fitting_live g p) (outward p) (λ g. false)))
+      (live_kept L K (λ x. not (lists (excepted L K p) x.group)) (raw L K p) (live_by L K (λ g. fitting L K g p) (λ g. fitting_live g p) (outward p) (λ g. false)))
 
   front_below : (p : List Step) → AllByRecursion (λ x. children_of (node_at L row x.from) ≡ kids_at L K row x.from) (front L K p)
   front_below p = each (front L K p) (front_live p)

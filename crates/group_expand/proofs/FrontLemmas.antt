@@ -3,10 +3,11 @@ use Rattle.std.proofs.Common.{◌≡◌, ℕ, Bool, true, false, not, cond, List
 use Rattle.std.specs.Prelude.{◌||◌}
 use Rattle.std.specs.List.{flat_map}
 use Rattle.std.proofs.lemmas.List.Concat.{flat_map-append}
+use Rattle.cfg_base.specs.Words.{lists}
 use Rattle.cfg_base.specs.declared.path.Step.{Step}
 use Rattle.group_expand.specs.Front.{grown, raw, front}
 use Rattle.group_expand.specs.Live.{Look, is_live}
-use Rattle.group_expand.specs.Sources.{source, has_word, fitting_below, fitting_from, fitting, applied, excepted, sources_by, outward_from, outward}
+use Rattle.group_expand.specs.Sources.{source, fitting_below, fitting_from, fitting, applied, excepted, sources_by, outward_from, outward}
 use Rattle.group_expand.specs.Sources.{Source}
 
 append_nil : {X : Type 0} (xs : List X) → xs ++ [] ≡ xs
@@ -59,7 +60,7 @@ module _ (step : List Step → List (List Step)) (found grown_to : List ℕ → 
 
 module _ (look : Look) (kids : List Step → List Step) where
   abbrev left_in : List Step → (List ℕ → Bool) → List (List ℕ)
-  left_in level out = filter (λ g. not (has_word (excepted look kids level) g || out g)) (applied look kids level)
+  left_in level out = filter (λ g. not (lists (excepted look kids level) g || out g)) (applied look kids level)
 
   module _ (step : List Step → List (List Step)) (found grown_to : List ℕ → List (List Step))
       (same : (g : List ℕ) → grown_to g ≡ flat_map step (found g)) where
@@ -67,7 +68,7 @@ module _ (look : Look) (kids : List Step → List Step) where
         → sources_by look kids grown_to out levels ≡ flat_map (grown step) (sources_by look kids found out levels)
     sources_grown out [] = refl
     sources_grown out (level ∷ levels) =
-        let more : List ℕ → Bool = λ g. has_word (excepted look kids level) g || out g
+        let more : List ℕ → Bool = λ g. lists (excepted look kids level) g || out g
         in ap (λ (xs : List Source). xs ++ sources_by look kids grown_to more levels) (brought_grown step found grown_to same (left_in level out))
         ∙ ap (λ (xs : List Source). flat_map (grown step) (brought found (left_in level out)) ++ xs) (sources_grown more levels)
         ∙ sym (flat_map-append (grown step) (brought found (left_in level out)) (sources_by look kids found more levels))
@@ -125,7 +126,7 @@ module _ (look : Look) (kids : List Step → List Step) where
         → sources_by look kids found (λ g. e g || out g) levels ≡ filter stays (sources_by look kids found out levels)
     sources_left out [] = refl
     sources_left out (level ∷ levels) =
-        let at_level : List ℕ → Bool = λ g. has_word (excepted look kids level) g
+        let at_level : List ℕ → Bool = λ g. lists (excepted look kids level) g
         in let both : (λ (g : List ℕ). at_level g || (e g || out g)) ≡ (λ (g : List ℕ). e g || (at_level g || out g)) = λ i g. swapped (at_level g) (e g) (out g) i
         in ap (λ (t : List ℕ → Bool). brought found (filter (λ g. not (t g)) (applied look kids level)) ++ sources_by look kids found t levels) both
         ∙ ap (λ (xs : List Source). xs ++ sources_by look kids found (λ g. e g || (at_level g || out g)) levels) (left_out (λ g. at_level g || out g) (applied look kids level))
@@ -135,8 +136,8 @@ module _ (look : Look) (kids : List Step → List Step) where
   front_is : (p : List Step) → sources_by look kids (λ g. fitting look kids g p) (λ g. false) (p ∷ outward p) ≡ front look kids p
   unfolding front
   front_is p =
-      ap (λ (xs : List Source). brought (λ g. fitting look kids g p) (filter (λ g. not (has_word (excepted look kids p) g || false)) (applied look kids p)) ++ xs)
-      (sources_left (λ g. fitting look kids g p) (λ g. has_word (excepted look kids p) g) (λ g. false) (outward p))
+      ap (λ (xs : List Source). brought (λ g. fitting look kids g p) (filter (λ g. not (lists (excepted look kids p) g || false)) (applied look kids p)) ++ xs)
+      (sources_left (λ g. fitting look kids g p) (λ g. lists (excepted look kids p) g) (λ g. false) (outward p))
 
   -- a child's sources are what the front of its parent brings one step further down, in order
   pub raw_more : (p : List Step) (s : Step)

@@ -14,7 +14,7 @@ use Rattle.cfg_tree.specs.Children.{step_if}
 use Rattle.cfg_tree.proofs.MapLemmas as maps
 use Rattle.group_expand.specs.Live.{Look, is_active, is_live, live_from, words_of, live_words}
 use Rattle.group_expand.specs.Sources as given
-use Rattle.group_expand.specs.Sources.{same_step, groups_step, apply_step, except_step, has_word, fits_wildcard, fitting_below, fitting_from, fitting, live_ones, applied, excepted}
+use Rattle.group_expand.specs.Sources.{same_step, groups_step, apply_step, except_step, fits_wildcard, fitting_below, fitting_from, fitting, live_ones, applied, excepted}
 use Rattle.group_expand.specs.Front.{raw, front, applied_at, kept_at, live_kids}
 use Rattle.group_expand.specs.Row.{StatementView}
 use Rattle.group_expand.specs.Node.{Node, children_of}
@@ -196,11 +196,11 @@ module _ (look : Look) (kids : List Step → List Step) (row : List StatementVie
 
   applied_told : (p : List Step) → is_live look p ≡ true → (gone ws : List (List ℕ))
       → applied_sources (kids_at look kids row (groups_step ∷ [])) p gone ws
-      ≡ map (placed look row) (flat_map (λ g. map (given.source g) (fitting look kids g p)) (filter (λ g. not (has_word gone g || false)) ws))
+      ≡ map (placed look row) (flat_map (λ g. map (given.source g) (fitting look kids g p)) (filter (λ g. not (lists gone g || false)) ws))
   applied_told p live gone ws =
-      (let same : (λ (g : List ℕ). not (lists gone g)) ≡ (λ (g : List ℕ). not (has_word gone g || false)) = λ i g. not_or (lists gone g) i
+      (let same : (λ (g : List ℕ). not (lists gone g)) ≡ (λ (g : List ℕ). not (lists gone g || false)) = λ i g. not_or (lists gone g) i
       in ap (λ (t : List ℕ → Bool). flat_map (brought_by (kids_at look kids row (groups_step ∷ [])) p) (filter t ws)) same)
-      ∙ each (filter (λ g. not (has_word gone g || false)) ws)
+      ∙ each (filter (λ g. not (lists gone g || false)) ws)
     where
       each : (gs : List (List ℕ)) → flat_map (brought_by (kids_at look kids row (groups_step ∷ [])) p) gs
           ≡ map (placed look row) (flat_map (λ g. map (given.source g) (fitting look kids g p)) gs)
@@ -231,7 +231,7 @@ module _ (look : Look) (kids : List Step → List Step) (row : List StatementVie
       told false dead =
           ap (λ (ws : List (List ℕ)). applied_sources (kids_at look kids row (groups_step ∷ [])) p (excepted look kids p) ws ++ flat_map (kept_of (excepted look kids p)) run) (dead_words p apply_step dead)
           ∙ keeps (excepted look kids p)
-          ∙ sym (ap (λ (ws : List (List ℕ)). map (placed look row) (flat_map (λ g. map (given.source g) (fitting look kids g p)) (filter (λ g. not (has_word (excepted look kids p) g || false)) ws) ++ kept_at look kids p)) (dead_words p apply_step dead))
+          ∙ sym (ap (λ (ws : List (List ℕ)). map (placed look row) (flat_map (λ g. map (given.source g) (fitting look kids g p)) (filter (λ g. not (lists (excepted look kids p) g || false)) ws) ++ kept_at look kids p)) (dead_words p apply_step dead))
 
       words_told : (b : Bool) → is_live look p ≡ b → (s : Step) → words_with s (cond b (kids_at look kids row p) []) ≡ live_words look (p ++ s ∷ [])
       words_told true live s = words_at p s

@@ -4,6 +4,7 @@ use Rattle.std.specs.Prelude.{◌&&◌, ◌||◌, flat_map}
 use Rattle.std.specs.FinMap as finite
 use Rattle.std.specs.List.{AllByRecursion, list_any}
 use Rattle.std.specs.Ordering.{eq_by_cmp}
+use Rattle.cfg_base.specs.Words.{lists}
 use Rattle.cfg_base.specs.Order.{path_cmp}
 use Rattle.cfg_base.specs.declared.path.Step.{Step}
 use Rattle.cfg_base.specs.declared.value.Value.{Value}
@@ -15,7 +16,7 @@ use Rattle.cfg_tree.specs.Children.{is_child, order_in, steps_below}
 use Rattle.cfg_tree.specs.Full.{Expansion}
 use Rattle.cfg_tree.proofs.MapLemmas.{same_path}
 use Rattle.group_expand.specs.Live.{Look, is_active, is_live, words_of}
-use Rattle.group_expand.specs.Sources.{Source, source, groups_step, fitting_from, fitting, applied, excepted, has_word, sources_by, is_outside, is_plain, outward}
+use Rattle.group_expand.specs.Sources.{Source, source, groups_step, fitting_from, fitting, applied, excepted, sources_by, is_outside, is_plain, outward}
 use Rattle.group_expand.specs.Expansion.{Gift, is_own, first_gift, gift_at, own_part, own_order, order_by, inherited_names, IsExpansion, IsLivePart}
 use Rattle.group_expand.proofs.NodeLemmas.{append_nothing}
 use Rattle.group_expand.proofs.SourceLemmas.{some_gift}
@@ -37,9 +38,9 @@ module _ (look : Look) (kids : List Step → List Step) (none : look (groups_ste
   no_sources : (p : List Step) (levels : List (List Step)) (out : List ℕ → Bool) → sources_by look kids (λ g. fitting look kids g p) out levels ≡ []
   no_sources p [] out = refl
   no_sources p (level ∷ levels) out =
-      ap (λ (xs : List Source). xs ++ sources_by look kids (λ g. fitting look kids g p) (λ g. has_word (excepted look kids level) g || out g) levels)
-      (no_brought p (filter (λ g. not (has_word (excepted look kids level) g || out g)) (applied look kids level)))
-      ∙ no_sources p levels (λ g. has_word (excepted look kids level) g || out g)
+      ap (λ (xs : List Source). xs ++ sources_by look kids (λ g. fitting look kids g p) (λ g. lists (excepted look kids level) g || out g) levels)
+      (no_brought p (filter (λ g. not (lists (excepted look kids level) g || out g)) (applied look kids level)))
+      ∙ no_sources p levels (λ g. lists (excepted look kids level) g || out g)
 
   pub gift_own : (p : List Step) → gift_at look kids p ≡ own_part look p
   gift_own p = ap (λ (o : Option Gift). cond (is_own look p) (Some (record { words = words_of (look p); group = [] })) o) (ap (first_gift look) (by_test (is_outside p && is_plain p)))

@@ -3,6 +3,7 @@ use Rattle.std.proofs.Common.{◌≡◌, ℕ, Bool, true, false, not, cond, List
 use Rattle.std.specs.Prelude.{◌&&◌, flat_map}
 use Rattle.std.specs.List.{AllByRecursion}
 use Rattle.std.specs.Ordering.{eq_by_cmp}
+use Rattle.cfg_base.specs.Bytes.{between}
 use Rattle.cfg_base.specs.Order.{step_cmp}
 use Rattle.cfg_base.specs.declared.path.Step.{Step}
 use Rattle.cfg_base.specs.declared.value.Value.{Value}
@@ -12,7 +13,7 @@ use Rattle.cfg_tree.specs.Children.{step_if}
 use Rattle.group_expand.specs.Live.{Look, is_active, is_live}
 use Rattle.group_expand.specs.Sources as given
 use Rattle.glob_name.specs.Glob.{glob}
-use Rattle.group_expand.specs.Sources.{inner_of, is_wildcard, fits_wildcard, fitting_below, live_ones}
+use Rattle.group_expand.specs.Sources.{is_wildcard, fits_wildcard, fitting_below, live_ones}
 use Rattle.group_expand.specs.Front.{grown, front, live_kids}
 use Rattle.group_expand.specs.Row.{StatementView}
 use Rattle.group_expand.specs.Node.{Node, children_of}
@@ -168,8 +169,8 @@ module _ (look : Look) (kids : List Step → List Step) (row : List StatementVie
         where
           unfit : fits_wildcard s (last_of n.path) ≡ false
           unfit =
-              ap (λ (c : Bool). same_word s.head (last_of n.path).head && (c && glob (inner_of (last_of n.path).name) s.name)) e
-              ∙ no_fit (same_word s.head (last_of n.path).head) (glob (inner_of (last_of n.path).name) s.name)
+              ap (λ (c : Bool). same_word s.head (last_of n.path).head && (c && glob (between (last_of n.path).name) s.name)) e
+              ∙ no_fit (same_word s.head (last_of n.path).head) (glob (between (last_of n.path).name) s.name)
 
   abbrev no_offers : Step → List Offer
   no_offers r = []

@@ -5,6 +5,7 @@ use Rattle.std.specs.List.{flat_map, AllByRecursion, list_any}
 use Rattle.std.specs.FinMap as finite
 use Rattle.std.specs.FinMap.{find}
 use Rattle.std.specs.Ordering.{eq_by_cmp}
+use Rattle.cfg_base.specs.Words.{lists}
 use Rattle.cfg_base.specs.Order.{path_cmp}
 use Rattle.cfg_base.specs.declared.path.Step.{Step}
 use Rattle.cfg_base.specs.declared.path.TheConstants.{MAX_STEPS}
@@ -18,7 +19,7 @@ use Rattle.cfg_tree.proofs.MapLemmas.{same_path}
 use Rattle.cfg_tree.proofs.PathLemmas.{split}
 use Rattle.cfg_tree.proofs.FollowLemmas.{typed_place}
 use Rattle.group_expand.specs.Live.{Look, is_live, live_from, is_active}
-use Rattle.group_expand.specs.Sources.{source, groups_step, has_word, live_ones, fits_wildcard, fitting_below, fitting_from, fitting, applied, excepted, sources_by}
+use Rattle.group_expand.specs.Sources.{source, groups_step, live_ones, fits_wildcard, fitting_below, fitting_from, fitting, applied, excepted, sources_by}
 use Rattle.group_expand.specs.Expansion.{is_apply, gift_at, IsExpansion}
 use Rattle.group_expand.specs.Listed.{listed}
 use Rattle.cfg_tree.specs.declared.full.Given.{Given}
@@ -96,8 +97,8 @@ module _ (look : Look) (kids : List Step → List Step) where
   some_group : (found : List ℕ → List (List Step)) (out : List ℕ → Bool) (levels : List (List Step)) → HasOne (sources_by look kids found out levels) → (g : List ℕ) × HasOne (found g)
   some_group found out [] h = absurd (let k = h.has in omega arith)
   some_group found out (level ∷ levels) h =
-      let more : List ℕ → Bool = λ g. has_word (excepted look kids level) g || out g
-      in let here : List (List ℕ) = filter (λ g. not (has_word (excepted look kids level) g || out g)) (applied look kids level)
+      let more : List ℕ → Bool = λ g. lists (excepted look kids level) g || out g
+      in let here : List (List ℕ) = filter (λ g. not (lists (excepted look kids level) g || out g)) (applied look kids level)
       in elim (some_of_append (flat_map (λ g. map (source g) (found g)) here) (sources_by look kids found more levels) h) [
         | inl k ↦ let w = flat_has (λ g. map (source g) (found g)) here k in (w.0, unmapped w.0 (found w.0) w.1)
         | inr k ↦ some_group found more levels k

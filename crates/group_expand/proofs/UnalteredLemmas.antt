@@ -7,6 +7,7 @@ use Rattle.std.specs.List.{AllByRecursion, list_all}
 use Rattle.std.specs.List.Sorted.{IsStrictlySortedBy}
 use Rattle.std.specs.Map.{keys_of}
 use Rattle.std.specs.Ordering.{eq_by_cmp}
+use Rattle.cfg_tree.specs.Full.{own_given}
 use Rattle.cfg_base.specs.Order.{path_cmp, paths_total, is_below}
 use Rattle.cfg_base.specs.Words.{same_word, lists}
 use Rattle.cfg_base.specs.declared.path.Step.{Step}
@@ -21,7 +22,7 @@ use Rattle.cfg_tree.specs.Tree.{step_of, ordered_head, IsOrderBy}
 use Rattle.cfg_tree.proofs.MapLemmas.{same_path, same_step, path_same}
 use Rattle.group_expand.specs.Live.{Look, is_active, live_from, is_live, words_of, live_words}
 use Rattle.group_expand.specs.Sources as given
-use Rattle.group_expand.specs.Sources.{apply_step, except_step, same_step as alike, is_outside, is_plain, has_word, fitting, fitting_below, excepted, sources}
+use Rattle.group_expand.specs.Sources.{apply_step, except_step, same_step as alike, is_outside, is_plain, fitting, fitting_below, excepted, sources}
 use Rattle.group_expand.specs.Expansion.{Gift, is_apply, is_own, gift_from, first_gift, gift_at}
 use Rattle.group_expand.specs.Front.{grown, raw, front, kept_at, steps_at}
 use Rattle.group_expand.specs.Listed.{entry_and}
@@ -31,7 +32,7 @@ use Rattle.group_expand.specs.Node.{Node, inside_of}
 use Rattle.group_expand.specs.Offer.{Offer, own_offer}
 use Rattle.group_expand.specs.Runs.{is_apply_step}
 use Rattle.group_expand.specs.Placed.{map_of, value_in, node_at, offer_at, run_at, look_of, kids_of, given_below, given_for, IsRow}
-use Rattle.group_expand.specs.Unaltered.{is_unaltered, is_unaltered_node, unaltered_of, own_given, own_entry, own_entries}
+use Rattle.group_expand.specs.Unaltered.{is_unaltered, is_unaltered_node, unaltered_of, own_entry, own_entries}
 use Rattle.group_expand.proofs.FrontLemmas.{raw_more}
 use Rattle.group_expand.proofs.ClosedLemmas.{both, negated}
 use Rattle.group_expand.proofs.StepLemmas.{last_is}
@@ -87,8 +88,8 @@ no_words look p e = by_live (is_live look p)
 front_none : (look : Look) (kids : List Step → List Step) (q : List Step) → raw look kids q ≡ [] → look (q ++ apply_step ∷ []) ≡ None → front look kids q ≡ []
 unfolding front
 front_none look kids q none no_apply =
-    ap (λ (ws : List (List ℕ)). flat_map (λ g. map (given.source g) (fitting look kids g q)) (filter (λ g. not (has_word (excepted look kids q) g || false)) ws) ++ kept_at look kids q) (no_words look (q ++ apply_step ∷ []) no_apply)
-    ∙ ap (λ (xs : List given.Source). filter (λ x. not (has_word (excepted look kids q) x.group)) xs) none
+    ap (λ (ws : List (List ℕ)). flat_map (λ g. map (given.source g) (fitting look kids g q)) (filter (λ g. not (lists (excepted look kids q) g || false)) ws) ++ kept_at look kids q) (no_words look (q ++ apply_step ∷ []) no_apply)
+    ∙ ap (λ (xs : List given.Source). filter (λ x. not (lists (excepted look kids q) x.group)) xs) none
 
 raw_next : (look : Look) (kids : List Step → List Step) (q : List Step) (s : Step) → front look kids q ≡ [] → raw look kids (q ++ s ∷ []) ≡ []
 raw_next look kids q s e = raw_more look kids q s ∙ ap (flat_map (grown (fitting_below look kids (is_live look (q ++ s ∷ [])) s))) e

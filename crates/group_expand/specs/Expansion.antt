@@ -4,6 +4,7 @@ use Rattle.std.specs.Prelude.{◌≡◌, ◌≢◌, ℕ, Bool, true, false, not,
 use Rattle.std.specs.Prelude.{List, [], ◌∷◌, ◌++◌, map, filter, Option, Some, None}
 use Rattle.std.specs.FinMap as finite
 use Rattle.std.specs.Option.{option_map}
+use Rattle.cfg_base.specs.Words.{lists}
 use Rattle.cfg_base.specs.declared.path.Step.{Step}
 use Rattle.cfg_schema.specs.Profile.{same_word}
 use Rattle.cfg_schema.specs.Place.{place_of}
@@ -13,7 +14,7 @@ use Rattle.cfg_tree.specs.Full.{Expansion}
 use Rattle.cfg_tree.specs.Tree.{ordered_head, step_of}
 use Rattle.cfg_tree.specs.Children.{is_child, steps_below, order_in}
 use Rattle.group_expand.specs.Live.{Look, is_live, words_of}
-use Rattle.group_expand.specs.Sources.{groups_step, has_word, applied, apply_step, except_step, same_step, is_outside, Source, sources}
+use Rattle.group_expand.specs.Sources.{groups_step, applied, apply_step, except_step, same_step, is_outside, Source, sources}
 
 -- a statement that applies or excepts groups
 abbrev pub is_apply : List Step → Bool
@@ -95,7 +96,7 @@ pub record DifferUnapplied (m n : Statements) : Type 0 where
   pub outside : (path : List Step) → is_outside path ≡ true → finite.get m path ≡ finite.get n path
   pub groups : finite.get m (groups_step ∷ []) ≡ finite.get n (groups_step ∷ [])
   pub given : (level : List Step) (group : List ℕ) → is_outside level ≡ true
-      → has_word (applied (finite.get m) (steps_below m) level) group ≡ true
+      → lists (applied (finite.get m) (steps_below m) level) group ≡ true
       → (path : List Step) → finite.get m (in_group group path) ≡ finite.get n (in_group group path)
 
 -- two configurations are the same in a part of the top: at and below the statements there that pass a test, among them `groups` and what

@@ -2,10 +2,11 @@
 use Rattle.std.specs.Prelude.{not, ◌||◌, ℕ, false, List, [], ◌∷◌, ◌++◌, map, filter}
 use Rattle.std.specs.List.{flat_map}
 use Rattle.std.specs.BTreeSet.{insert_key}
+use Rattle.cfg_base.specs.Words.{lists}
 use Rattle.cfg_base.specs.Order.{step_cmp}
 use Rattle.cfg_base.specs.declared.path.Step.{Step}
 use Rattle.group_expand.specs.Live.{Look, is_live}
-use Rattle.group_expand.specs.Sources.{Source, source, is_wildcard, has_word, fitting, applied, excepted, sources_by, outward}
+use Rattle.group_expand.specs.Sources.{Source, source, is_wildcard, fitting, applied, excepted, sources_by, outward}
 
 -- a source, and what it brings one step further down
 abbrev pub grown : (List Step → List (List Step)) → Source → List Source
@@ -23,11 +24,11 @@ module _ (look : Look) (kids : List Step → List Step) where
 
   -- the groups applied at a path and not excepted there
   abbrev pub applied_at : List Step → List (List ℕ)
-  applied_at p = filter (λ g. not (has_word (excepted look kids p) g || false)) (applied look kids p)
+  applied_at p = filter (λ g. not (lists (excepted look kids p) g || false)) (applied look kids p)
 
   -- the path's own sources but those excepted here
   abbrev pub kept_at : List Step → List Source
-  kept_at p = filter (λ x. not (has_word (excepted look kids p) x.group)) (raw p)
+  kept_at p = filter (λ x. not (lists (excepted look kids p) x.group)) (raw p)
 
   -- what a path's children are given from: the groups that are applied here, and then the path's own sources but those excepted here
   unfoldable pub front : List Step → List Source

@@ -4,6 +4,8 @@
 use Rattle.std.specs.Prelude.{ℕ, ◌==◌, Bool, true, false, not, ◌&&◌, ◌||◌, if◌then◌else◌}
 use Rattle.std.specs.Prelude.{List, [], ◌∷◌, ◌++◌, map, filter, codes}
 use Rattle.std.specs.List.{flat_map, list_any}
+use Rattle.cfg_base.specs.Bytes.{between}
+use Rattle.cfg_base.specs.Words.{lists}
 use Rattle.cfg_base.specs.declared.path.Step.{Step}
 use Rattle.cfg_schema.specs.Profile.{same_word}
 use Rattle.cfg_tree.specs.Tree.{step_of}
@@ -24,22 +26,14 @@ except_step = step_of (codes "apply-groups-except") []
 abbrev pub same_step : Step → Step → Bool
 same_step s t = same_word s.head t.head && same_word s.name t.name
 
--- a word is one of these
-abbrev pub has_word : List (List ℕ) → List ℕ → Bool
-has_word words word = list_any (same_word word) words
-
 -- a name is a wildcard
 abbrev pub is_wildcard : List ℕ → Bool
 is_wildcard [] = false
 is_wildcard (b ∷ rest) = b == 60
 
--- what stands between the angles of a wildcard name
-abbrev pub inner_of : List ℕ → List ℕ
-inner_of name = take (length name - 2) (drop 1 name)
-
 -- a step with a wildcard name fits a step of the same head whose name the wildcard matches
 abbrev pub fits_wildcard : Step → Step → Bool
-fits_wildcard step other = same_word step.head other.head && (is_wildcard other.name && glob (inner_of other.name) step.name)
+fits_wildcard step other = same_word step.head other.head && (is_wildcard other.name && glob (between other.name) step.name)
 
 -- the paths above a path, from its parent outwards to the top
 abbrev pub outward_from : List Step → List (List Step) → List Step → List (List Step)
@@ -99,7 +93,7 @@ module _ (look : Look) (kids : List Step → List Step) where
 
   -- a group is excepted at a level, or was further in
   abbrev pub is_excepted : (List ℕ → Bool) → List Step → List ℕ → Bool
-  is_excepted further_in level group = has_word (excepted level) group || further_in group
+  is_excepted further_in level group = lists (excepted level) group || further_in group
 
   -- from the parent outwards, at each level the groups that are applied there, but those that are excepted there or were further in,
   -- and of each group what fits; `out` says which groups were excepted so far

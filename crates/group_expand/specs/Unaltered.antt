@@ -2,8 +2,8 @@
 use Rattle.std.specs.Prelude.{ℕ, Bool, not, ◌&&◌, List, [], ◌∷◌, map, Option, Some, None, if◌then◌else◌}
 use Rattle.std.specs.List.{list_all}
 use Rattle.cfg_base.specs.declared.path.Step.{Step}
-use Rattle.cfg_base.specs.declared.value.Value.{Value}
 use Rattle.cfg_tree.specs.declared.full.Given.{Given}
+use Rattle.cfg_tree.specs.Full.{own_given}
 use Rattle.group_expand.specs.Sources.{is_outside}
 use Rattle.group_expand.specs.Expansion.{is_apply}
 use Rattle.group_expand.specs.Row.{StatementView}
@@ -29,9 +29,6 @@ unaltered_of (o ∷ []) = unaltered_if o.group o.node
 unaltered_of (o ∷ other ∷ os) = None
 
 -- what such statements give
-abbrev pub own_given : Value → Given
-own_given value = record { words = value.words; order = value.order; group = [] }
-
 abbrev pub own_entry : StatementView → List Step × Given
 own_entry x = (x.path, own_given x.value)
 

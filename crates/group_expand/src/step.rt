@@ -1,8 +1,9 @@
 //! Which steps fit one another.
 
 ghost use Rattle.std.specs.Prelude.{◌≡◌, true, [], ◌||◌, codes};
+ghost use Rattle.cfg_base.specs.Bytes.{between};
 ghost use Rattle.cfg_tree.specs.Tree.{step_of};
-ghost use Rattle.group_expand.specs.Sources.{same_step, is_wildcard, inner_of, fits_wildcard, apply_step, except_step};
+ghost use Rattle.group_expand.specs.Sources.{same_step, is_wildcard, fits_wildcard, apply_step, except_step};
 
 use cfg_base::{Step, Word};
 use glob_name::matches;
@@ -20,7 +21,7 @@ pub fn is_wildcard(name: &Word) -> bool
 /// What stands between the angles of a wildcard name.
 fn inner(name: &Word) -> &[u8]
     requires { is_wildcard name.now ≡ true }
-    ensures { result.now ≡ inner_of name.now }
+    ensures { result.now ≡ between name.now }
 {
     let rest = name.as_bytes().split_at(1).1;
     rest.split_at(rest.len().saturating_sub(1)).0

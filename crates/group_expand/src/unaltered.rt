@@ -3,10 +3,11 @@
 ghost use Rattle.std.specs.Prelude.{◌≡◌, ◌<◌, ◌+◌, ◌++◌, ◌∷◌, [], map, length, IfOk, IsErrOf};
 ghost use Rattle.std.specs.List.{list_all};
 ghost use Rattle.std.specs.Option.{option_copied};
+ghost use Rattle.cfg_tree.specs.Full.{own_given};
 ghost use Rattle.cfg_tree.specs.declared.limit.TheConstants.{MAX_EXPANDED};
 ghost use Rattle.group_expand.specs.Expansion.{is_apply};
 ghost use Rattle.group_expand.specs.Unaltered.{is_unaltered, is_unaltered_node, unaltered_if, unaltered_of};
-ghost use Rattle.group_expand.specs.Unaltered.{own_given, own_entry, own_entries};
+ghost use Rattle.group_expand.specs.Unaltered.{own_entry, own_entries};
 
 use crate::fault::ExpandFault;
 use crate::given::pushed;
