@@ -15,7 +15,7 @@ use Rattle.cfg_schema.specs.Profile.{row_of, rows_below, is_level}
 use Rattle.cfg_tree.specs.declared.full.Given.{Given}
 use Rattle.cfg_tree.specs.Statements.{Statements, last_of}
 use Rattle.cfg_tree.specs.Children.{is_child, row_steps, order_in, children_at, children_of}
-use Rattle.cfg_tree.specs.Full.{Expansion}
+use Rattle.cfg_tree.specs.Full.{Expansion, own_given}
 use Rattle.cfg_tree.specs.OwnWords.{own_words}
 use Rattle.cfg_tree.proofs.MapLemmas.{path_same}
 use Rattle.cfg_lex.specs.declared.mark.Mark.TheVariants.{Inactive, Protect}
@@ -23,7 +23,7 @@ use Rattle.curly_print.specs.Printed.{ended, mark_text, spaces, statement_text, 
 use Rattle.curly_print.specs.Inherited.{full_text_at, given_below, given_children_at, given_order, given_steps, given_text, printed_full}
 use Rattle.curly_print.specs.Inheriting.{given_child_text}
 use Rattle.curly_print.specs.Printing.{child_text}
-use Rattle.curly_print.specs.Own.{own_given, IsOwn}
+use Rattle.curly_print.specs.Own.{IsOwn}
 
 -- the paths alone
 abbrev bare : {X : Type 0} → List (List Step × X) → List (List Step × Unit {0})
