@@ -6,6 +6,7 @@ use Rattle.std.proofs.Common.{append_assoc}
 use Rattle.std.proofs.lemmas.List.{append-nil, take_all, length-take}
 use Rattle.std.proofs.lemmas.Bool.{cases_lt, lt-ltb}
 use Rattle.std.proofs.Math.Dec.{eqb-suc-zero}
+use Rattle.cfg_base.specs.Bytes.{without_last_cr}
 use Rattle.io_edge.specs.declared.lines.Line.{Line}
 use Rattle.io_edge.specs.declared.lines.Line.TheVariants.{Text, TooLong, InputFull, End as AtEnd}
 use Rattle.io_edge.specs.declared.lines.Line.TheVariants.{Failed as AtFault}
@@ -14,7 +15,7 @@ use Rattle.io_edge.specs.declared.lines.Stop.TheVariants.{Lf, End, Full, Failed}
 use Rattle.io_edge.specs.declared.lines.TheConstants.{MAX_LINE}
 use Rattle.io_edge.specs.Ends.{onto, IsUsedUp, HasMore}
 use Rattle.io_edge.specs.Feed.{LinesView}
-use Rattle.io_edge.specs.Line.{HasNoLf, without_last_cr, ended_line, last_line_of, IsEndedLine}
+use Rattle.io_edge.specs.Line.{HasNoLf, ended_line, last_line_of, IsEndedLine}
 use Rattle.io_edge.specs.Line.{IsLastLine, Gives, TellsBoth, GivesLine}
 use Rattle.io_edge.specs.Reader.{GathersTo, answer_of, end_of}
 use Rattle.io_edge.proofs.EndLemmas.{onto-onto}

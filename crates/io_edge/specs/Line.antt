@@ -1,8 +1,9 @@
 -- Lines of an input. A line ends at an LF, or at the end of the input.
 -- That it has at most 4,096 bytes is this project's own.
-use Rattle.std.specs.Prelude.{◌≡◌, ◌≢◌, ◌<◌, ◌≤◌, ◌+◌, ◌-◌, ◌==◌, ◌↔◌, ℕ, List, [], ◌∷◌, ◌++◌, length, max}
-use Rattle.std.specs.Prelude.{take, slice_index, nat_lt, if◌then◌else◌, ◌⊎◌, Option, None, Some}
+use Rattle.std.specs.Prelude.{◌≡◌, ◌≢◌, ◌<◌, ◌≤◌, ◌+◌, ◌↔◌, ℕ, List, [], ◌∷◌, ◌++◌, length, max}
+use Rattle.std.specs.Prelude.{nat_lt, if◌then◌else◌, ◌⊎◌, Option, None, Some}
 use Rattle.std.specs.List.{All}
+use Rattle.cfg_base.specs.Bytes.{without_last_cr}
 use Rattle.io_edge.specs.Feed.{LinesView}
 use Rattle.io_edge.specs.declared.lines.TheConstants.{MAX_LINE}
 use Rattle.io_edge.specs.declared.lines.Line.{Line}
@@ -11,10 +12,6 @@ use Rattle.io_edge.specs.declared.lines.Line.TheVariants.{Text, TooLong, End, Fa
 -- no byte is an LF
 abbrev pub HasNoLf : List ℕ → Type 0
 HasNoLf bytes = All (λ byte. byte ≢ 10) bytes
-
--- the line without the CR at its end, where it has one
-abbrev pub without_last_cr : List ℕ → List ℕ
-without_last_cr line = if slice_index line (length line - 1) == 13 then take (length line - 1) line else line
 
 -- the answer for a line that an LF ends
 abbrev pub ended_line : List ℕ → Line

@@ -1,12 +1,13 @@
 ghost use Rattle.std.specs.Prelude.{◌≡◌, ◌<◌, ◌≤◌, ℕ, List, ◌-◌, ◌+◌, [], ◌∷◌, min, max};
 ghost use Rattle.std.specs.Prelude.{length, take, drop, IfOk, OnErr, Ok, ◌++◌, vec_len};
 ghost use Rattle.std.specs.Prelude.{vec_capacity};
+ghost use Rattle.cfg_base.specs.Bytes.{without_last_cr};
 ghost use Rattle.io_edge.specs.Ends.{onto, IsUsedUp};
 ghost use Rattle.cfg_base.specs.Counts.{Rose};
 ghost use Rattle.io_edge.specs.Taken.{taken, TakesAtMost};
 ghost use Rattle.io_edge.specs.Reader.{IsFilled, IsTakenAs, Takes, GathersTo, end_of, answer_of};
 ghost use Rattle.io_edge.specs.declared.lines.TheConstants.{MAX_LINE, KEPT};
-ghost use Rattle.io_edge.specs.Line.{GivesLine, Falls, ReadAhead, without_last_cr, ended_line, last_line_of};
+ghost use Rattle.io_edge.specs.Line.{GivesLine, Falls, ReadAhead, ended_line, last_line_of};
 
 use crate::ends::{Got, Source};
 use cfg_base::{Bytes, Limits, NoMemory};
