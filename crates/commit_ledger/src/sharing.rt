@@ -10,10 +10,16 @@ use cfg_base::NoMemory;
 use cfg_tree::Tree;
 use std::alloc::Global;
 
-/// The same map, which shares with an older one what is equal in both, where there is memory to make it so.
+/// A map of so many statements takes little memory: to share its pages would cost more than it saves.
+const SMALL: u32 = 32;
+
+/// The same map, which shares with an older one what is equal in both, where it isn't small and there is memory to make it so.
 fn shared_with(alloc: Global, older: &Tree, tree: Tree) -> Tree
     ensures { result ≡ tree }
 {
+    if tree.count() <= SMALL {
+        return tree;
+    }
     match tree.beside(alloc, older) {
         Ok(made) => made,
         Err(NoMemory) => tree,
