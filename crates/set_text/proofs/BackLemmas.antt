@@ -4,6 +4,7 @@ use Rattle.std.specs.List.{list_all, AllByRecursion}
 use Rattle.std.proofs.lemmas.Bool.{and_parts, and_from}
 use Rattle.std.proofs.lemmas.Bool.Decides.{nat_tests}
 use Rattle.std.proofs.lemmas.List.Folds.{list_all-append}
+use Rattle.cfg_base.specs.Bytes.{without_last_cr}
 use Rattle.cfg_lex.specs.declared.token.Token.{Token}
 use Rattle.cfg_lex.specs.declared.token.TokenKind.{TokenKind}
 use Rattle.cfg_lex.specs.declared.token.TokenKind.TheVariants as kind
@@ -20,7 +21,6 @@ use Rattle.commands.specs.Verb.{keyword, op_of}
 use Rattle.cfg_lex.specs.Lexed.{Lexed, is_word_kind}
 use Rattle.set_text.specs.Form.{form_of, parts_in, kinds_of, IsPlain, IsTail, words_among, Spells}
 use Rattle.set_text.specs.Lines.{lines_in, AsksChange, AreRead, AsksFor}
-use Rattle.set_text.specs.Stop.{without_cr}
 use Rattle.set_text.specs.Back.{changes_of, IsReadable, AreReadable}
 use Rattle.set_text.proofs.CutLemmas.{line_ended, without_cr_more}
 
@@ -86,7 +86,7 @@ all_in_line (b ∷ bytes) h =
     let parts = and_parts (is_printing b) (list_all is_printing bytes) h in
     and_from (is_in_line b) (list_all is_in_line bytes) (printing_in_line b parts.0) (all_in_line bytes parts.1)
 
-whole_line : (bytes : List ℕ) → list_all is_printing bytes ≡ true → without_cr bytes ≡ bytes
+whole_line : (bytes : List ℕ) → list_all is_printing bytes ≡ true → without_last_cr bytes ≡ bytes
 whole_line [] h = refl
 whole_line (b ∷ []) h = ap (λ (t : Bool). cond t [] (b ∷ [])) (no_cr b (and_parts (is_printing b) true h).0)
 whole_line (b ∷ c ∷ bytes) h =

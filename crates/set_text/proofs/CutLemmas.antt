@@ -4,10 +4,10 @@ use Rattle.std.specs.List.{list_all, prefix_len}
 use Rattle.std.proofs.lemmas.Bool.{and_parts, not-true}
 use Rattle.std.proofs.lemmas.Bool.Decides.{nat_tests}
 use Rattle.std.proofs.lemmas.List.{append-nil, take_at, take_all, drop_at, drop_more, length-drop}
+use Rattle.cfg_base.specs.Bytes.{without_last_cr}
 use Rattle.cfg_lex.specs.Bytes.{begins_with, is_in_line}
 use Rattle.cfg_lex.proofs.RunLemmas.{IsLongest, longest}
 use Rattle.set_text.specs.Lines.{in_first, with_byte, lines_in}
-use Rattle.set_text.specs.Stop.{without_cr}
 
 in_line : (b : ℕ) (bytes : List ℕ) → list_all is_in_line (b ∷ bytes) ≡ true → (eqb b 10 ≡ false) × (list_all is_in_line bytes ≡ true)
 in_line b bytes each =
@@ -35,7 +35,7 @@ one_line (b ∷ c ∷ bytes) each some =
     in_front b (c ∷ bytes) (lines_in (c ∷ bytes)) here.0 next.0
     ∙ ap (in_first b) (one_line (c ∷ bytes) here.1 (omega arith))
 
-pub without_cr_more : (b c : ℕ) (bytes : List ℕ) → without_cr (b ∷ c ∷ bytes) ≡ b ∷ without_cr (c ∷ bytes)
+pub without_cr_more : (b c : ℕ) (bytes : List ℕ) → without_last_cr (b ∷ c ∷ bytes) ≡ b ∷ without_last_cr (c ∷ bytes)
 without_cr_more b c bytes =
     let long : length (b ∷ c ∷ bytes) - 1 ≡ suc (length bytes) = omega arith in
     let short : length (c ∷ bytes) - 1 ≡ length bytes = omega arith in
@@ -48,7 +48,7 @@ without_cr_more b c bytes =
     by_case false xs ys = refl
 
 -- one byte before an LF
-single : (b : ℕ) (rest : List ℕ) (lines : List (List ℕ)) → eqb b 10 ≡ false → with_byte b (10 ∷ rest) ([] ∷ lines) ≡ without_cr (b ∷ []) ∷ lines
+single : (b : ℕ) (rest : List ℕ) (lines : List (List ℕ)) → eqb b 10 ≡ false → with_byte b (10 ∷ rest) ([] ∷ lines) ≡ without_last_cr (b ∷ []) ∷ lines
 single b rest lines no_lf =
     ap (λ t. cond t ([] ∷ [] ∷ lines) (cond (eqb b 13 && true) ([] ∷ lines) ((b ∷ []) ∷ lines))) no_lf
     ∙ by_case (eqb b 13)
@@ -58,7 +58,7 @@ single b rest lines no_lf =
     by_case false = refl
 
 -- bytes without an LF before one are a line, but for a CR at their end
-pub line_ended : (line rest : List ℕ) → list_all is_in_line line ≡ true → lines_in (line ++ 10 ∷ rest) ≡ without_cr line ∷ lines_in rest
+pub line_ended : (line rest : List ℕ) → list_all is_in_line line ≡ true → lines_in (line ++ 10 ∷ rest) ≡ without_last_cr line ∷ lines_in rest
 line_ended [] rest each = refl
 line_ended (b ∷ []) rest each = single b rest (lines_in rest) (in_line b [] each).0
 line_ended (b ∷ c ∷ bytes) rest each =
@@ -83,7 +83,7 @@ last_line text all some =
 is_lf : (b : ℕ) → is_in_line b ≡ false → b ≡ 10
 is_lf b stops = grind (arith, nat_tests)
 
-ended : (bytes : List ℕ) (count : ℕ) → IsLongest is_in_line bytes count → count < length bytes → lines_in bytes ≡ without_cr (take count bytes) ∷ lines_in (take (length bytes - (count + 1)) (drop (count + 1) bytes))
+ended : (bytes : List ℕ) (count : ℕ) → IsLongest is_in_line bytes count → count < length bytes → lines_in bytes ≡ without_last_cr (take count bytes) ∷ lines_in (take (length bytes - (count + 1)) (drop (count + 1) bytes))
 ended bytes count it within =
     let behind : it.back ≡ get_or bytes count 0 ∷ drop (count + 1) bytes =
     sym (drop_at it.front it.back count it.size) ∙ ap (drop count) (sym it.joined) ∙ drop_more bytes count 0 within in
@@ -93,11 +93,11 @@ ended bytes count it within =
     take_all (length bytes - (count + 1)) (drop (count + 1) bytes) (omega (arith, length-drop (count + 1) bytes)) in
     ap lines_in (it.joined ∙ ap (λ bs. it.front ++ bs) (behind ∙ ap (λ b. b ∷ drop (count + 1) bytes) lf))
     ∙ line_ended it.front (drop (count + 1) bytes) it.each
-    ∙ ap (λ line. without_cr line ∷ lines_in (drop (count + 1) bytes)) front
-    ∙ ap (λ bs. without_cr (take count bytes) ∷ lines_in bs) (sym rest)
+    ∙ ap (λ line. without_last_cr line ∷ lines_in (drop (count + 1) bytes)) front
+    ∙ ap (λ bs. without_last_cr (take count bytes) ∷ lines_in bs) (sym rest)
 
 -- a text with an LF: the line that it ends, and what stands after it
-pub ended_line : (text : List ℕ) (count : ℕ) (line : List ℕ) → prefix_len is_in_line text ≡ count → count < length text → line ≡ without_cr (take count text) → lines_in text ≡ line ∷ lines_in (take (length text - (count + 1)) (drop (count + 1) text))
+pub ended_line : (text : List ℕ) (count : ℕ) (line : List ℕ) → prefix_len is_in_line text ≡ count → count < length text → line ≡ without_last_cr (take count text) → lines_in text ≡ line ∷ lines_in (take (length text - (count + 1)) (drop (count + 1) text))
 ended_line text count line is within trimmed =
     ended text count (subst (IsLongest is_in_line text) is (longest is_in_line text)) within
     ∙ ap (λ l. l ∷ lines_in (take (length text - (count + 1)) (drop (count + 1) text))) (sym trimmed)

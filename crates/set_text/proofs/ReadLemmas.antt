@@ -4,7 +4,7 @@ use Rattle.std.proofs.lemmas.List.{append-nil, take_all, drop_all}
 use Rattle.commands.specs.declared.command.Op.{Op}
 use Rattle.cfg_lex.specs.declared.token.Token.{Token}
 use Rattle.cfg_lex.specs.declared.fault.LexFault.{LexFault}
-use Rattle.cfg_lex.specs.Tokens.{IsCut}
+use Rattle.cfg_lex.specs.Tokens.{IsCut, capped}
 use Rattle.set_text.specs.declared.op_lines.OpLine.{OpLine}
 use Rattle.set_text.specs.declared.stop.Stop.{Stop}
 use Rattle.set_text.specs.declared.stop.Stop.TheVariants.{At, NoMemory}
@@ -12,7 +12,7 @@ use Rattle.set_text.specs.declared.fit.Fit.TheVariants.{More}
 use Rattle.cfg_lex.specs.Lexed.{Lexed}
 use Rattle.set_text.specs.Form.{parts_in, Spells, Begins}
 use Rattle.set_text.specs.Fit.{FitsForms}
-use Rattle.set_text.specs.Lines.{told, lines_in, IsSkipped, AsksChange, StopsAt, IsRefused, AreRead}
+use Rattle.set_text.specs.Lines.{lines_in, IsSkipped, AsksChange, StopsAt, IsRefused, AreRead}
 use Rattle.set_text.specs.Stop.{IsStopOf, Says, IsReadTo}
 
 -- what a line says that isn't refused
@@ -41,7 +41,7 @@ refused_at_fault line tokens fault (At place) cut begun is = stops_last line tok
 refused_at_fault line tokens fault NoMemory cut begun is = tt
 
 -- at its end
-pub refused_at_end : (line : List ℕ) (tokens : List Token) (place : ℕ) → IsCut line tokens None → FitsForms line tokens More → length tokens == 0 ≡ false → place ≡ told (length line) → IsRefused line place
+pub refused_at_end : (line : List ℕ) (tokens : List Token) (place : ℕ) → IsCut line tokens None → FitsForms line tokens More → length tokens == 0 ≡ false → place ≡ capped (length line) → IsRefused line place
 refused_at_end line [] place cut more some is = absurd cc
 refused_at_end line (token ∷ tokens) place cut more some is = stops_last line (token ∷ tokens) None place cut more.0 (omega arith, more.1, is)
 
@@ -60,14 +60,14 @@ read_both number (x ∷ xs) ys one other (inr front) back =
       read_both (number + 1) xs ys front.1 other front.4 (subst (λ n. AreRead n ys other) (omega arith) back),
     )
 
-longer : (lines : List (List ℕ)) (line : List ℕ) (count number : ℕ) → count ≡ told (length lines) → number ≡ told (count + 1) → number ≡ told (length (lines ++ line ∷ []))
+longer : (lines : List (List ℕ)) (line : List ℕ) (count number : ℕ) → count ≡ capped (length lines) → number ≡ capped (count + 1) → number ≡ capped (length (lines ++ line ∷ []))
 longer lines line count number counted next = omega (arith, counted, next, length-append lines (line ∷ []))
 
 joined_more : (text rest behind line : List ℕ) (lines : List (List ℕ)) → lines_in text ≡ lines ++ lines_in rest → lines_in rest ≡ line ∷ lines_in behind → lines_in text ≡ (lines ++ line ∷ []) ++ lines_in behind
 joined_more text rest behind line lines joined first =
     joined ∙ ap (λ ls. lines ++ ls) first ∙ sym (append_assoc lines (line ∷ []) (lines_in behind))
 
-pub skipped_more : (text rest behind line : List ℕ) (count number : ℕ) (changes : List OpLine) → IsReadTo text rest count changes → lines_in rest ≡ line ∷ lines_in behind → number ≡ told (count + 1) → IsSkipped line → IsReadTo text behind number changes
+pub skipped_more : (text rest behind line : List ℕ) (count number : ℕ) (changes : List OpLine) → IsReadTo text rest count changes → lines_in rest ≡ line ∷ lines_in behind → number ≡ capped (count + 1) → IsSkipped line → IsReadTo text behind number changes
 skipped_more text rest behind line count number changes so_far first next skipped = record {
   lines = so_far.lines ++ line ∷ [];
   joined = joined_more text rest behind line so_far.lines so_far.joined first;
@@ -75,9 +75,9 @@ skipped_more text rest behind line count number changes so_far first next skippe
   counted = longer so_far.lines line count number so_far.counted next;
 }
 
-pub change_more : (text rest behind line : List ℕ) (count number : ℕ) (changes : List OpLine) (change : Op) → IsReadTo text rest count changes → lines_in rest ≡ line ∷ lines_in behind → number ≡ told (count + 1) → AsksChange line change → IsReadTo text behind number (changes ++ record { line = number; op = change } ∷ [])
+pub change_more : (text rest behind line : List ℕ) (count number : ℕ) (changes : List OpLine) (change : Op) → IsReadTo text rest count changes → lines_in rest ≡ line ∷ lines_in behind → number ≡ capped (count + 1) → AsksChange line change → IsReadTo text behind number (changes ++ record { line = number; op = change } ∷ [])
 change_more text rest behind line count number changes change so_far first next asks =
-    let is : number ≡ told (1 + length so_far.lines) = omega (arith, so_far.counted, next) in
+    let is : number ≡ capped (1 + length so_far.lines) = omega (arith, so_far.counted, next) in
     record {
       lines = so_far.lines ++ line ∷ [];
       joined = joined_more text rest behind line so_far.lines so_far.joined first;

@@ -1,13 +1,13 @@
 -- The lines of a text, and the changes that they ask for. Junos OS CLI User Guide, on load set; which token of a line is refused is this
 -- project's own.
-use Rattle.std.specs.Prelude.{◌≡◌, ◌⊎◌, ◌<◌, ◌≤◌, ◌+◌, ℕ, ◌==◌, ◌&&◌, List, [], ◌∷◌, ◌++◌, length, take, drop, min}
+use Rattle.std.specs.Prelude.{◌≡◌, ◌⊎◌, ◌<◌, ◌≤◌, ◌+◌, ℕ, ◌==◌, ◌&&◌, List, [], ◌∷◌, ◌++◌, length, take, drop}
 use Rattle.std.specs.Prelude.{Option, Some, None, if◌then◌else◌}
 use Rattle.commands.specs.declared.command.Op.{Op}
 use Rattle.cfg_lex.specs.declared.token.Token.{Token}
 use Rattle.cfg_lex.specs.declared.fault.LexFault.{LexFault}
 use Rattle.cfg_lex.specs.declared.fault.LexFault.TheVariants as lexical
 use Rattle.cfg_lex.specs.Bytes.{begins_with}
-use Rattle.cfg_lex.specs.Tokens.{IsCut}
+use Rattle.cfg_lex.specs.Tokens.{IsCut, capped}
 use Rattle.set_text.specs.declared.op_lines.OpLine.{OpLine}
 use Rattle.set_text.specs.declared.fault.LineFault.{LineFault}
 use Rattle.set_text.specs.declared.fault.LineFault.TheVariants as fault
@@ -26,10 +26,6 @@ with_byte b rest lines = if b == 10 then [] ∷ lines else (if b == 13 && begins
 abbrev pub lines_in : List ℕ → List (List ℕ)
 lines_in [] = []
 lines_in (b ∷ rest) = with_byte b rest (lines_in rest)
-
--- a number in 32 bits; one that they can't hold is reported as the last that they can
-abbrev pub told : ℕ → ℕ
-told n = min n 4294967295
 
 -- a line without tokens and without a lexical fault
 abbrev pub IsSkipped : List ℕ → Type 0
@@ -52,12 +48,12 @@ IsPlaceOf lexical.NoMemory place = ⊥
 -- where a line stops whose tokens all begin a line: at its lexical fault, or else at its end, where more would have to stand
 abbrev pub EndsAt : List ℕ → List Token → Option LexFault → ℕ → Type 0
 EndsAt line tokens (Some fault) place = IsPlaceOf fault place
-EndsAt line tokens None place = (0 < length tokens) × IsNoLine (parts_in line tokens) × (place ≡ told (length line))
+EndsAt line tokens None place = (0 < length tokens) × IsNoLine (parts_in line tokens) × (place ≡ capped (length line))
 
 -- where a line stops whose first tokens begin a line, so many of them: at the next one, with which they begin none
 abbrev pub StopsAt : List ℕ → List Token → ℕ → List Token → Option LexFault → ℕ → Type 0
 StopsAt line tokens count [] fault place = EndsAt line tokens fault place
-StopsAt line tokens count (token ∷ rest) fault place = ¬ (Begins (parts_in line (take (count + 1) tokens))) × (place ≡ told token.start)
+StopsAt line tokens count (token ∷ rest) fault place = ¬ (Begins (parts_in line (take (count + 1) tokens))) × (place ≡ capped token.start)
 
 -- a line of no form, and the place of what doesn't fit: the first token with which the tokens up to it begin no line, or what stands
 -- after them all
@@ -71,7 +67,7 @@ pub record IsRefused (line : List ℕ) (place : ℕ) : Type 0 where
   pub stops : StopsAt line tokens count (drop count tokens) fault place
 
 abbrev pub op_line : ℕ → Op → OpLine
-op_line number change = record { line = told number; op = change }
+op_line number change = record { line = capped number; op = change }
 
 -- the lines from a number on are skipped or ask for these changes
 abbrev pub AreRead : ℕ → List (List ℕ) → List OpLine → Type 0
@@ -93,7 +89,7 @@ pub record IsFirstRefused (text : List ℕ) (number place : ℕ) : Type 0 where
   pub changes : List OpLine
   pub read : AreRead 1 before changes
   pub refused : IsRefused line place
-  pub numbered : number ≡ told (length before + 1)
+  pub numbered : number ≡ capped (length before + 1)
 
 -- why a text asks for nothing
 abbrev pub IsLineFault : List ℕ → LineFault → Type 0

@@ -1,15 +1,12 @@
 -- What the code answers to one line. No public clause cites it.
-use Rattle.std.specs.Prelude.{◌≡◌, ℕ, List, ◌++◌, length, take, slice_index, ◌-◌, ◌==◌, if◌then◌else◌, Option, Some, None, Result, Ok, Err}
+use Rattle.std.specs.Prelude.{◌≡◌, ℕ, List, ◌++◌, length, Option, Some, None, Result, Ok, Err}
+use Rattle.cfg_lex.specs.Tokens.{capped}
 use Rattle.commands.specs.declared.command.Op.{Op}
 use Rattle.cfg_lex.specs.declared.fault.LexFault.{LexFault}
 use Rattle.set_text.specs.declared.op_lines.OpLine.{OpLine}
 use Rattle.set_text.specs.declared.stop.Stop.{Stop}
 use Rattle.set_text.specs.declared.stop.Stop.TheVariants.{At, NoMemory}
-use Rattle.set_text.specs.Lines.{told, lines_in, IsPlaceOf, IsSkipped, AsksChange, IsRefused, AreRead}
-
--- the line without the CR at its end, where it has one
-abbrev pub without_cr : List ℕ → List ℕ
-without_cr line = if slice_index line (length line - 1) == 13 then take (length line - 1) line else line
+use Rattle.set_text.specs.Lines.{lines_in, IsPlaceOf, IsSkipped, AsksChange, IsRefused, AreRead}
 
 -- what a lexical fault makes of its line
 abbrev pub IsStopOf : LexFault → Stop → Type 0
@@ -28,4 +25,4 @@ pub record IsReadTo (text rest : List ℕ) (count : ℕ) (changes : List OpLine)
   pub lines : List (List ℕ)
   pub joined : lines_in text ≡ lines ++ lines_in rest
   pub read : AreRead 1 lines changes
-  pub counted : count ≡ told (length lines)
+  pub counted : count ≡ capped (length lines)

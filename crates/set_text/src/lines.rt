@@ -2,9 +2,9 @@
 
 ghost use Rattle.std.specs.Prelude.{◌≡◌, ◌<◌, ◌≤◌, ◌∷◌, length, IfOk, IfErr};
 ghost use Rattle.std.specs.List.{prefix_len};
+ghost use Rattle.cfg_base.specs.Bytes.{without_last_cr};
 ghost use Rattle.cfg_lex.specs.Bytes.{is_in_line};
 ghost use Rattle.set_text.specs.Lines.{lines_in, AsksFor, IsLineFault};
-ghost use Rattle.set_text.specs.Stop.{without_cr};
 
 use crate::fault::LineFault;
 use crate::op_lines::{OpLine, OpLines};
@@ -13,8 +13,8 @@ use crate::stop::Stop;
 use std::alloc::Global;
 
 /// A line without the CR right before its LF.
-fn without_cr(line: &[u8]) -> &[u8]
-    ensures { result.now ≡ without_cr line.now }
+fn without_last_cr(line: &[u8]) -> &[u8]
+    ensures { result.now ≡ without_last_cr line.now }
 {
     match line {
         [front @ .., b'\r'] => front,
@@ -40,7 +40,7 @@ fn first_line(text: &[u8]) -> (&[u8], &[u8])
     if count == text.len() {
         (text, &[])
     } else {
-        (without_cr(&text[..count]), &text[count + 1..])
+        (without_last_cr(&text[..count]), &text[count + 1..])
     }
 }
 

@@ -9,7 +9,7 @@ ghost use Rattle.set_text.specs.Fit.{FitsForms};
 ghost use Rattle.set_text.specs.Stop.{Says};
 
 use crate::fit::{Fit, fit_of, words_of};
-use crate::stop::{Stop, stop_of, told};
+use crate::stop::{Stop, capped, stop_of};
 use cfg_base::Words;
 use cfg_lex::{LexFault, Token, cut_text};
 use commands::{Mover, Op, Verb};
@@ -27,7 +27,7 @@ fn read_more(line: &[u8], tokens: &[Token], fault: Option<LexFault>) -> Result<O
             if tokens.is_empty() {
                 Ok(None)
             } else {
-                Err(Stop::At(told(line.len())))
+                Err(Stop::At(capped(line.len())))
             }
         }
     }
@@ -86,7 +86,7 @@ pub(crate) fn read_line(alloc: Global, line: &[u8]) -> Result<Option<Op>, Stop>
     let cut = cut_text(alloc, line)?;
     let tokens = cut.tokens.as_slice();
     match fit_of(alloc, line, tokens)? {
-        Fit::Stops(count) => Err(Stop::At(told(tokens[count].start))),
+        Fit::Stops(count) => Err(Stop::At(capped(tokens[count].start))),
         Fit::More => read_more(line, tokens, cut.fault),
         Fit::Whole(verb) => read_whole(alloc, line, tokens, cut.fault, verb),
         Fit::Around(mover, at) => read_around(alloc, line, tokens, cut.fault, mover, at),

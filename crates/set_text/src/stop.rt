@@ -1,5 +1,5 @@
 ghost use Rattle.std.specs.Prelude.{◌≡◌};
-ghost use Rattle.set_text.specs.Lines.{told};
+ghost use Rattle.cfg_lex.specs.Tokens.{capped};
 ghost use Rattle.set_text.specs.Stop.{IsStopOf};
 ghost use Rattle.set_text.specs.declared.stop.Stop.TheVariants.{NoMemory};
 
@@ -21,8 +21,8 @@ impl From<cfg_base::NoMemory> for Stop {
 }
 
 /// A number in 32 bits.
-pub(crate) fn told(number: usize) -> u32
-    ensures { result ≡ told number }
+pub(crate) fn capped(number: usize) -> u32
+    ensures { result ≡ capped number }
 {
     u32::try_from(number).unwrap_or(u32::MAX)
 }

@@ -9,4 +9,4 @@ returns-then-count-text-clause-first c =
 pub returns-else-count-text-clause-first : goal.returns-else-count-text-clause-first
 returns-else-count-text-clause-first c =
     let within : c.line_len-count.result < length c.args.text.now = omega (arith, c.line_len-count.ensures.within, c.if-count-text.false) in
-    ended_line c.args.text.now c.line_len-count.result c.without_cr.result.now (sym c.line_len-count.ensures.length) within c.without_cr.ensures
+    ended_line c.args.text.now c.line_len-count.result c.without_last_cr.result.now (sym c.line_len-count.ensures.length) within c.without_last_cr.ensures

@@ -11,5 +11,5 @@ returns-in-Some c =
 
 pub returns-else-is_empty : goal.returns-else-is_empty
 returns-else-is_empty c =
-    refused_at_end c.args.line.now c.args.tokens.now c.told.result
-    (subst (λ (f : Option LexFault). IsCut c.args.line.now c.args.tokens.now f) c.in-None.is c.requires.cut) c.requires.more (sym c.if-is_empty.ensures) c.told.ensures
+    refused_at_end c.args.line.now c.args.tokens.now c.capped.result
+    (subst (λ (f : Option LexFault). IsCut c.args.line.now c.args.tokens.now f) c.in-None.is c.requires.cut) c.requires.more (sym c.if-is_empty.ensures) c.capped.ensures
