@@ -1,5 +1,5 @@
 -- Each text has a reading of few enough statements, or a leftmost fault, not both, and one of them.
-use Rattle.std.proofs.Common.{◌≡◌, ◌≢◌, ℕ, zero, suc, ◌+◌, ◌<◌, ◌≤◌, ◌⊎◌, min, List, [], ◌∷◌, ◌++◌, length, map, take, drop, get_or, Some, None, refl, sym, ap, subst, ◌∙◌, inl, inr, append-nil, append_assoc, arith}
+use Rattle.std.proofs.Common.{◌≡◌, ◌≢◌, ℕ, zero, suc, ◌+◌, ◌<◌, ◌≤◌, ◌⊎◌, List, [], ◌∷◌, ◌++◌, length, map, take, drop, get_or, Some, None, refl, sym, ap, subst, ◌∙◌, inl, inr, append-nil, append_assoc, arith}
 use Rattle.std.specs.Prelude.{slice_get}
 use Rattle.std.proofs.lemmas.List.{take_more, take_all, take-append-drop, take-take, length-map}
 use Rattle.std.proofs.lemmas.Option.{slice_get-get_or, slice_get_past}
@@ -12,7 +12,7 @@ use Rattle.cfg_lex.specs.declared.token.Token.{Token}
 use Rattle.cfg_lex.specs.declared.token.TokenKind.{TokenKind}
 use Rattle.cfg_lex.specs.declared.token.TokenKind.TheVariants as kind
 use Rattle.cfg_lex.specs.Lexed.{Lexed, lexed_in}
-use Rattle.cfg_lex.specs.Tokens.{IsTokens, HasAnswer}
+use Rattle.cfg_lex.specs.Tokens.{IsTokens, HasAnswer, capped}
 use Rattle.cfg_lex.specs.Tokens as lex
 use Rattle.cfg_lex.proofs.LexLemmas.{one_list}
 use Rattle.cfg_lex.proofs.LexLemmas as lexed
@@ -182,8 +182,8 @@ module _ (text : List ℕ) where
             ∙ ap (λ (r : Run). why_not r.state (slice_get (tokens_of a.tokens) a.at)) run
             ∙ sym a.why_is),
         sym (b.byte_is
-            ∙ ap (λ (ts : List Token). min (byte_of text (slice_get ts b.at)) 4294967295) tokens
-            ∙ ap (λ (k : ℕ). min (byte_of text (slice_get a.tokens k)) 4294967295) at
+            ∙ ap (λ (ts : List Token). capped (byte_of text (slice_get ts b.at))) tokens
+            ∙ ap (λ (k : ℕ). capped (byte_of text (slice_get a.tokens k))) at
             ∙ sym a.byte_is),
       )
 
@@ -312,7 +312,7 @@ module _ (text : List ℕ) where
         → (slice_get (tokens_of tokens) at ≡ None → IsFinal run.state → ⊥) → ⊥
     unrefused at run within goes not_taken not_final =
         let why = why_not run.state (slice_get (tokens_of tokens) at)
-        in let byte = min (byte_of text (slice_get tokens at)) 4294967295
+        in let byte = capped (byte_of text (slice_get tokens at))
         in faultless (of_reason why byte) (refused_fault why byte record {
           tokens = tokens;
           are_tokens = are;

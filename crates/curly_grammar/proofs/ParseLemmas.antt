@@ -1,5 +1,5 @@
 -- What is read of the tokens of a text is what it says, or its leftmost fault.
-use Rattle.std.proofs.Common.{◌≡◌, ◌≢◌, ℕ, ◌+◌, ◌<◌, ◌≤◌, min, List, [], ◌∷◌, ◌++◌, length, map, take, get_or, Option, Some, None, is_some, Result, Ok, Err, refl, sym, ap, subst, ◌∙◌, inl, inr, arith}
+use Rattle.std.proofs.Common.{◌≡◌, ◌≢◌, ℕ, ◌+◌, ◌<◌, ◌≤◌, List, [], ◌∷◌, ◌++◌, length, map, take, get_or, Option, Some, None, is_some, Result, Ok, Err, refl, sym, ap, subst, ◌∙◌, inl, inr, arith}
 use Rattle.std.specs.Prelude.{slice_get, Decides, MatchOption}
 use Rattle.std.specs.FinMap as finite
 use Rattle.std.proofs.lemmas.List.{take_more, take_all, length-map, get_or-map}
@@ -8,7 +8,7 @@ use Rattle.cfg_base.specs.declared.path.Step.{Step}
 use Rattle.cfg_lex.specs.declared.token.Token.{Token}
 use Rattle.cfg_lex.specs.declared.token.TokenKind.TheVariants as kind
 use Rattle.cfg_lex.specs.Lexed.{Lexed, lexed_in}
-use Rattle.cfg_lex.specs.Tokens.{IsTokens}
+use Rattle.cfg_lex.specs.Tokens.{IsTokens, capped}
 use Rattle.cfg_tree.specs.declared.limit.TheConstants.{MAX_STATEMENTS}
 use Rattle.cfg_tree.specs.Statements.{Statements, size_of}
 use Rattle.cfg_tree.specs.Stated.{AreSaid, different, paths_of, IsPathPast}
@@ -86,7 +86,7 @@ module _ (text : List ℕ) (tokens : List Token) (are : IsTokens text tokens) wh
       record { tokens = tokens; are_tokens = are; at = at; within = within; run = run; read = goes; many = many.0 }
   refused_parse at run why byte told within goes not_taken not_final why_is byte_is (inr (inr few)) ne =
       subst (λ (f : TextFault). IsLeftmostFault text f) (sym few.1)
-      (refused_fault text why (min byte 4294967295) record {
+      (refused_fault text why (capped byte) record {
         tokens = tokens;
         are_tokens = are;
         at = at;
@@ -95,7 +95,7 @@ module _ (text : List ℕ) (tokens : List Token) (are : IsTokens text tokens) wh
         read = goes;
         few = few.0;
         why_is = why_is;
-        byte_is = ap (λ (k : ℕ). min k 4294967295) byte_is;
+        byte_is = ap (λ (k : ℕ). capped k) byte_is;
       })
 
   -- a text that is whole

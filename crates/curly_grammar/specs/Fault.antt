@@ -1,5 +1,5 @@
 -- The leftmost fault of a text that isn't read. Its place is determined by the grammar alone. Which faults there are is this project's own.
-use Rattle.std.specs.Prelude.{◌≡◌, ◌≤◌, ◌<◌, ◌+◌, ℕ, List, [], ◌++◌, length, map, take, min, slice_get}
+use Rattle.std.specs.Prelude.{◌≡◌, ◌≤◌, ◌<◌, ◌+◌, ℕ, List, [], ◌++◌, length, map, take, slice_get}
 use Rattle.std.specs.Prelude.{Bool, true, false, Option, Some, None}
 use Rattle.cfg_base.specs.declared.path.Step.{Step}
 use Rattle.cfg_base.specs.declared.value.Value.{Value}
@@ -10,7 +10,7 @@ use Rattle.cfg_lex.specs.declared.token.Token.{Token}
 use Rattle.cfg_lex.specs.declared.token.TokenKind.{TokenKind}
 use Rattle.cfg_lex.specs.declared.token.TokenKind.TheVariants as kind
 use Rattle.cfg_lex.specs.Lexed.{Lexed, lexed_in}
-use Rattle.cfg_lex.specs.Tokens.{IsTokens}
+use Rattle.cfg_lex.specs.Tokens.{IsTokens, capped}
 use Rattle.cfg_lex.specs.Tokens as lex
 use Rattle.cfg_schema.specs.declared.answer.Child.{Child}
 use Rattle.cfg_schema.specs.declared.answer.Child.TheVariants as begun
@@ -87,7 +87,7 @@ pub record IsRefused (text : List ℕ) (why : Why) (byte : ℕ) : Type 0 where
   pub read : Goes start (take at (map (lexed_in text) tokens)) run
   pub few : different (paths_met run) ≤ MAX_STATEMENTS
   pub why_is : why ≡ why_not run.state (slice_get (map (lexed_in text) tokens) at)
-  pub byte_is : byte ≡ min (byte_of text (slice_get tokens at)) 4294967295
+  pub byte_is : byte ≡ capped (byte_of text (slice_get tokens at))
 
 -- more statements than a tree has are met in tokens that begin a text
 pub record HasTooMany (text : List ℕ) : Type 0 where

@@ -1,7 +1,8 @@
 -- What the functions below `parse` answer.
-use Rattle.std.specs.Prelude.{◌≡◌, ◌≢◌, ◌⊎◌, ◌≤◌, ◌<◌, ℕ, List, length, take, min, Option, Some, None, Result, Ok, Err, slice_get}
+use Rattle.std.specs.Prelude.{◌≡◌, ◌≢◌, ◌⊎◌, ◌≤◌, ◌<◌, ℕ, List, length, take, Option, Some, None, Result, Ok, Err, slice_get}
 use Rattle.cfg_base.specs.declared.path.Step.{Step}
 use Rattle.cfg_lex.specs.Lexed.{Lexed}
+use Rattle.cfg_lex.specs.Tokens.{capped}
 use Rattle.cfg_tree.specs.declared.limit.TheConstants.{MAX_STATEMENTS}
 use Rattle.cfg_tree.specs.Statements.{size_of}
 use Rattle.cfg_tree.specs.Stated.{stated_from_none, different, paths_of}
@@ -31,7 +32,7 @@ abbrev pub IsRefusal : List (List Step) → Why → ℕ → TextFault → Type 0
 IsRefusal paths why byte told =
     (told ≡ fault.NoMemory)
     ⊎ (((MAX_STATEMENTS < different paths) × (told ≡ fault.TooMany))
-    ⊎ ((different paths ≤ MAX_STATEMENTS) × (told ≡ of_reason why (min byte 4294967295))))
+    ⊎ ((different paths ≤ MAX_STATEMENTS) × (told ≡ of_reason why (capped byte))))
 
 -- what the statements of a run make
 pub record MakesMarked (run : Run) (marked : Marked) : Type 0 where

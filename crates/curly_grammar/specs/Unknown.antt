@@ -1,5 +1,5 @@
 -- Where a word begins a step, determined by the grammar alone: how a text stands up to there. This is this project's own.
-use Rattle.std.specs.Prelude.{◌≡◌, ◌⊎◌, ◌<◌, ℕ, List, [], ◌∷◌, ◌++◌, length, map, take, min, slice_get, true, false, Some}
+use Rattle.std.specs.Prelude.{◌≡◌, ◌⊎◌, ◌<◌, ℕ, List, [], ◌∷◌, ◌++◌, length, map, take, slice_get, true, false, Some}
 use Rattle.std.specs.List.{flat_map, AllByRecursion}
 use Rattle.cfg_base.specs.declared.path.Step.{Step}
 use Rattle.cfg_base.specs.declared.value.Value.{Value}
@@ -7,7 +7,7 @@ use Rattle.cfg_entries.specs.EntryMap.{Pair}
 use Rattle.cfg_lex.specs.declared.token.Token.{Token}
 use Rattle.cfg_lex.specs.declared.token.TokenKind.TheVariants as kind
 use Rattle.cfg_lex.specs.Lexed.{Lexed, lexed_in}
-use Rattle.cfg_lex.specs.Tokens.{IsTokens}
+use Rattle.cfg_lex.specs.Tokens.{IsTokens, capped}
 use Rattle.cfg_schema.specs.declared.answer.Child.TheVariants as begun
 use Rattle.cfg_schema.specs.Child as schema
 use Rattle.curly_grammar.specs.Grammar.{Level, Part, Text, IsWord, Says, Tells, is_mark, is_open, sign, spell, spell_part, top_level}
@@ -80,4 +80,4 @@ pub record IsUnknownAt (text : List ℕ) (byte : ℕ) : Type 0 where
   pub level : Level
   pub begins : BeginsStepAt outer here (take at (map (lexed_in text) tokens)) word level
   pub untaken : schema.Begins level.place.row level.place.in_group word.word [] begun.Unknown
-  pub byte_is : byte ≡ min (byte_of text (slice_get tokens at)) 4294967295
+  pub byte_is : byte ≡ capped (byte_of text (slice_get tokens at))

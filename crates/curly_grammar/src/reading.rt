@@ -1,10 +1,10 @@
 //! What a text says.
 
-ghost use Rattle.std.specs.Prelude.{◌≡◌, ◌≢◌, ◌≤◌, ◌<◌, ◌++◌, map, min, slice_get, Decides, IfOk, IfErr, OnOk};
+ghost use Rattle.std.specs.Prelude.{◌≡◌, ◌≢◌, ◌≤◌, ◌<◌, ◌++◌, map, slice_get, Decides, IfOk, IfErr, OnOk};
 ghost use Rattle.std.specs.FinMap as finite;
 ghost use Rattle.std.specs.List.{All};
 ghost use Rattle.cfg_lex.specs.Lexed.{lexed_in};
-ghost use Rattle.cfg_lex.specs.Tokens.{IsPlaced, IsTokens};
+ghost use Rattle.cfg_lex.specs.Tokens.{IsPlaced, IsTokens, capped};
 ghost use Rattle.cfg_tree.specs.Statements.{size_of};
 ghost use Rattle.cfg_tree.specs.Stated.{AreSaid, different, paths_of};
 ghost use Rattle.cfg_tree.specs.declared.limit.TheConstants.{MAX_STATEMENTS};
@@ -104,13 +104,13 @@ fn meets_many(alloc: Global, reader: Reader) -> Result<bool, NoMemory>
 
 /// A place in 32 bits.
 fn capped(place: usize) -> u32
-    ensures { result ≡ min place 4294967295 }
+    ensures { result ≡ capped place }
 {
     u32::try_from(place).unwrap_or(u32::MAX)
 }
 
 fn of_reason(why: Why, byte: usize) -> TextFault
-    ensures { result ≡ of_reason why (min byte 4294967295) }
+    ensures { result ≡ of_reason why (capped byte) }
 {
     let byte = capped(byte);
     match why {
