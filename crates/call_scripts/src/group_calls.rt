@@ -45,7 +45,7 @@ fn say_full(out: &mut Text, full: &Full) {
 }
 
 /// Why a tree has no expansion.
-fn say_expand_fault(out: &mut Text, fault: ExpandFault) {
+pub(crate) fn say_expand_fault(out: &mut Text, fault: ExpandFault) {
     match fault {
         ExpandFault::TooWide => say(out, "too wide"),
         ExpandFault::NoMemory => out.lacks_memory(),

@@ -9,6 +9,7 @@ use script::Whole;
 use script_lines::check_files;
 use std::process::ExitCode;
 
+mod access_calls;
 mod base_calls;
 mod changes;
 mod check_calls;

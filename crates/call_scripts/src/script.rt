@@ -130,6 +130,9 @@ impl Answers for Script {
         if let Some(done) = self.answer_text(name, rest, out) {
             return done;
         }
+        if name == "allows" {
+            return self.trees.ask_allows(self.alloc, rest, out);
+        }
         let args = args_of(self.alloc, rest)?;
         if name == "level" {
             self.trees.set_level(args);

@@ -3,7 +3,7 @@
 use crate::changes::{change, look, op_of};
 use crate::kept::keep;
 use crate::level::level_of;
-use crate::{check_calls, group_calls, puts};
+use crate::{access_calls, check_calls, group_calls, puts};
 use cfg_tree::Tree;
 use commands::Op;
 use script_lines::{Arg, Fault, Text, say_flag};
@@ -70,6 +70,17 @@ impl Trees {
         self.level = args;
     }
 
+    /// Asks whether a user may do what a line asks at the level.
+    pub(crate) fn ask_allows(
+        &self,
+        alloc: Global,
+        text: &str,
+        out: &mut Text,
+    ) -> Result<(), Fault> {
+        let level = level_of(alloc, &self.level)?;
+        access_calls::ask_allows(alloc, &self.tree, &level, text, out)
+    }
+
     /// Makes a change of the tree.
     fn make(&mut self, alloc: Global, op: &Op, out: &mut Text) -> Result<(), Fault> {
         let level = level_of(alloc, &self.level)?;
@@ -102,6 +113,9 @@ impl Trees {
     ) -> Option<Result<(), Fault>> {
         if check_calls::ask(alloc, &self.tree, name, out) {
             return Some(Ok(()));
+        }
+        if name == "rights" {
+            return Some(access_calls::ask_rights(alloc, &self.tree, args, out));
         }
         if let Some(done) = look(alloc, &self.tree, name, args, out) {
             return Some(done);
