@@ -5,7 +5,7 @@ ghost use Rattle.cfg_schema.specs.Profile.{is_step_of};
 
 use crate::lookup::{fixed_name, head};
 use crate::rows::RowId;
-use cfg_base::Step;
+use cfg_base::{Step, same_bytes};
 use std::marker::Model;
 
 /// A row by its words, looked up once for all steps of a level.
@@ -43,7 +43,7 @@ impl RowWords {
     pub fn tell(&self, step: &Step) -> bool
         ensures { result ≡ is_step_of self.now step.now }
     {
-        self.head == step.head.as_bytes()
-            && (self.name.is_empty() || self.name == step.name.as_bytes())
+        same_bytes(self.head, step.head.as_bytes())
+            && (self.name.is_empty() || same_bytes(self.name, step.name.as_bytes()))
     }
 }
