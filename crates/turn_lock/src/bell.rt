@@ -27,6 +27,10 @@ use std::thread;
 /// a sleep and a wake would be, which are two calls of the system; who waits longer leaves its processor to others.
 const LOOKS: u32 = 20;
 
+/// How far from the served ticket a waiter looks again at all. Who stands farther away has several turns to wait for, each
+/// of which may write to a disk, and sleeps at once.
+const NEAR: u64 = 3;
+
 /// A place to sleep.
 #[derive(Drop)]
 pub(crate) struct Bell {
@@ -47,9 +51,10 @@ impl Bell {
         (self.rings.load(Ordering::SeqCst) & 0xffff_ffff) as u32
     }
 
-    /// Rests after so many looks in vain, before the last of which it had rung so often.
-    pub(crate) fn rest<R: Wait>(&self, rt: &R, looks: u32, heard: u32) {
-        if looks < LOOKS {
+    /// Rests after so many looks in vain, before the last of which it had rung so often; at that look the ticket stood so
+    /// far from the one that is served.
+    pub(crate) fn rest<R: Wait>(&self, rt: &R, looks: u32, heard: u32, ahead: u64) {
+        if ahead <= NEAR && looks < LOOKS {
             thread::yield_now();
         } else {
             self.sleep(rt, heard);

@@ -52,10 +52,11 @@ impl<T: Book> Turns<T> {
         let mut looks: u32 = 0;
         for _ in rt.forever() {
             let heard = bell.rings();
-            if self.table.shared.load::<Look<T>>(seat, SERVING) == ticket {
+            let served = self.table.shared.load::<Look<T>>(seat, SERVING);
+            if served == ticket {
                 return;
             }
-            bell.rest(rt, looks, heard);
+            bell.rest(rt, looks, heard, ticket.wrapping_sub(served));
             looks = looks.saturating_add(1);
         }
         unreachable!()
