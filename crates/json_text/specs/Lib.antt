@@ -1,4 +1,7 @@
 pub mod Keys
 pub mod Written
 pub mod Said
+pub mod Faults
+pub mod Reading
 pub mod Writing
+pub mod Checking

@@ -183,6 +183,13 @@ pub(crate) fn key_of(alloc: Global, id: RowId) -> Result<Vec<u8>, NoMemory>
     Ok(key)
 }
 
+/// The key of a row's statements as a string.
+pub(crate) fn key_text(alloc: Global, id: RowId) -> Result<String, NoMemory>
+    ensures { IfOk result (λ text. string_bytes text ≡ key_of id) }
+{
+    text_of(alloc, &key_of(alloc, id)?)
+}
+
 /// Puts the objects of a row's statements at the row's key, where there are any.
 pub(crate) fn put_objects(
     members: &mut Map<String, Value>,

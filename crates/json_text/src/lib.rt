@@ -8,11 +8,24 @@
 #![tactic(auto)]
 
 mod building;
+mod checker;
+mod fault;
+mod key;
 mod laws;
+mod marks;
+mod names;
+mod reading;
+mod refusal;
+mod spelling;
+mod words;
 mod writer;
 mod writing;
 
-pub use laws::values_say_configurations;
+pub use fault::{JsonFault, ReadFault};
+pub use laws::{
+    faulty_values_say_nothing, fitting_members_say_statements, texts_have_one_answer,
+    values_say_configurations,
+};
 pub use writing::write;
 
 #[cfg(test)]

@@ -3,7 +3,6 @@
 ghost use Rattle.std.specs.Prelude.{◌≡◌, ◌<◌, ◌+◌, ◌++◌, [], length, map, flat_map, IfOk, OnOk};
 ghost use Rattle.std.specs.FinMap as finite;
 ghost use Rattle.cfg_base.specs.declared.path.TheConstants.{MAX_STEPS};
-ghost use Rattle.cfg_schema.specs.Profile.{is_named};
 ghost use Rattle.cfg_tree.specs.Children.{order_in};
 ghost use Rattle.cfg_tree.specs.Statements.{last_of};
 ghost use Rattle.cfg_tree.specs.Tree.{step_of, IsTree};
@@ -15,19 +14,13 @@ ghost use Rattle.json_text.specs.Writing.{IsIn, alone_if_of_row, named_child, ob
 use crate::building::{
     first_of, key_of, put_at, put_marked, put_objects, put_own, string_of, strings_of,
 };
+use crate::key::is_named;
 use cfg_base::{NoMemory, Path, Shape, Word};
 use cfg_schema::{Place, RowId, RowWords, head, row, rows_below};
 use cfg_tree::Tree;
 use printing_order::{Statement, front_inside, named_child, statements_below};
 use serde_json::{Map, Value};
 use std::alloc::Global;
-
-/// Whether the statements of a row of this shape have names.
-fn is_named(shape: Shape) -> bool
-    ensures { result ≡ is_named shape }
-{
-    matches!(shape, Shape::Keyed | Shape::Bare)
-}
 
 /// A tree that is written.
 #[derive(Debug, Drop)]
