@@ -1,6 +1,9 @@
 pub mod AnswerLemmas
 pub mod ApartLemmas
 pub mod CheckedLemmas
+pub mod CollectLemmas
+pub mod CollectOnceLemmas
+pub mod CollectingLemmas
 pub mod FeedLemmas
 pub mod FitLemmas
 pub mod KeyLemmas

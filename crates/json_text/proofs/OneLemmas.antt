@@ -50,7 +50,7 @@ number_same kind (unsigned n) a b x y = IsCanonicalOf-unique kind (decimal n) a 
 number_same kind (negative z) a b x y = absurd x
 number_same kind (float f) a b x y = absurd x
 
-word_same : (kind : Kind) (d : Data) (a b : List ℕ) → IsWordOf kind d a → IsWordOf kind d b → a ≡ b
+pub word_same : (kind : Kind) (d : Data) (a b : List ℕ) → IsWordOf kind d a → IsWordOf kind d b → a ≡ b
 word_same kind null a b x y = absurd x
 word_same kind (boolean t) a b x y = absurd x
 word_same kind (number n) a b x y = number_same kind n a b x y

@@ -5,3 +5,4 @@ pub mod Faults
 pub mod Reading
 pub mod Writing
 pub mod Checking
+pub mod Collecting

@@ -9,7 +9,10 @@
 
 mod building;
 mod checker;
+mod collected;
+mod collecting;
 mod fault;
+mod here;
 mod key;
 mod laws;
 mod marks;
@@ -18,6 +21,7 @@ mod reading;
 mod refusal;
 mod spelling;
 mod words;
+mod words_in;
 mod writer;
 mod writing;
 
