@@ -16,6 +16,8 @@ pub mod NestedLemmas
 pub mod OneFaultLemmas
 pub mod OneLemmas
 pub mod OrderLemmas
+pub mod PathLemmas
+pub mod ReadLemmas
 pub mod RowLemmas
 pub mod SaidLemmas
 pub mod SpellingLemmas

@@ -2,7 +2,7 @@
 
 ghost use Rattle.std.specs.Prelude.{◌≡◌, ◌≤◌, ◌<◌, ◌+◌, List, length, IfOk, IsErrOf, option_map};
 ghost use Rattle.cfg_base.specs.declared.path.TheConstants.{MAX_STEPS};
-ghost use Rattle.cfg_schema.specs.Profile.{is_level, is_named, row_of};
+ghost use Rattle.cfg_schema.specs.Profile.{row_of};
 ghost use Rattle.cfg_tree.specs.Statements.{Statements, size_of};
 ghost use Rattle.cfg_tree.specs.declared.limit.TheConstants.{MAX_STATEMENTS};
 ghost use Rattle.serde_json.specs.View.{view, items_view};
@@ -14,6 +14,7 @@ ghost use Rattle.serde_json.specs.Find.{get_member};
 use crate::building::key_of;
 use crate::collected::{CollectFault, Collected};
 use crate::here::Here;
+use crate::key::{is_level, is_named};
 use crate::words_in::{marks_beside, member, name_in, value_in, words_of_row};
 use cfg_base::{MAX_STEPS, NoMemory, Shape, Step, Word, WordList};
 use cfg_schema::{RowId, fixed_name, head, row, rows_below};
@@ -41,23 +42,6 @@ fn single_step(alloc: Global, id: RowId) -> Result<Step, NoMemory>
         _ => Word::empty(alloc),
     };
     Ok(Step { head, name })
-}
-
-/// Whether a statement of this shape is a level.
-fn is_level(shape: Shape) -> bool
-    ensures { result ≡ is_level shape }
-{
-    matches!(
-        shape,
-        Shape::Container | Shape::Fixed | Shape::Keyed | Shape::Bare
-    )
-}
-
-/// Whether a statement of this shape has a name of the user's own.
-fn is_named(shape: Shape) -> bool
-    ensures { result ≡ is_named shape }
-{
-    matches!(shape, Shape::Keyed | Shape::Bare)
 }
 
 /// Collects a statement that is no level.

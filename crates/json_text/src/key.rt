@@ -30,7 +30,7 @@ pub(crate) fn is_named(shape: Shape) -> bool
 }
 
 /// Whether a statement of this shape is a level.
-fn is_level(shape: Shape) -> bool
+pub(crate) fn is_level(shape: Shape) -> bool
     ensures { result ≡ is_level shape }
 {
     !matches!(shape, Shape::Leaf | Shape::Flag | Shape::Many)

@@ -1,8 +1,8 @@
-//! Configurations as JSON.
+//! Configurations as JSON, both ways.
 //!
-//! Guarantees: `write` gives the compact text of the JSON of a configuration (specs/Written.antt), and a line feed; that text
-//! is read as the value that was written. What is written of a configuration says that configuration (specs/Said.antt), and
-//! a value says one configuration at most.
+//! Guarantees: `write` gives the compact text of the JSON of a configuration (specs/Written.antt), and a line feed. `read`
+//! gives the configuration that a text says (specs/Said.antt), or the first fault of the text (specs/Faults.antt), and
+//! what was written is read back. A text is read as one configuration, or it has one fault.
 //! Leaves to others: what JSON is and how a value is laid out (`serde_json`), in which order statements are printed
 //! (`printing_order`), and which words a configuration has (`cfg_tree`).
 #![tactic(auto)]
@@ -30,6 +30,7 @@ pub use laws::{
     faulty_values_say_nothing, fitting_members_say_statements, texts_have_one_answer,
     values_say_configurations,
 };
+pub use reading::read;
 pub use writing::write;
 
 #[cfg(test)]

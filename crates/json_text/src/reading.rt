@@ -6,15 +6,18 @@ ghost use Rattle.serde_json.specs.Data.{Members, member, no_members, object};
 ghost use Rattle.serde_json.specs.View.{view, members_view};
 ghost use Rattle.json_text.specs.Checking.{HasFault};
 ghost use Rattle.json_text.specs.Faults.{IsFirstFault, whole};
-ghost use Rattle.json_text.specs.Reading.{IsJson, IsRefused};
+ghost use Rattle.json_text.specs.Reading.{IsJson, IsReadAs, IsRefused};
 ghost use Rattle.json_text.specs.Said.{Says};
 
 use crate::checker::check_inside;
+use crate::collected::CollectFault;
+use crate::collecting::collect;
 use crate::fault::{JsonFault, ReadFault};
 use crate::names::member;
 use crate::refusal::form;
 use cfg_base::{MAX_STEPS, Path};
 use cfg_schema::Place;
+use cfg_tree::Tree;
 use serde_json::{Map, Value};
 use std::alloc::Global;
 
@@ -61,12 +64,43 @@ fn top_members(value: &Value) -> Option<&Map<String, Value>>
 }
 
 /// The first fault of a value, where it says no configuration.
-pub(crate) fn check(alloc: Global, value: &Value) -> Result<(), ReadFault>
+fn check(alloc: Global, value: &Value) -> Result<(), ReadFault>
     ensures { MatchResult result (λ _. (m : Statements) × Says (view value.now) m) (HasFault (IsFirstFault (view value.now))) }
 {
     let top = Path::top(alloc);
     match top_members(value) {
         Some(members) => check_inside(alloc, &top, &Place::top(), members, MAX_STEPS),
         None => Err(form(&top)),
+    }
+}
+
+/// The value that a text is, where it says a configuration.
+fn checked(alloc: Global, text: &[u8]) -> Result<Value, ReadFault>
+    ensures ok { IfOk result (λ value. IsJson text.now (view value) × ((m : Statements) × Says (view value) m)) }
+    ensures refused { IfErr result (λ fault. IsRefused text.now fault) }
+{
+    let value = match parse(alloc, text) {
+        Ok(value) => value,
+        Err(fault) => return Err(fault),
+    };
+    match check(alloc, &value) {
+        Ok(()) => Ok(value),
+        Err(fault) => Err(fault),
+    }
+}
+
+/// The configuration that a JSON text says. A text that isn't read has one fault, but for want of memory.
+pub fn read(alloc: Global, text: &[u8]) -> Result<Tree, ReadFault>
+    ensures ok { IfOk result (λ tree. IsReadAs text.now tree) }
+    ensures refused { IfErr result (λ fault. IsRefused text.now fault) }
+{
+    let value = match checked(alloc, text) {
+        Ok(value) => value,
+        Err(fault) => return Err(fault),
+    };
+    match collect(alloc, &value) {
+        Ok(tree) => Ok(tree),
+        Err(CollectFault::TooMany) => Err(ReadFault::Json(JsonFault::TooMany)),
+        Err(CollectFault::NoMemory) => Err(ReadFault::NoMemory),
     }
 }
