@@ -95,6 +95,7 @@ is_change form = changes form.makes
 no_change : (made : Makes) → changes made ≡ false → (items : List Item) (words : List (List ℕ)) (change : Op) → Whole (command.Change change) ≡ made_by made items words → ⊥
 no_change (makes.Configure mode) e items words change asked = cc
 no_change (makes.ShowActive form) e items words change asked = cc
+no_change makes.ShowJson e items words change asked = cc
 no_change makes.ShowCommits e items words change asked = cc
 no_change makes.Logout e items words change asked = cc
 no_change (makes.Change verb) e items words change asked = false≢true (sym e)
@@ -106,6 +107,7 @@ no_change makes.Exit e items words change asked = cc
 no_change makes.ExitAll e items words change asked = cc
 no_change (makes.Show form) e items words change asked = cc
 no_change (makes.Load way) e items words change asked = cc
+no_change (makes.LoadJson way) e items words change asked = cc
 no_change makes.Rollback e items words change asked = cc
 no_change makes.CheckOnly e items words change asked = cc
 no_change (makes.Commit confirmed comment quit) e items words change asked = cc

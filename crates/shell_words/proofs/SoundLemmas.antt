@@ -215,6 +215,7 @@ minutes_sound InMinutes comment quit parts items words e fit = third_time parts 
 made_sound : (made : Makes) (parts : List Part) (items : List Item) (words : List (List ℕ)) → are_timed made parts ≡ true → ArePrintable (words_in items) → FitsParts parts items words → AsksSound (Some (made_by made items words))
 made_sound (makes.Configure mode) parts items words e all fit = tt
 made_sound (makes.ShowActive form) parts items words e all fit = tt
+made_sound makes.ShowJson parts items words e all fit = tt
 made_sound makes.ShowCommits parts items words e all fit = tt
 made_sound makes.Logout parts items words e all fit = tt
 made_sound (makes.Change verb) parts items words e all fit = tt
@@ -226,6 +227,7 @@ made_sound makes.Exit parts items words e all fit = tt
 made_sound makes.ExitAll parts items words e all fit = tt
 made_sound (makes.Show form) parts items words e all fit = tt
 made_sound (makes.Load way) parts items words e all fit = tt
+made_sound (makes.LoadJson way) parts items words e all fit = tt
 made_sound makes.Rollback parts items words e all fit = tt
 made_sound makes.CheckOnly parts items words e all fit = tt
 made_sound (makes.Commit confirmed comment quit) parts items words e all fit = (

@@ -15,7 +15,7 @@ use Rattle.cfg_lex.specs.declared.token.Token.{Token}
 use Rattle.cfg_lex.specs.Tokens.{IsCut}
 use Rattle.shell_words.specs.declared.form.CommandForm.{CommandForm}
 use Rattle.shell_words.specs.declared.making.Words0.{Words0}
-use Rattle.shell_words.specs.declared.making.Words0.TheVariants.{Whole, NeedsText}
+use Rattle.shell_words.specs.declared.making.Words0.TheVariants.{Whole, ShowJson, NeedsText, NeedsJson}
 use Rattle.shell_words.specs.Item.{item_in}
 use Rattle.shell_words.specs.Form.{IsIn}
 use Rattle.shell_words.specs.Reading.{IsReading}
@@ -36,6 +36,14 @@ changes line change = asks line (command.Change change)
 -- a line that is a load of the text after it
 abbrev pub loads : String → LoadWay → Example
 loads line way = record { line = codes line; asked = Ok (Some (NeedsText way)) }
+
+-- a line that is a show of the whole active configuration as JSON
+abbrev pub shows_json : String → Example
+shows_json line = record { line = codes line; asked = Ok (Some ShowJson) }
+
+-- a line that is a load of the JSON text after it
+abbrev pub loads_json : String → LoadWay → Example
+loads_json line way = record { line = codes line; asked = Ok (Some (NeedsJson way)) }
 
 -- a line that is refused at this byte
 abbrev pub refused : String → ℕ → Example
@@ -62,6 +70,12 @@ operational =
     ∷ asks "show configuration interfaces | display set" (command.ShowActive (words ("interfaces" ∷ [])) SetLines)
     ∷ asks "show configuration | display inheritance" (command.ShowActive [] Inherited)
     ∷ asks "show configuration interfaces | display inheritance" (command.ShowActive (words ("interfaces" ∷ [])) Inherited)
+    ∷ shows_json "show configuration | display json"
+    ∷ shows_json "show configuration | display \"json\""
+    ∷ asks "show configuration \"|\" display json" (command.ShowActive (words ("|" ∷ "display" ∷ "json" ∷ [])) Curly)
+    ∷ refused "show configuration interfaces | display json" 40
+    ∷ refused "show configuration | display json interfaces" 34
+    ∷ refused "show configuration | json" 21
     ∷ asks "show system commit" command.ShowCommits
     ∷ asks "exit" command.Logout
     ∷ asks "quit" command.Logout
@@ -140,6 +154,13 @@ moving =
     ∷ loads "load replace terminal" load.Replace
     ∷ loads "load set terminal" load.SetLines
     ∷ refused "load merge" 10
+    ∷ loads_json "load json merge terminal" load.Merge
+    ∷ loads_json "load json override terminal" load.Override
+    ∷ refused "load json replace terminal" 10
+    ∷ refused "load json set terminal" 10
+    ∷ refused "load json terminal" 10
+    ∷ refused "load merge json terminal" 11
+    ∷ refused "show | display json" 15
     ∷ asks "rollback" (command.Rollback 0)
     ∷ asks "rollback 0" (command.Rollback 0)
     ∷ asks "rollback 1" (command.Rollback 1)

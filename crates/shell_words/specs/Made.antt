@@ -9,7 +9,7 @@ use Rattle.shell_words.specs.declared.form.Confirmed.TheVariants.{No, InTen, InM
 use Rattle.shell_words.specs.declared.form.Makes.{Makes}
 use Rattle.shell_words.specs.declared.form.Makes.TheVariants as makes
 use Rattle.shell_words.specs.declared.making.Words0.{Words0}
-use Rattle.shell_words.specs.declared.making.Words0.TheVariants.{Whole, NeedsText}
+use Rattle.shell_words.specs.declared.making.Words0.TheVariants.{Whole, ShowJson, NeedsText, NeedsJson}
 use Rattle.shell_words.specs.Item.{Item}
 use Rattle.shell_words.specs.Number.{number_of}
 use Rattle.shell_words.specs.Pair.{change_in}
@@ -37,6 +37,7 @@ commit_of confirmed comment quit words = command.Commit (minutes_in confirmed wo
 abbrev pub made_by : Makes → List Item → List (List ℕ) → Words0
 made_by (makes.Configure mode) items words = Whole (command.Configure mode)
 made_by (makes.ShowActive form) items words = Whole (command.ShowActive words form)
+made_by makes.ShowJson items words = ShowJson
 made_by makes.ShowCommits items words = Whole command.ShowCommits
 made_by makes.Logout items words = Whole command.Logout
 made_by (makes.Change verb) items words = Whole (command.Change (op_of verb words))
@@ -48,6 +49,7 @@ made_by makes.Exit items words = Whole command.Exit
 made_by makes.ExitAll items words = Whole command.ExitAll
 made_by (makes.Show form) items words = Whole (command.Show words form)
 made_by (makes.Load way) items words = NeedsText way
+made_by (makes.LoadJson way) items words = NeedsJson way
 made_by makes.Rollback items words = Whole (command.Rollback (number_or 0 words))
 made_by makes.CheckOnly items words = Whole command.CheckOnly
 made_by (makes.Commit confirmed comment quit) items words = Whole (commit_of confirmed comment quit words)

@@ -49,6 +49,8 @@ pub(crate) enum Confirmed {
 pub(crate) enum Makes {
     Configure(Mode),
     ShowActive(Form),
+    /// A show of the whole active configuration as JSON.
+    ShowJson,
     ShowCommits,
     Logout,
     Change(Verb),
@@ -62,6 +64,8 @@ pub(crate) enum Makes {
     Show(Form),
     /// A load of the text that follows the line.
     Load(LoadWay),
+    /// A load of the JSON text that follows the line.
+    LoadJson(LoadWay),
     Rollback,
     CheckOnly,
     /// A commit, whose comment is the line's last word where it has one.
@@ -142,7 +146,7 @@ macro_rules! form {
     ($makes:expr; $($parts:tt)+) => { form!($makes; $($parts)+ [nothing]) };
 }
 
-static OPERATIONAL: [CommandForm; 9] = [
+static OPERATIONAL: [CommandForm; 10] = [
     form!(Makes::Configure(Mode::Shared); [Configure]),
     form!(Makes::Configure(Mode::Private); [Configure] [Private]),
     form!(Makes::Configure(Mode::Exclusive); [Configure] [Exclusive]),
@@ -151,12 +155,13 @@ static OPERATIONAL: [CommandForm; 9] = [
         [one mark Pipe] [Display] [verb Set]),
     form!(Makes::ShowActive(Form::Inherited); [Show] [Configuration] [many until Pipe]
         [one mark Pipe] [Display] [Inheritance]),
+    form!(Makes::ShowJson; [Show] [Configuration] [one mark Pipe] [Display] [Json]),
     form!(Makes::ShowCommits; [Show] [System] [Commit]),
     form!(Makes::Logout; [Exit]),
     form!(Makes::Logout; [Quit]),
 ];
 
-static CONFIGURING: [CommandForm; 43] = [
+static CONFIGURING: [CommandForm; 45] = [
     form!(Makes::Change(Verb::Set); [verb Set] [one Word] [many Word]),
     form!(Makes::Change(Verb::Set); [verb Set] [many Word] [one OpenBracket] [one Word] [many Word] [one CloseBracket]),
     form!(Makes::Change(Verb::Delete); [verb Delete] [one Word] [many Word]),
@@ -207,6 +212,8 @@ static CONFIGURING: [CommandForm; 43] = [
     form!(Makes::Load(LoadWay::Override); [Load] [Override] [Terminal]),
     form!(Makes::Load(LoadWay::Replace); [Load] [Replace] [Terminal]),
     form!(Makes::Load(LoadWay::SetLines); [Load] [verb Set] [Terminal]),
+    form!(Makes::LoadJson(LoadWay::Merge); [Load] [Json] [Merge] [Terminal]),
+    form!(Makes::LoadJson(LoadWay::Override); [Load] [Json] [Override] [Terminal]),
     form!(Makes::Rollback; [Rollback]),
     form!(Makes::Rollback; [Rollback] [one number 0 to 4294967295]),
     form!(Makes::Update; [Update]),

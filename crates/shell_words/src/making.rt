@@ -20,8 +20,12 @@ use std::alloc::Global;
 pub enum Words0 {
     /// This command.
     Whole(Command),
+    /// A show of the whole active configuration as JSON.
+    ShowJson,
     /// A load of the text in the lines that follow.
     NeedsText(LoadWay),
+    /// A merge or an override by the JSON text in the lines that follow.
+    NeedsJson(LoadWay),
 }
 
 /// The words that the tokens give a form.
@@ -103,6 +107,7 @@ pub(crate) fn made_by(
             let words = words_of(alloc, form, items)?;
             Ok(whole(Command::ShowActive { words, form: shown }))
         }
+        Makes::ShowJson => Ok(Words0::ShowJson),
         Makes::ShowCommits => Ok(whole(Command::ShowCommits)),
         Makes::Logout => Ok(whole(Command::Logout)),
         Makes::Change(verb) => {
@@ -120,6 +125,7 @@ pub(crate) fn made_by(
             Ok(whole(Command::Show { words, form: shown }))
         }
         Makes::Load(way) => Ok(Words0::NeedsText(way)),
+        Makes::LoadJson(way) => Ok(Words0::NeedsJson(way)),
         Makes::Rollback => {
             let words = words_of(alloc, form, items)?;
             Ok(whole(Command::Rollback(number_or(0, &words))))
