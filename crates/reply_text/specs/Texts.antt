@@ -14,8 +14,10 @@ use Rattle.curly_grammar.specs.declared.fault.TextFault.TheVariants as text
 use Rattle.edit_ops.specs.declared.fault.EditFault.{EditFault}
 use Rattle.edit_ops.specs.declared.fault.EditFault.TheVariants as edit
 use Rattle.cfg_lex.specs.Printed.{printed_word}
+use Rattle.json_text.specs.declared.fault.JsonFault.{JsonFault}
+use Rattle.json_text.specs.declared.fault.JsonFault.TheVariants as json
 use Rattle.reply_text.specs.declared.fault.ShellFault.{ShellFault}
-use Rattle.reply_text.specs.declared.fault.ShellFault.TheVariants.{Syntax, LineTooLong, TextTooLong}
+use Rattle.reply_text.specs.declared.fault.ShellFault.TheVariants.{Syntax, LineTooLong, TextTooLong, Json}
 
 -- no bytes
 abbrev pub is_empty : List ℕ → Bool
@@ -67,6 +69,14 @@ message_of_text (text.Unknown place) = at_byte place (codes "unknown statement")
 message_of_text (text.BadValue place) = at_byte place (codes "bad value")
 message_of_text text.TooMany = codes "more than 16384 statements"
 message_of_text text.NoMemory = codes "out of memory"
+
+-- what is wrong with a JSON text
+abbrev pub message_of_json : JsonFault → List ℕ
+message_of_json json.NotJson = codes "not json"
+message_of_json (json.Unknown path) = codes "unknown statement: " ++ printed_path path
+message_of_json (json.BadValue path) = codes "bad value: " ++ printed_path path
+message_of_json (json.Form path) = codes "wrong form: " ++ printed_path path
+message_of_json json.TooMany = codes "more than 16384 statements"
 
 -- what is said of a line of a text begins with its number
 abbrev pub in_line : ℕ → List ℕ
@@ -137,6 +147,7 @@ abbrev pub text_of_fault : ShellFault → List ℕ
 text_of_fault (Syntax place) = error_line (codes "syntax error at byte " ++ decimal place)
 text_of_fault LineTooLong = error_line (codes "line too long")
 text_of_fault TextTooLong = error_line (codes "text too long")
+text_of_fault (Json fault) = error_line (codes "json: " ++ message_of_json fault)
 
 -- what is written for want of memory
 abbrev pub no_memory_text : List ℕ

@@ -1,3 +1,5 @@
+use json_text::JsonFault;
+
 /// Why a line was refused without a turn of the machine.
 #[derive(Clone, Debug, Drop, PartialEq, Eq)]
 pub enum ShellFault {
@@ -7,4 +9,6 @@ pub enum ShellFault {
     LineTooLong,
     /// It ends a text of more than 2,097,152 bytes, and no line of it was too long before.
     TextTooLong,
+    /// It ends a JSON text that has that fault.
+    Json(JsonFault),
 }

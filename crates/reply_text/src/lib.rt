@@ -6,6 +6,7 @@
 #![tactic(auto)]
 
 mod fault;
+mod json;
 mod refusal;
 mod reply;
 mod writing;

@@ -7,6 +7,7 @@ ghost use Rattle.io_edge.specs.Wrote.{Wrote};
 ghost use Rattle.reply_text.specs.Texts.{complete_text, deadline_text, no_memory_text, text_of_entry, text_of_fault, text_of_reply};
 
 use crate::fault::ShellFault;
+use crate::json::put_json_fault;
 use crate::refusal::put_refusal;
 use crate::writing::put_number_between;
 use commands::Mode;
@@ -96,6 +97,7 @@ pub fn put_fault<K: Sink>(sink: &mut K, fault: &ShellFault) -> Result<(), PutFai
         }
         ShellFault::LineTooLong => put_all(sink, b"error: line too long\n"),
         ShellFault::TextTooLong => put_all(sink, b"error: text too long\n"),
+        ShellFault::Json(fault) => put_json_fault(sink, fault),
     }
 }
 
