@@ -28,7 +28,7 @@ pub logs_out : (reading : Reading) (logout : Exchange) → is_out reading ≡ fa
 logs_out Out logout going is = absurd (false≢true (sym going))
 logs_out Operational logout going is = (logout, refl, is)
 logs_out Configuring logout going is = (logout, refl, is)
-logs_out (Collecting way text) logout going is = (logout, refl, is)
+logs_out (Collecting way json text) logout going is = (logout, refl, is)
 logs_out (Spoilt fault) logout going is = (logout, refl, is)
 
 wrote_one : {T E : Type 0} (put : Result T E) (text : List ℕ) (old new : SessionView) → WroteAs put text old.held new.held → OnErr put (Rose old.faults new.faults) → WroteTexts [] (text ++ []) old new

@@ -1,34 +1,49 @@
 -- What a session's door names, and that a session has one text.
-use Rattle.std.proofs.Common.{◌≡◌, ℕ, suc, ◌+◌, List, [], ◌∷◌, ◌++◌, map, refl, sym, ap, subst, ◌∙◌, Option, None, Some, Result, inl, inr, ◌⊎◌, Bool, true, false}
+use Rattle.std.proofs.Common.{◌≡◌, ℕ, suc, ◌+◌, List, [], ◌∷◌, ◌++◌, map, refl, sym, ap, subst, ◌∙◌, Option, None, Some, Result, inl, inr, ◌⊎◌, Bool, true, false, MatchBool}
 use Rattle.std.proofs.lemmas.Bool.{false≢true}
 use Rattle.std.proofs.lemmas.List.{append-nil}
 use Rattle.std.proofs.lemmas.Option.{none-some}
 use Rattle.std.specs.List.{AllByRecursion, flat_map}
 use Rattle.cfg_base.specs.Counts.{Rose}
 use Rattle.commands.specs.declared.command.Command.{Command}
-use Rattle.commands.specs.declared.command.Command.TheVariants.{Logout}
+use Rattle.commands.specs.declared.command.Command.TheVariants.{Load, Logout}
+use Rattle.commands.specs.declared.command.LoadWay.{LoadWay}
+use Rattle.curly_grammar.specs.Grammar.{Reads}
+use Rattle.curly_print.specs.Printed.{printed}
+use Rattle.cfg_base.specs.declared.path.Step.{Step}
+use Rattle.cfg_tree.specs.Statements.{Statements}
+use Rattle.cfg_tree.specs.Tree.{IsTree}
 use Rattle.io_edge.specs.declared.lines.Line.{Line}
 use Rattle.io_edge.specs.declared.lines.Line.TheVariants.{Text, TooLong, End, Failed, InputFull as Full}
 use Rattle.io_edge.specs.Ends.{held_after}
 use Rattle.io_edge.specs.Line.{TellsBoth}
+use Rattle.json_text.specs.declared.fault.JsonFault.{JsonFault}
+use Rattle.json_text.specs.Reading.{IsFaultOf}
+use Rattle.json_text.specs.Reading as json_text
+use Rattle.json_text.specs.Written.{json_of}
+use Rattle.serde_json.specs.Written.{compact_text}
 use Rattle.shell_words.specs.declared.making.Words0.{Words0}
 use Rattle.shell_words.specs.Reading.{IsReading}
 use Rattle.reply_text.specs.declared.fault.ShellFault.{ShellFault}
+use Rattle.reply_text.specs.declared.fault.ShellFault.TheVariants as fault_of
 use Rattle.session_shell.specs.declared.turn.How.{How}
 use Rattle.session_shell.specs.declared.turn.How.TheVariants.{Clean, InputFull}
-use Rattle.session_shell.specs.declared.turn.Turn.TheVariants.{NoMemory}
 use Rattle.session_shell.specs.declared.door.Given0.{Given0}
 use Rattle.session_shell.specs.declared.door.Given0.TheVariants as given
+use Rattle.session_shell.specs.declared.json_show.Manner.{Manner}
+use Rattle.session_shell.specs.declared.json_show.Manner.TheVariants.{Plain, Json, Dry, NoJson}
 use Rattle.session_shell.specs.declared.reading.Item.{Item}
-use Rattle.session_shell.specs.declared.reading.Item.TheVariants.{Ask, Wrong}
+use Rattle.session_shell.specs.declared.reading.Item.TheVariants.{Ask, ShowJson, Wrong}
+use Rattle.session_shell.specs.declared.reading.Item.TheVariants as item
 use Rattle.session_shell.specs.declared.reading.Reading.{Reading}
 use Rattle.session_shell.specs.declared.reading.Reading.TheVariants.{Operational, Configuring, Collecting, Spoilt, Out}
-use Rattle.session_shell.specs.Exchange.{Exchange, Asked, Refused, item_asked, moment_in, turn_taken, text_written, reading_after, front_of, place_of}
-use Rattle.session_shell.specs.Items.{ComesOf, Continues, ReadsLine, IsReadAs, ReadsThrough, asked_by}
+use Rattle.session_shell.specs.Exchange.{Exchange, Asked, Refused, Wanted, IsWrittenIn, is_dry, item_asked, item_of, kept_turn, moment_in, seen_turn, turn_of_given, turn_taken, text_written, reading_after, front_of, place_of}
+use Rattle.session_shell.specs.Items.{ComesOf, Continues, Ended, EndsText, EndsJson, IsLoadOf, ReadsLine, IsReadAs, ReadsThrough, SaysLoad, asked_by, is_end_of_text, with_line}
+use Rattle.session_shell.specs.Json.{IsJsonOf, IsWritten}
 use Rattle.session_shell.specs.Cut.{lines_read}
 use Rattle.session_shell.specs.Transcript.{AnswersAre, EndsBy, Following, GoesBy, IsInput, LogsOut, Naming, SessionView, TakesAnswers, Texts, WroteTexts}
-use Rattle.session_shell.specs.Law.{Agree, IsDetermined, IsNamed, IsShown, SeeAlike, Undisturbed, front_at, kept_place}
-use Rattle.session_shell.specs.Shows.{SeesShow}
+use Rattle.session_shell.specs.Law.{Agree, IsDetermined, IsNamed, IsShown, SeeAlike, Undisturbed, front_at, is_wanting, kept_place, seen_front}
+use Rattle.session_shell.specs.Shows.{SeesShow, whole_show}
 use Rattle.session_shell.proofs.TurnLemmas.{flat_map_over_append}
 use Rattle.session_shell.proofs.TakeLemmas.{not_full}
 
@@ -37,22 +52,25 @@ module _ {D : Type 0} (names : Naming D) (follows : Following D)
     (keeps : (d e : D) (command : Command) (moment : ℕ) (given : Given0) → follows d command moment given e → (asked : Command) (when : ℕ) (was : Given0) → names d asked when was → names e asked when was) where
   kept : (exchanges : List Exchange) (d e : D) → GoesBy follows exchanges d e → (asked : Command) (when : ℕ) (was : Given0) → names d asked when was → names e asked when was
   kept [] d e goes asked when was is = subst (λ x. names x asked when was) (sym goes) is
-  kept (Asked moment command given ∷ exchanges) d e goes asked when was is = kept exchanges goes.0 e goes.2 asked when was (keeps d goes.0 command moment given goes.1 asked when was is)
+  kept (Asked moment command given manner ∷ exchanges) d e goes asked when was is = kept exchanges goes.0 e goes.2 asked when was (keeps d goes.0 command moment given goes.1 asked when was is)
   kept (Refused moment fault ∷ exchanges) d e goes asked when was is = kept exchanges d e goes asked when was is
+  kept (Wanted moment ∷ exchanges) d e goes asked when was is = kept exchanges d e goes asked when was is
 
   pub all_named : (exchanges : List Exchange) (d e : D) → GoesBy follows exchanges d e → AllByRecursion (IsNamed names e) exchanges
   all_named [] d e goes = tt
-  all_named (Asked moment command given ∷ exchanges) d e goes = (kept exchanges goes.0 e goes.2 command moment given (named d goes.0 command moment given goes.1), all_named exchanges goes.0 e goes.2)
+  all_named (Asked moment command given manner ∷ exchanges) d e goes = (kept exchanges goes.0 e goes.2 command moment given (named d goes.0 command moment given goes.1), all_named exchanges goes.0 e goes.2)
   all_named (Refused moment fault ∷ exchanges) d e goes = (tt, all_named exchanges d e goes)
+  all_named (Wanted moment ∷ exchanges) d e goes = (tt, all_named exchanges d e goes)
 
 -- what was answered from a snapshot was a show
 pub all_shown : {D : Type 0} (follows : Following D)
     (shows : (d e : D) (command : Command) (moment : ℕ) (given : Given0) → follows d command moment given e → SeesShow command given)
     (exchanges : List Exchange) (d e : D) → GoesBy follows exchanges d e → AllByRecursion IsShown exchanges
 all_shown follows shows [] d e goes = tt
-all_shown follows shows (Asked moment command given ∷ exchanges) d e goes =
+all_shown follows shows (Asked moment command given manner ∷ exchanges) d e goes =
     (shows d goes.0 command moment given goes.1, all_shown follows shows exchanges goes.0 e goes.2)
 all_shown follows shows (Refused moment fault ∷ exchanges) d e goes = (tt, all_shown follows shows exchanges d e goes)
+all_shown follows shows (Wanted moment ∷ exchanges) d e goes = (tt, all_shown follows shows exchanges d e goes)
 
 head_is : {A : Type 0} {x y : A} {xs ys : List A} → x ∷ xs ≡ y ∷ ys → x ≡ y
 head_is {A} {x} is = ap (λ l. elim l [ [] ↦ x | a ∷ _ ↦ a ]) is
@@ -63,50 +81,197 @@ tail_is is = ap (λ l. elim l [ [] ↦ [] | _ ∷ more ↦ more ]) is
 cons_is : {A : Type 0} {x : A} {xs : List A} → x ∷ xs ≡ [] → ⊥
 cons_is is = false≢true (ap (λ l. elim l [ [] ↦ true | _ ∷ _ ↦ false ]) is)
 
-command_is : (one other : Command) → Ask one ≡ Ask other → one ≡ other
-command_is one other is = ap (λ i. elim i [ Ask r ↦ r | Wrong f ↦ one ]) is
+some_is : {A : Type 0} {x y : A} → Some x ≡ Some y → x ≡ y
+some_is {A} {x} is = ap (λ o. elim o [ None ↦ x | Some a ↦ a ]) is
 
-fault_is : (one other : ShellFault) → Wrong one ≡ Wrong other → one ≡ other
-fault_is one other is = ap (λ i. elim i [ Ask r ↦ one | Wrong f ↦ f ]) is
+pub command_is : (one other : Command) → Ask one ≡ Ask other → one ≡ other
+command_is one other is = ap (λ i. elim i [ Ask r ↦ r | ShowJson ↦ one | Wrong f ↦ one | item.NoMemory ↦ one ]) is
 
-ask_is : (command : Command) (fault : ShellFault) → Ask command ≡ Wrong fault → ⊥
-ask_is command fault is = false≢true (ap (λ i. elim i [ Ask r ↦ false | Wrong f ↦ true ]) is)
+pub fault_is : (one other : ShellFault) → Wrong one ≡ Wrong other → one ≡ other
+fault_is one other is = ap (λ i. elim i [ Ask r ↦ one | ShowJson ↦ one | Wrong f ↦ f | item.NoMemory ↦ one ]) is
 
--- a line has one reading
-abbrev pub Once : Type 0
-Once = (configuring : Bool) (line : List ℕ) (one other : Result (Option Words0) ℕ) → IsReading configuring line one → IsReading configuring line other → one ≡ other
+-- an item asks something
+abbrev is_asking : Item → Bool
+is_asking (Ask command) = true
+is_asking ShowJson = true
+is_asking (Wrong fault) = false
+is_asking item.NoMemory = false
+
+abbrev is_show : Item → Bool
+is_show (Ask command) = false
+is_show ShowJson = true
+is_show (Wrong fault) = false
+is_show item.NoMemory = false
+
+abbrev is_wrong : Item → Bool
+is_wrong (Ask command) = false
+is_wrong ShowJson = false
+is_wrong (Wrong fault) = true
+is_wrong item.NoMemory = false
+
+-- a command's item is no fault, and no want of memory
+pub item_wrong : (manner : Manner) (command : Command) (fault : ShellFault) → item_of manner command ≡ Wrong fault → ⊥
+item_wrong Plain command fault is = false≢true (sym (ap is_asking is))
+item_wrong (Json text) command fault is = false≢true (sym (ap is_asking is))
+item_wrong Dry command fault is = false≢true (sym (ap is_asking is))
+item_wrong NoJson command fault is = false≢true (sym (ap is_asking is))
+
+item_wanting : (manner : Manner) (command : Command) → item_of manner command ≡ item.NoMemory → ⊥
+item_wanting Plain command is = false≢true (sym (ap is_asking is))
+item_wanting (Json text) command is = false≢true (sym (ap is_asking is))
+item_wanting Dry command is = false≢true (sym (ap is_asking is))
+item_wanting NoJson command is = false≢true (sym (ap is_asking is))
+
+-- a command's own item is no JSON show
+ask_show : (command : Command) → Ask command ≡ ShowJson → ⊥
+ask_show command is = false≢true (ap is_show is)
+
+-- the command for which an item stands
+asks_it : (manner : Manner) (command asked : Command) → item_of manner command ≡ Ask asked → command ≡ asked
+asks_it Plain command asked is = command_is command asked is
+asks_it (Json text) command asked is = absurd (ask_show asked (sym is))
+asks_it Dry command asked is = absurd (ask_show asked (sym is))
+asks_it NoJson command asked is = absurd (ask_show asked (sym is))
+
+shows_whole : (manner : Manner) (command : Command) (given : Given0) → item_of manner command ≡ ShowJson → IsWritten command given manner → command ≡ whole_show
+shows_whole Plain command given is written = absurd (ask_show command is)
+shows_whole (Json text) command given is written = written.0
+shows_whole Dry command given is written = written.0
+shows_whole NoJson command given is written = written.0
+
+-- so the same item is one command
+pub command_once : (manner manner' : Manner) (command command' : Command) (given given' : Given0) → item_of manner command ≡ item_of manner' command' → IsWritten command given manner → IsWritten command' given' manner' → command ≡ command'
+command_once Plain manner' command command' given given' is w w' = sym (asks_it manner' command' command (sym is))
+command_once (Json text) manner' command command' given given' is w w' = w.0 ∙ sym (shows_whole manner' command' given' (sym is) w')
+command_once Dry manner' command command' given given' is w w' = w.0 ∙ sym (shows_whole manner' command' given' (sym is) w')
+command_once NoJson manner' command command' given given' is w w' = w.0 ∙ sym (shows_whole manner' command' given' (sym is) w')
+
+-- a line has one reading, a JSON text one answer, and a curly text is that of one configuration
+pub record Once : Type 0 where
+  pub lines : (configuring : Bool) (line : List ℕ) (one other : Result (Option Words0) ℕ) → IsReading configuring line one → IsReading configuring line other → one ≡ other
+  pub maps : (text : List ℕ) (m n : Statements) → json_text.IsReadAs text m → json_text.IsReadAs text n → m ≡ n
+  pub apart : (text : List ℕ) (m : Statements) (fault : JsonFault) → json_text.IsReadAs text m → IsFaultOf text fault → ⊥
+  pub faults : (text : List ℕ) (one other : JsonFault) → IsFaultOf text one → IsFaultOf text other → one ≡ other
+  pub printed_is : (m n : Statements) → IsTree m → IsTree n → printed m [] ≡ printed n [] → m ≡ n
+
+-- what is printed is that of one configuration, since it is read back
+pub printed_once : ((m : Statements) → IsTree m → Reads (printed m []) m []) → ((text : List ℕ) (m n : Statements) (tags others : List (List Step)) → Reads text m tags → Reads text n others → (m ≡ n) × (tags ≡ others)) →
+    (m n : Statements) → IsTree m → IsTree n → printed m [] ≡ printed n [] → m ≡ n
+printed_once back one m n tree tree' same = (one (printed n []) m n [] [] (subst (λ text. Reads text m []) same (back m tree)) (back n tree')).0
+
+-- the JSON of a curly text is one
+json_once : Once → (curly one other : List ℕ) → IsJsonOf curly one → IsJsonOf curly other → one ≡ other
+json_once once curly one other is is' =
+    is.is ∙ ap (λ m. compact_text (json_of m) ++ 10 ∷ []) (once.printed_is is.statements is'.statements is.tree is'.tree (sym is.shown ∙ is'.shown)) ∙ sym is'.is
+
+-- how what was given is written for an item is one, where memory wasn't wanting
+pub manner_once : Once → (manner manner' : Manner) (command command' : Command) (given : Given0) → item_of manner command ≡ item_of manner' command' → IsWritten command given manner → IsWritten command' given manner' → is_dry manner ≡ false → is_dry manner' ≡ false → manner ≡ manner'
+manner_once once Dry manner' command command' given is w w' wet wet' = absurd (false≢true (sym wet))
+manner_once once Plain Plain command command' given is w w' wet wet' = refl
+manner_once once Plain (Json text') command command' given is w w' wet wet' = absurd (ask_show command is)
+manner_once once Plain Dry command command' given is w w' wet wet' = absurd (ask_show command is)
+manner_once once Plain NoJson command command' given is w w' wet wet' = absurd (ask_show command is)
+manner_once once (Json text) Plain command command' given is w w' wet wet' = absurd (ask_show command' (sym is))
+manner_once once (Json text) (Json text') command command' given is w w' wet wet' =
+    ap Json (json_once once w.1.curly text text' w.1.is_json (subst (λ c. IsJsonOf c text') (some_is (sym w'.1.shown ∙ w.1.shown)) w'.1.is_json))
+manner_once once (Json text) Dry command command' given is w w' wet wet' = absurd (false≢true (sym wet'))
+manner_once once (Json text) NoJson command command' given is w w' wet wet' = absurd (none-some w.1.curly (sym w'.1 ∙ w.1.shown))
+manner_once once NoJson Plain command command' given is w w' wet wet' = absurd (ask_show command' (sym is))
+manner_once once NoJson (Json text') command command' given is w w' wet wet' = absurd (none-some w'.1.curly (sym w.1 ∙ w'.1.shown))
+manner_once once NoJson Dry command command' given is w w' wet wet' = absurd (false≢true (sym wet'))
+manner_once once NoJson NoJson command command' given is w w' wet wet' = refl
+
+-- turns of events and of snapshots, whether memory was wanting for JSON or not
+kept_in : (dry : Bool) (place : ℕ) → kept_place (kept_turn dry place) ≡ place ∷ []
+kept_in true place = refl
+kept_in false place = refl
+
+pub kept_front : (dry : Bool) (place : ℕ) → seen_front (kept_turn dry place) ≡ None
+kept_front true place = refl
+kept_front false place = refl
+
+seen_in : (dry : Bool) (front moment : ℕ) → kept_place (seen_turn dry front moment) ≡ []
+seen_in true front moment = refl
+seen_in false front moment = refl
+
+pub seen_at : (dry : Bool) (front moment : ℕ) → seen_front (seen_turn dry front moment) ≡ Some front
+seen_at true front moment = refl
+seen_at false front moment = refl
+
+pub not_dry : (manner : Manner) (moment : ℕ) (given : Given0) → is_wanting (turn_of_given manner moment given) ≡ false → is_dry manner ≡ false
+not_dry Plain moment given want = refl
+not_dry (Json text) moment given want = refl
+not_dry NoJson moment given want = refl
+not_dry Dry moment (given.Kept place reply) want = absurd (false≢true (sym want))
+not_dry Dry moment (given.Seen front reply) want = absurd (false≢true (sym want))
+not_dry Dry moment given.NoMemory want = absurd (false≢true (sym want))
 
 read_once : Once → (configuring : Bool) (reading : Reading) (line : List ℕ) (one other : Option Item × Reading) → IsReadAs configuring reading line one → IsReadAs configuring reading line other → one ≡ other
 read_once once configuring reading line one other first second =
-    first.is ∙ ap (asked_by reading) (once configuring line first.answer second.answer first.is_reading second.is_reading) ∙ sym second.is
+    first.is ∙ ap (asked_by reading) (once.lines configuring line first.answer second.answer first.is_reading second.is_reading) ∙ sym second.is
 
--- what results from a line is one
-comes_once : Once → (reading : Reading) (line : Line) (one other : Option Item × Reading) → ComesOf reading line one → ComesOf reading line other → one ≡ other
-comes_once once Operational (Text line) one other first second = read_once once false Operational line one other first second
-comes_once once Operational TooLong one other first second = first ∙ sym second
-comes_once once Operational End one other first second = first ∙ sym second
-comes_once once Operational Failed one other first second = first ∙ sym second
-comes_once once Operational Full one other first second = first ∙ sym second
-comes_once once Configuring (Text line) one other first second = read_once once true Configuring line one other first second
-comes_once once Configuring TooLong one other first second = first ∙ sym second
-comes_once once Configuring End one other first second = first ∙ sym second
-comes_once once Configuring Failed one other first second = first ∙ sym second
-comes_once once Configuring Full one other first second = first ∙ sym second
-comes_once once (Collecting way text) (Text line) one other first second = first ∙ sym second
-comes_once once (Collecting way text) TooLong one other first second = first ∙ sym second
-comes_once once (Collecting way text) End one other first second = first ∙ sym second
-comes_once once (Collecting way text) Failed one other first second = first ∙ sym second
-comes_once once (Collecting way text) Full one other first second = first ∙ sym second
-comes_once once (Spoilt fault) (Text line) one other first second = first ∙ sym second
-comes_once once (Spoilt fault) TooLong one other first second = first ∙ sym second
-comes_once once (Spoilt fault) End one other first second = first ∙ sym second
-comes_once once (Spoilt fault) Failed one other first second = first ∙ sym second
-comes_once once (Spoilt fault) Full one other first second = first ∙ sym second
-comes_once once Out (Text line) one other first second = first ∙ sym second
-comes_once once Out TooLong one other first second = first ∙ sym second
-comes_once once Out End one other first second = first ∙ sym second
-comes_once once Out Failed one other first second = first ∙ sym second
-comes_once once Out Full one other first second = first ∙ sym second
+-- what comes of a line isn't want of memory
+abbrev pub NotWanting : Option Item × Reading → Type 0
+NotWanting came = came.0 ≡ Some item.NoMemory → ⊥
+
+load_once : Once → (way : LoadWay) (text : List ℕ) (one other : Item) → (one ≡ item.NoMemory → ⊥) → (other ≡ item.NoMemory → ⊥) → (says : SaysLoad way text one) (says' : SaysLoad way text other) → one ≡ other
+load_once once way text one other want want' says says' = by says.load says'.load
+  where
+    by : IsLoadOf way says.statements one → IsLoadOf way says'.statements other → one ≡ other
+    by (inl is) (inl is') =
+        is ∙ ap (λ m. Ask (Load way (printed m []))) (once.maps text says.statements says'.statements says.read says'.read) ∙ sym is'
+    by (inr none) load' = absurd (want none)
+    by (inl is) (inr none) = absurd (want' none)
+
+item_once : Once → (way : LoadWay) (json : Bool) (text : List ℕ) (one other : Item) → (one ≡ item.NoMemory → ⊥) → (other ≡ item.NoMemory → ⊥) → EndsText way json text one → EndsText way json text other → one ≡ other
+item_once once way false text one other want want' first second = first ∙ sym second
+item_once once way true text one other want want' first second = by first second
+  where
+    by : EndsJson way text one → EndsJson way text other → one ≡ other
+    by (inl says) (inl says') = load_once once way text one other want want' says says'
+    by (inl says) (inr (inl has')) = absurd (once.apart text says.statements has'.fault says.read has'.has)
+    by (inr (inl has)) (inl says') = absurd (once.apart text says'.statements has.fault says'.read has.has)
+    by (inr (inl has)) (inr (inl has')) = has.is ∙ ap (λ f. Wrong (fault_of.Json f)) (once.faults text has.fault has'.fault has.has has'.has) ∙ sym has'.is
+    by (inr (inr none)) second = absurd (want none)
+    by (inl says) (inr (inr none)) = absurd (want' none)
+    by (inr (inl has)) (inr (inr none)) = absurd (want' none)
+
+ended_once : Once → (way : LoadWay) (json : Bool) (text : List ℕ) (one other : Option Item × Reading) → NotWanting one → NotWanting other → Ended way json text one → Ended way json text other → one ≡ other
+ended_once once way json text one other want want' first second =
+    first.is ∙ ap (λ i. (Some i, Configuring)) (item_once once way json text first.item second.item (λ none. want (ap (λ (c : Option Item × Reading). c.0) first.is ∙ ap Some none)) (λ none. want' (ap (λ (c : Option Item × Reading). c.0) second.is ∙ ap Some none)) first.ends second.ends) ∙ sym second.is
+
+line_once : Once → (way : LoadWay) (json : Bool) (text line : List ℕ) (is_end : Bool) (one other : Option Item × Reading) → NotWanting one → NotWanting other →
+    MatchBool is_end (Ended way json text one) (one ≡ (None, with_line (Collecting way json text) line)) → MatchBool is_end (Ended way json text other) (other ≡ (None, with_line (Collecting way json text) line)) → one ≡ other
+line_once once way json text line true one other want want' first second = ended_once once way json text one other want want' first second
+line_once once way json text line false one other want want' first second = first ∙ sym second
+
+-- what results from a line is one, unless memory was wanting
+comes_once : Once → (reading : Reading) (line : Line) (one other : Option Item × Reading) → NotWanting one → NotWanting other → ComesOf reading line one → ComesOf reading line other → one ≡ other
+comes_once once Operational (Text line) one other want want' first second = read_once once false Operational line one other first second
+comes_once once Operational TooLong one other want want' first second = first ∙ sym second
+comes_once once Operational End one other want want' first second = first ∙ sym second
+comes_once once Operational Failed one other want want' first second = first ∙ sym second
+comes_once once Operational Full one other want want' first second = first ∙ sym second
+comes_once once Configuring (Text line) one other want want' first second = read_once once true Configuring line one other first second
+comes_once once Configuring TooLong one other want want' first second = first ∙ sym second
+comes_once once Configuring End one other want want' first second = first ∙ sym second
+comes_once once Configuring Failed one other want want' first second = first ∙ sym second
+comes_once once Configuring Full one other want want' first second = first ∙ sym second
+comes_once once (Collecting way json text) (Text line) one other want want' first second = line_once once way json text line (is_end_of_text line) one other want want' first second
+comes_once once (Collecting way json text) TooLong one other want want' first second = first ∙ sym second
+comes_once once (Collecting way json text) End one other want want' first second = ended_once once way json text one other want want' first second
+comes_once once (Collecting way json text) Failed one other want want' first second = first ∙ sym second
+comes_once once (Collecting way json text) Full one other want want' first second = first ∙ sym second
+comes_once once (Spoilt fault) (Text line) one other want want' first second = first ∙ sym second
+comes_once once (Spoilt fault) TooLong one other want want' first second = first ∙ sym second
+comes_once once (Spoilt fault) End one other want want' first second = first ∙ sym second
+comes_once once (Spoilt fault) Failed one other want want' first second = first ∙ sym second
+comes_once once (Spoilt fault) Full one other want want' first second = first ∙ sym second
+comes_once once Out (Text line) one other want want' first second = first ∙ sym second
+comes_once once Out TooLong one other want want' first second = first ∙ sym second
+comes_once once Out End one other want want' first second = first ∙ sym second
+comes_once once Out Failed one other want want' first second = first ∙ sym second
+comes_once once Out Full one other want want' first second = first ∙ sym second
 
 -- no fault and no want of memory ended a session
 abbrev pub IsWhole : How → Type 0
@@ -124,12 +289,23 @@ stopped how reading line lines (inr full) ends read =
 
 -- exchanges of which none found no memory
 abbrev pub AllWere : List Exchange → Type 0
-AllWere xs = AllByRecursion (λ turn. turn ≡ NoMemory → ⊥) (map turn_taken xs)
+AllWere xs = AllByRecursion (λ turn. is_wanting turn ≡ false) (map turn_taken xs)
+
+turn_wanted : (x : Exchange) → item_asked x ≡ item.NoMemory → is_wanting (turn_taken x) ≡ false → ⊥
+turn_wanted (Asked moment command given manner) is want = item_wanting manner command is
+turn_wanted (Refused moment fault) is want = false≢true (sym (ap is_wrong is))
+turn_wanted (Wanted moment) is want = false≢true (sym want)
+
+-- no item of theirs was wanting memory
+not_wanting : (R : Reading → List Exchange → Type 0) (came : Option Item × Reading) (xs more : List Exchange) → Continues R came xs → AllWere (xs ++ more) → NotWanting came
+not_wanting R (None, next) xs more goes wants = λ is. none-some item.NoMemory is
+not_wanting R (Some item, next) [] more goes wants = absurd goes
+not_wanting R (Some item, next) (x ∷ xs) more goes wants = λ is. turn_wanted x (goes.0 ∙ some_is is) wants.0
 
 -- what two sessions have in common of the exchanges to come says that the next two are one, where their items and moments are
 abbrev pub Peels : (List Exchange → List Exchange → Type 0) → Type 0
 Peels Common =
-    (x y : Exchange) (xs ys : List Exchange) → item_asked x ≡ item_asked y → moment_in x ≡ moment_in y → (turn_taken x ≡ NoMemory → ⊥) → (turn_taken y ≡ NoMemory → ⊥)
+    (x y : Exchange) (xs ys : List Exchange) → item_asked x ≡ item_asked y → moment_in x ≡ moment_in y → is_wanting (turn_taken x) ≡ false → is_wanting (turn_taken y) ≡ false
     → Common (x ∷ xs) (y ∷ ys) → (x ≡ y) × Common xs ys
 
 module _ (Common : List Exchange → List Exchange → Type 0) (peels : Peels Common) (once : Once) where
@@ -162,7 +338,7 @@ module _ (Common : List Exchange → List Exchange → Type 0) (peels : Peels Co
       absurd (stopped how' reading line (lines ++ rest) w' (subst (λ r. EndsBy how' r (line ∷ (lines ++ rest))) reads'.1 (subst (EndsBy how' last') (sym is) ends')) reads.is_read)
   same_items how how' (line ∷ lines) (line' ∷ lines') rest rest' reading last last' xs ys more more' coming w w' is reads reads' ends ends' alike =
       on reads.came (λ next us vs now r r' a. same_items how how' lines lines' rest rest' next last last' us vs more more' now w w' (tail_is is) r r' ends ends' a) xs ys reads.goes
-      (subst (λ came. Continues (λ next us. ReadsThrough lines' next us last') came ys) (comes_once once reading line reads'.came reads.came (subst (λ l. ComesOf reading l reads'.came) (sym (head_is is)) reads'.comes) reads.comes) reads'.goes) coming alike
+      (subst (λ came. Continues (λ next us. ReadsThrough lines' next us last') came ys) (comes_once once reading line reads'.came reads.came (not_wanting (λ next us. ReadsThrough lines' next us last') reads'.came ys more' reads'.goes alike.wants') (not_wanting (λ next us. ReadsThrough lines next us last) reads.came xs more reads.goes alike.wants) (subst (λ l. ComesOf reading l reads'.came) (sym (head_is is)) reads'.comes) reads.comes) reads'.goes) coming alike
     where
       on : (came : Option Item × Reading) → ((next : Reading) (us vs : List Exchange) (now : ℕ → ℕ) → ReadsThrough lines next us last → ReadsThrough lines' next vs last' → Alike now (us ++ more) (vs ++ more') → Same last last' more more' us vs) → (us vs : List Exchange) →
           Continues (λ next us. ReadsThrough lines next us last) came us → Continues (λ next vs. ReadsThrough lines' next vs last') came vs → (now : ℕ → ℕ) → Alike now (us ++ more) (vs ++ more') → Same last last' more more' us vs
@@ -185,7 +361,7 @@ module _ (Common : List Exchange → List Exchange → Type 0) (peels : Peels Co
   same_logout Out coming xs ys is is' alike = (is ∙ sym is', subst (λ l. Common [] l) is' (subst (λ l. Common l ys) is alike.common))
   same_logout Operational coming xs ys is is' alike = one_logout coming xs ys is is' alike
   same_logout Configuring coming xs ys is is' alike = one_logout coming xs ys is is' alike
-  same_logout (Collecting way text) coming xs ys is is' alike = one_logout coming xs ys is is' alike
+  same_logout (Collecting way json text) coming xs ys is is' alike = one_logout coming xs ys is is' alike
   same_logout (Spoilt fault) coming xs ys is is' alike = one_logout coming xs ys is is' alike
 
 -- a session whose sink never failed wrote all its texts
@@ -232,8 +408,8 @@ module _ {D : Type 0} (follows : Following D) (once : Once) (limit : ℕ) (bytes
           left' = answers'.0;
           answers = answers.1;
           answers' = answers'.1;
-          wants = subst (AllByRecursion (λ turn. turn ≡ NoMemory → ⊥)) first.session.turns.turned first.no_want;
-          wants' = subst (AllByRecursion (λ turn. turn ≡ NoMemory → ⊥)) second.session.turns.turned second.no_want;
+          wants = subst (AllByRecursion (λ turn. is_wanting turn ≡ false)) first.session.turns.turned first.no_want;
+          wants' = subst (AllByRecursion (λ turn. is_wanting turn ≡ false)) second.session.turns.turned second.no_want;
           common = common;
         }
 
@@ -271,59 +447,94 @@ record AtPlaces {D : Type 0} (names : Naming D) (d e : D) (xs ys : List Exchange
   pub seen : SeeAlike (map turn_taken xs) (map turn_taken ys)
   pub named : AllByRecursion (IsNamed names d) xs
   pub named' : AllByRecursion (IsNamed names e) ys
+  pub written : AllByRecursion IsWrittenIn xs
+  pub written' : AllByRecursion IsWrittenIn ys
 
-module _ {D : Type 0} (names : Naming D) (d e : D) (agree : Agree names d e) where
-  -- the same command at the same moment came to the same, where the place and the front are
-  asked_same : (moment moment' : ℕ) (command command' : Command) (given given' : Given0) → Ask command ≡ Ask command' → moment ≡ moment'
+-- the same item at the same moment, for which the same was given
+pub asked_is : Once → (moment moment' : ℕ) (command command' : Command) (given given' : Given0) (manner manner' : Manner) → moment ≡ moment' → item_of manner command ≡ item_of manner' command' → given ≡ given'
+    → IsWritten command given manner → IsWritten command' given' manner' → is_dry manner ≡ false → is_dry manner' ≡ false → Asked moment command given manner ≡ Asked moment' command' given' manner'
+asked_is once moment moment' command command' given given' manner manner' when item same w w' wet wet' =
+    let which : command ≡ command' = command_once manner manner' command command' given given' item w w' in
+    let how : manner ≡ manner' = manner_once once manner manner' command command' given' item (subst (λ g. IsWritten command g manner) same w) w' wet wet' in
+    ap (λ m. Asked m command given manner) when ∙ ap (λ x. Asked moment' x given manner) which ∙ ap (λ g. Asked moment' command' g manner) same ∙ ap (Asked moment' command' given') how
+
+module _ {D : Type 0} (names : Naming D) (d e : D) (agree : Agree names d e) (once : Once) where
+  -- the same item at the same moment came to the same, where the place and the front are
+  asked_same : (moment moment' : ℕ) (command command' : Command) (given given' : Given0) (manner manner' : Manner) → item_of manner command ≡ item_of manner' command' → moment ≡ moment'
+      → IsWritten command given manner → IsWritten command' given' manner' → is_wanting (turn_of_given manner moment given) ≡ false → is_wanting (turn_of_given manner' moment' given') ≡ false
       → names d command moment given → names e command' moment' given' → place_of given ≡ place_of given' → front_of given ≡ front_of given'
-      → Asked moment command given ≡ Asked moment' command' given'
-  asked_same moment moment' command command' given given' item when named named' place front =
-      let which : command ≡ command' = command_is command command' item in
+      → Asked moment command given manner ≡ Asked moment' command' given' manner'
+  asked_same moment moment' command command' given given' manner manner' item when w w' want want' named named' place front =
+      let which : command ≡ command' = command_once manner manner' command command' given given' item w w' in
       let there : names e command moment given' =
       subst (λ m. names e command m given') (sym when) (subst (λ x. names e x moment' given') (sym which) named') in
-      ap (λ m. Asked m command given) when ∙ ap (λ x. Asked moment' x given) which
-      ∙ ap (Asked moment' command') (agree command moment given given' named there place front)
+      asked_is once moment moment' command command' given given' manner manner' when item (agree command moment given given' named there place front) w w' (not_dry manner moment given want) (not_dry manner' moment' given' want')
 
   peels_places : Peels (AtPlaces names d e)
-  peels_places (Asked moment command (given.Kept place reply)) (Asked moment' command' (given.Kept place' reply')) xs ys item when want want' at = (
-    asked_same moment moment' command command' (given.Kept place reply) (given.Kept place' reply') item when at.named.0 at.named'.0 (ap Some (head_is at.places)) refl,
-    record { places = tail_is at.places; seen = λ number. at.seen (suc number); named = at.named.1; named' = at.named'.1 },
+  peels_places (Asked moment command (given.Kept place reply) manner) (Asked moment' command' (given.Kept place' reply') manner') xs ys item when want want' at =
+      let is : place ∷ flat_map kept_place (map turn_taken xs) ≡ place' ∷ flat_map kept_place (map turn_taken ys) =
+      ap (λ l. l ++ flat_map kept_place (map turn_taken xs)) (sym (kept_in (is_dry manner) place)) ∙ at.places ∙ ap (λ l. l ++ flat_map kept_place (map turn_taken ys)) (kept_in (is_dry manner') place') in (
+        asked_same moment moment' command command' (given.Kept place reply) (given.Kept place' reply') manner manner' item when at.written.0 at.written'.0 want want' at.named.0 at.named'.0 (ap Some (head_is is)) refl,
+        record { places = tail_is is; seen = λ number. at.seen (suc number); named = at.named.1; named' = at.named'.1; written = at.written.1; written' = at.written'.1 },
+      )
+  peels_places (Asked moment command (given.Seen front reply) manner) (Asked moment' command' (given.Seen front' reply') manner') xs ys item when want want' at = (
+    asked_same moment moment' command command' (given.Seen front reply) (given.Seen front' reply') manner manner' item when at.written.0 at.written'.0 want want' at.named.0 at.named'.0 refl
+        (sym (seen_at (is_dry manner) front moment) ∙ at.seen 0 ∙ seen_at (is_dry manner') front' moment'),
+    record {
+      places = ap (λ l. l ++ flat_map kept_place (map turn_taken xs)) (sym (seen_in (is_dry manner) front moment)) ∙ at.places ∙ ap (λ l. l ++ flat_map kept_place (map turn_taken ys)) (seen_in (is_dry manner') front' moment');
+      seen = λ number. at.seen (suc number);
+      named = at.named.1;
+      named' = at.named'.1;
+      written = at.written.1;
+      written' = at.written'.1;
+    },
   )
-  peels_places (Asked moment command (given.Seen front reply)) (Asked moment' command' (given.Seen front' reply')) xs ys item when want want' at = (
-    asked_same moment moment' command command' (given.Seen front reply) (given.Seen front' reply') item when at.named.0 at.named'.0 refl (at.seen 0),
-    record { places = at.places; seen = λ number. at.seen (suc number); named = at.named.1; named' = at.named'.1 },
-  )
-  peels_places (Asked moment command (given.Kept place reply)) (Asked moment' command' (given.Seen front' reply')) xs ys item when want want' at = absurd (none-some front' (at.seen 0))
-  peels_places (Asked moment command (given.Seen front reply)) (Asked moment' command' (given.Kept place' reply')) xs ys item when want want' at = absurd (none-some front (sym (at.seen 0)))
-  peels_places (Asked moment command given.NoMemory) y xs ys item when want want' at = absurd (want refl)
-  peels_places (Asked moment command (given.Kept place reply)) (Asked moment' command' given.NoMemory) xs ys item when want want' at = absurd (want' refl)
-  peels_places (Asked moment command (given.Seen front reply)) (Asked moment' command' given.NoMemory) xs ys item when want want' at = absurd (want' refl)
+  peels_places (Asked moment command (given.Kept place reply) manner) (Asked moment' command' (given.Seen front' reply') manner') xs ys item when want want' at =
+      absurd (none-some front' (sym (kept_front (is_dry manner) place) ∙ at.seen 0 ∙ seen_at (is_dry manner') front' moment'))
+  peels_places (Asked moment command (given.Seen front reply) manner) (Asked moment' command' (given.Kept place' reply') manner') xs ys item when want want' at =
+      absurd (none-some front (sym (kept_front (is_dry manner') place') ∙ sym (at.seen 0) ∙ seen_at (is_dry manner) front moment))
+  peels_places (Asked moment command given.NoMemory manner) y xs ys item when want want' at = absurd (false≢true (sym want))
+  peels_places (Asked moment command (given.Kept place reply) manner) (Asked moment' command' given.NoMemory manner') xs ys item when want want' at = absurd (false≢true (sym want'))
+  peels_places (Asked moment command (given.Seen front reply) manner) (Asked moment' command' given.NoMemory manner') xs ys item when want want' at = absurd (false≢true (sym want'))
   peels_places (Refused moment fault) (Refused moment' fault') xs ys item when want want' at = (
     ap (λ m. Refused m fault) when ∙ ap (Refused moment') (fault_is fault fault' item),
-    record { places = at.places; seen = λ number. at.seen (suc number); named = at.named.1; named' = at.named'.1 },
+    record { places = at.places; seen = λ number. at.seen (suc number); named = at.named.1; named' = at.named'.1; written = at.written.1; written' = at.written'.1 },
   )
-  peels_places (Asked moment command (given.Kept place reply)) (Refused moment' fault') xs ys item when want want' at = absurd (ask_is command fault' item)
-  peels_places (Asked moment command (given.Seen front reply)) (Refused moment' fault') xs ys item when want want' at = absurd (ask_is command fault' item)
-  peels_places (Refused moment fault) (Asked moment' command' given') xs ys item when want want' at = absurd (ask_is command' fault (sym item))
+  peels_places (Asked moment command (given.Kept place reply) manner) (Refused moment' fault') xs ys item when want want' at = absurd (item_wrong manner command fault' item)
+  peels_places (Asked moment command (given.Seen front reply) manner) (Refused moment' fault') xs ys item when want want' at = absurd (item_wrong manner command fault' item)
+  peels_places (Refused moment fault) (Asked moment' command' given' manner') xs ys item when want want' at = absurd (item_wrong manner' command' fault (sym item))
+  peels_places (Wanted moment) y xs ys item when want want' at = absurd (false≢true (sym want))
+  peels_places (Asked moment command (given.Kept place reply) manner) (Wanted moment') xs ys item when want want' at = absurd (false≢true (sym want'))
+  peels_places (Asked moment command (given.Seen front reply) manner) (Wanted moment') xs ys item when want want' at = absurd (false≢true (sym want'))
+  peels_places (Refused moment fault) (Wanted moment') xs ys item when want want' at = absurd (false≢true (sym want'))
 
 -- two doors that stood alike, and went on by what they were asked
 record FromOne {D : Type 0} (follows : Following D) (e e' : D) (xs ys : List Exchange) : Type 0 where
   pub start : D
   pub went : GoesBy follows xs start e
   pub went' : GoesBy follows ys start e'
+  pub written : AllByRecursion IsWrittenIn xs
+  pub written' : AllByRecursion IsWrittenIn ys
 
-peels_one : {D : Type 0} (follows : Following D) (e e' : D) → IsDetermined follows → Peels (FromOne follows e e')
-peels_one follows e e' determined (Asked moment command given) (Asked moment' command' given') xs ys item when want want' from =
-    let which : command ≡ command' = command_is command command' item in
+-- a turn that isn't of want of memory is of something given
+pub given_some : (manner : Manner) (moment : ℕ) (gave : Given0) → is_wanting (turn_of_given manner moment gave) ≡ false → gave ≡ given.NoMemory → ⊥
+given_some manner moment gave want is = false≢true (sym want ∙ ap (λ g. is_wanting (turn_of_given manner moment g)) is)
+
+peels_one : {D : Type 0} (follows : Following D) (e e' : D) → IsDetermined follows → Once → Peels (FromOne follows e e')
+peels_one follows e e' determined once (Asked moment command given manner) (Asked moment' command' given' manner') xs ys item when want want' from =
+    let which : command ≡ command' = command_once manner manner' command command' given given' item from.written.0 from.written'.0 in
     let did : follows from.start command moment given' from.went'.0 = subst (λ m. follows from.start command m given' from.went'.0) (sym when) (subst (λ x. follows from.start x moment' given' from.went'.0) (sym which) from.went'.1) in
-    let same : (given ≡ given') × (from.went.0 ≡ from.went'.0) = determined from.start from.went.0 from.went'.0 command moment given given' from.went.1 did (λ is. want (ap (λ g. turn_taken (Asked moment command g)) is)) (λ is. want' (ap (λ g. turn_taken (Asked moment' command' g)) is)) in (
-      ap (λ m. Asked m command given) when ∙ ap (λ x. Asked moment' x given) which ∙ ap (Asked moment' command') same.0,
-      record { start = from.went'.0; went = subst (λ x. GoesBy follows xs x e) same.1 from.went.2; went' = from.went'.2 },
+    let same : (given ≡ given') × (from.went.0 ≡ from.went'.0) = determined from.start from.went.0 from.went'.0 command moment given given' from.went.1 did (given_some manner moment given want) (given_some manner' moment' given' want') in (
+      asked_is once moment moment' command command' given given' manner manner' when item same.0 from.written.0 from.written'.0 (not_dry manner moment given want) (not_dry manner' moment' given' want'),
+      record { start = from.went'.0; went = subst (λ x. GoesBy follows xs x e) same.1 from.went.2; went' = from.went'.2; written = from.written.1; written' = from.written'.1 },
     )
-peels_one follows e e' determined (Refused moment fault) (Refused moment' fault') xs ys item when want want' from =
-    (ap (λ m. Refused m fault) when ∙ ap (Refused moment') (fault_is fault fault' item), record { start = from.start; went = from.went; went' = from.went' })
-peels_one follows e e' determined (Asked moment command given) (Refused moment' fault') xs ys item when want want' from = absurd (ask_is command fault' item)
-peels_one follows e e' determined (Refused moment fault) (Asked moment' command' given') xs ys item when want want' from = absurd (ask_is command' fault (sym item))
+peels_one follows e e' determined once (Refused moment fault) (Refused moment' fault') xs ys item when want want' from =
+    (ap (λ m. Refused m fault) when ∙ ap (Refused moment') (fault_is fault fault' item), record { start = from.start; went = from.went; went' = from.went'; written = from.written.1; written' = from.written'.1 })
+peels_one follows e e' determined once (Asked moment command given manner) (Refused moment' fault') xs ys item when want want' from = absurd (item_wrong manner command fault' item)
+peels_one follows e e' determined once (Refused moment fault) (Asked moment' command' given' manner') xs ys item when want want' from = absurd (item_wrong manner' command' fault (sym item))
+peels_one follows e e' determined once (Wanted moment) y xs ys item when want want' from = absurd (false≢true (sym want))
+peels_one follows e e' determined once (Asked moment command given manner) (Wanted moment') xs ys item when want want' from = absurd (false≢true (sym want'))
+peels_one follows e e' determined once (Refused moment fault) (Wanted moment') xs ys item when want want' from = absurd (false≢true (sym want'))
 
 -- two sessions at the same places, and over snapshots of as many entries, of doors that name the same
 pub one_text : {D : Type 0} (names : Naming D) (follows : Following D) (named : (d e : D) (command : Command) (moment : ℕ) (given : Given0) → follows d command moment given e → names e command moment given)
@@ -331,17 +542,19 @@ pub one_text : {D : Type 0} (names : Naming D) (follows : Following D) (named : 
     (limit : ℕ) (bytes : List ℕ) (coming : ℕ → ℕ) (d e d' e' : D) (one other : SessionView) → Undisturbed follows limit bytes coming d e one → Undisturbed follows limit bytes coming d' e' other → Agree names e e' →
     flat_map kept_place one.turns ≡ flat_map kept_place other.turns → SeeAlike one.turns other.turns → (one.turns ≡ other.turns) × (one.held ≡ other.held)
 one_text names follows named keeps once limit bytes coming d e d' e' one other first second agree places seen =
-    outcome_same follows once limit bytes coming d e d' e' one other first second (all_same follows once limit bytes coming d e d' e' one other first second (AtPlaces names e e') (peels_places names e e' agree) (record {
+    outcome_same follows once limit bytes coming d e d' e' one other first second (all_same follows once limit bytes coming d e d' e' one other first second (AtPlaces names e e') (peels_places names e e' agree once) (record {
       places = ap (flat_map kept_place) (sym first.session.turns.turned) ∙ places ∙ ap (flat_map kept_place) second.session.turns.turned;
       seen = λ number. ap (λ turns. front_at turns number) (sym first.session.turns.turned) ∙ seen number ∙ ap (λ turns. front_at turns number) second.session.turns.turned;
       named = all_named names follows named keeps (first.session.asked ++ first.session.final) d e first.session.turns.asked;
       named' = all_named names follows named keeps (second.session.asked ++ second.session.final) d' e' second.session.turns.asked;
+      written = first.session.turns.written;
+      written' = second.session.turns.written;
     })).0
 
 -- two sessions of one door that leaves no choice
 pub one_run : {D : Type 0} (follows : Following D) → Once → IsDetermined follows → (limit : ℕ) (bytes : List ℕ) (coming : ℕ → ℕ) (d e e' : D) (one other : SessionView) → Undisturbed follows limit bytes coming d e one → Undisturbed follows limit bytes coming d e' other →
     (one.turns ≡ other.turns) × (one.held ≡ other.held) × (e ≡ e')
 one_run follows once determined limit bytes coming d e e' one other first second =
-    let all = all_same follows once limit bytes coming d e d e' one other first second (FromOne follows e e') (peels_one follows e e' determined) (record { start = d; went = first.session.turns.asked; went' = second.session.turns.asked }) in
+    let all = all_same follows once limit bytes coming d e d e' one other first second (FromOne follows e e') (peels_one follows e e' determined once) (record { start = d; went = first.session.turns.asked; went' = second.session.turns.asked; written = first.session.turns.written; written' = second.session.turns.written }) in
     let out = outcome_same follows once limit bytes coming d e d e' one other first second all.0 in
     (out.0, out.1, all.1.went ∙ sym all.1.went')

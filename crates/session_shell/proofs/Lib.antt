@@ -3,4 +3,5 @@ pub mod CutLemmas
 pub mod TakeLemmas
 pub mod StepLemmas
 pub mod EndLemmas
+mod JsonLemmas
 pub mod LawLemmas

@@ -13,26 +13,31 @@ use Rattle.reply_text.specs.declared.fault.ShellFault.{ShellFault}
 use Rattle.session_shell.specs.declared.turn.How.{How}
 use Rattle.session_shell.specs.declared.turn.How.TheVariants.{Clean, SinkFault}
 use Rattle.session_shell.specs.declared.turn.Turn.TheVariants.{Local}
+use Rattle.session_shell.specs.declared.turn.Turn.TheVariants as turn
 use Rattle.session_shell.specs.declared.door.Given0.{Given0}
 use Rattle.session_shell.specs.declared.reading.Item.{Item}
-use Rattle.session_shell.specs.declared.reading.Item.TheVariants.{Ask, Wrong}
+use Rattle.session_shell.specs.declared.json_show.Manner.{Manner}
+use Rattle.session_shell.specs.declared.reading.Item.TheVariants.{Wrong}
+use Rattle.session_shell.specs.declared.reading.Item.TheVariants as item
 use Rattle.session_shell.specs.declared.reading.Reading.{Reading}
 use Rattle.session_shell.specs.declared.reading.Reading.TheVariants.{Operational, Configuring, Collecting, Spoilt, Out}
-use Rattle.session_shell.specs.Exchange.{Exchange, Asked, Refused, text_written, turn_of_given, text_of_given, after_given}
+use Rattle.session_shell.specs.Exchange.{Exchange, Asked, Refused, Wanted, item_of, text_by, text_written, turn_of_given, after_given}
 use Rattle.session_shell.specs.Items.{ComesOf, ReadsLine}
+use Rattle.session_shell.specs.Json.{IsWritten}
 use Rattle.session_shell.specs.Transcript.{Following, SessionView}
 use Rattle.session_shell.specs.Steps.{how_next, is_end, is_out, ServesItem, ServesLine, standing, TakesLine}
 use Rattle.session_shell.proofs.TurnLemmas.{one_answer, Turns-none}
 
--- an item that was asked
-pub Serves-asked : {D T E : Type 0} (follows : Following D) (command : Command) (moment : ℕ) (given : Given0) (put : Result T E) (d e : D) (reading reading' : Reading) (old new : SessionView) →
-    TakesAnswer old.coming new.coming moment → new.turns ≡ old.turns ++ turn_of_given moment given ∷ [] → follows d command moment given e → reading' ≡ after_given reading given → WroteAs put (text_of_given given) old.held new.held →
-    ServesItem follows (Ask command) put (standing d reading old) (standing e reading' new)
-Serves-asked follows command moment given put d e reading reading' old new takes turned did is_reading wrote = record {
-  exchange = Asked moment command given;
-  is_item = refl;
+-- an item for which a command was asked
+pub Serves-asked : {D T E : Type 0} (follows : Following D) (item : Item) (command : Command) (moment : ℕ) (given : Given0) (manner : Manner) (put : Result T E) (d e : D) (reading reading' : Reading) (old new : SessionView) →
+    item_of manner command ≡ item → IsWritten command given manner →
+    TakesAnswer old.coming new.coming moment → new.turns ≡ old.turns ++ turn_of_given manner moment given ∷ [] → follows d command moment given e → reading' ≡ after_given reading given → WroteAs put (text_by manner given) old.held new.held →
+    ServesItem follows item put (standing d reading old) (standing e reading' new)
+Serves-asked follows item command moment given manner put d e reading reading' old new is_item written takes turned did is_reading wrote = record {
+  exchange = Asked moment command given manner;
+  is_item = is_item;
   is_reading = is_reading;
-  turns = record { moments = one_answer old.coming new.coming moment takes; turned = turned; asked = (e, did, refl) };
+  turns = record { moments = one_answer old.coming new.coming moment takes; turned = turned; asked = (e, did, refl); written = (written, tt) };
   wrote = wrote;
 }
 
@@ -44,7 +49,19 @@ Serves-refused follows moment fault put d reading old new takes turned wrote = r
   exchange = Refused moment fault;
   is_item = refl;
   is_reading = refl;
-  turns = record { moments = one_answer old.coming new.coming moment takes; turned = turned; asked = refl };
+  turns = record { moments = one_answer old.coming new.coming moment takes; turned = turned; asked = refl; written = (tt, tt) };
+  wrote = wrote;
+}
+
+-- an item for which memory was wanting
+pub Serves-wanted : {D T E : Type 0} (follows : Following D) (moment : ℕ) (put : Result T E) (d : D) (reading : Reading) (old new : SessionView) →
+    TakesAnswer old.coming new.coming moment → new.turns ≡ old.turns ++ turn.NoMemory ∷ [] → WroteAs put (text_written (Wanted moment)) old.held new.held →
+    ServesItem follows item.NoMemory put (standing d reading old) (standing d reading new)
+Serves-wanted follows moment put d reading old new takes turned wrote = record {
+  exchange = Wanted moment;
+  is_item = refl;
+  is_reading = refl;
+  turns = record { moments = one_answer old.coming new.coming moment takes; turned = turned; asked = refl; written = (tt, tt) };
   wrote = wrote;
 }
 
@@ -86,14 +103,14 @@ Takes-item {D} {T} {E} follows line item put d e reading mid reading' old new re
 pub not_failed : (reading : Reading) → ReadsLine reading Failed → ⊥
 not_failed Operational read = read
 not_failed Configuring read = read
-not_failed (Collecting way text) read = read
+not_failed (Collecting way json text) read = read
 not_failed (Spoilt fault) read = read
 not_failed Out read = read
 
 pub not_full : (reading : Reading) → ReadsLine reading Full → ⊥
 not_full Operational read = read
 not_full Configuring read = read
-not_full (Collecting way text) read = read
+not_full (Collecting way json text) read = read
 not_full (Spoilt fault) read = read
 not_full Out read = read
 
@@ -101,7 +118,7 @@ pub out_is : (reading : Reading) → is_out reading ≡ true → reading ≡ Out
 out_is Out is = refl
 out_is Operational is = absurd (false≢true is)
 out_is Configuring is = absurd (false≢true is)
-out_is (Collecting way text) is = absurd (false≢true is)
+out_is (Collecting way json text) is = absurd (false≢true is)
 out_is (Spoilt fault) is = absurd (false≢true is)
 
 -- a session ends by its sink only where a text was not written

@@ -1,12 +1,12 @@
 -- Turns, lines and answers, and then more of them.
 use Rattle.std.proofs.Common.{◌≡◌, ℕ, ◌+◌, List, [], ◌∷◌, ◌++◌, map, refl, sym, ap, subst, ◌∙◌, append_assoc, Option, None, Some}
-use Rattle.std.specs.List.{flat_map}
+use Rattle.std.specs.List.{AllByRecursion, flat_map}
 use Rattle.std.proofs.lemmas.List.{append-nil}
 use Rattle.io_edge.specs.Ends.{TakesAnswer}
 use Rattle.io_edge.specs.declared.lines.Line.{Line}
 use Rattle.session_shell.specs.declared.reading.Reading.{Reading}
 use Rattle.session_shell.specs.declared.reading.Item.{Item}
-use Rattle.session_shell.specs.Exchange.{Exchange, Asked, Refused, turn_taken, moment_in, reading_after}
+use Rattle.session_shell.specs.Exchange.{Exchange, Asked, Refused, Wanted, IsWrittenIn, turn_taken, moment_in, reading_after}
 use Rattle.session_shell.specs.Items.{BeginsByLine, Continues, ReadsThrough}
 use Rattle.session_shell.specs.Transcript.{AnswersAre, Following, GoesBy, SessionView, TakesAnswers, TakesTurns}
 
@@ -47,8 +47,13 @@ one_answer (Some coming) None answer takes = absurd takes
 
 GoesBy-append : {D : Type 0} (follows : Following D) (first second : List Exchange) (d m e : D) → GoesBy follows first d m → GoesBy follows second m e → GoesBy follows (first ++ second) d e
 GoesBy-append follows [] second d m e front back = subst (λ x. GoesBy follows second x e) front back
-GoesBy-append follows (Asked moment command given ∷ first) second d m e front back = (front.0, front.1, GoesBy-append follows first second front.0 m e front.2 back)
+GoesBy-append follows (Asked moment command given manner ∷ first) second d m e front back = (front.0, front.1, GoesBy-append follows first second front.0 m e front.2 back)
 GoesBy-append follows (Refused moment fault ∷ first) second d m e front back = GoesBy-append follows first second d m e front back
+GoesBy-append follows (Wanted moment ∷ first) second d m e front back = GoesBy-append follows first second d m e front back
+
+All-append : (first second : List Exchange) → AllByRecursion IsWrittenIn first → AllByRecursion IsWrittenIn second → AllByRecursion IsWrittenIn (first ++ second)
+All-append [] second front back = back
+All-append (exchange ∷ first) second front back = (front.0, All-append first second front.1 back)
 
 -- turns, and then more of them
 pub Turns-then : {D : Type 0} (follows : Following D) (first second : List Exchange) (d m e : D) (old mid new : SessionView) →
@@ -57,10 +62,11 @@ Turns-then follows first second d m e old mid new front back = record {
   moments = subst (λ answers. TakesAnswers old.coming answers new.coming) (sym (map_over_append moment_in first second)) (TakesAnswers-append (map moment_in first) (map moment_in second) old.coming mid.coming new.coming front.moments back.moments);
   turned = back.turned ∙ ap (λ turns. turns ++ map turn_taken second) front.turned ∙ append_assoc old.turns (map turn_taken first) (map turn_taken second) ∙ ap (λ turns. old.turns ++ turns) (sym (map_over_append turn_taken first second));
   asked = GoesBy-append follows first second d m e front.asked back.asked;
+  written = All-append first second front.written back.written;
 }
 
 pub Turns-none : {D : Type 0} (follows : Following D) (d : D) (view : SessionView) → TakesTurns follows [] d d view view
-Turns-none follows d view = record { moments = no_answer view.coming; turned = sym (append-nil view.turns); asked = refl }
+Turns-none follows d view = record { moments = no_answer view.coming; turned = sym (append-nil view.turns); asked = refl; written = tt }
 
 Continues-more : (R S : Reading → List Exchange → Type 0) (more : List Exchange) → ((next : Reading) (rest : List Exchange) → R next rest → S next (rest ++ more)) → (came : Option Item × Reading) (exchanges : List Exchange) → Continues R came exchanges → Continues S came (exchanges ++ more)
 Continues-more R S more on (None, next) exchanges goes = on next exchanges goes

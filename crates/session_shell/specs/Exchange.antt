@@ -1,5 +1,5 @@
 -- What a session's items came to, one by one. The rules are this project's own.
-use Rattle.std.specs.Prelude.{ℕ, List, if◌then◌else◌, Option, None, Some}
+use Rattle.std.specs.Prelude.{ℕ, List, Bool, true, false, if◌then◌else◌, Option, None, Some}
 use Rattle.commands.specs.declared.command.Command.{Command}
 use Rattle.config_core.specs.declared.reply.Reply.{Reply}
 use Rattle.config_core.specs.declared.reply.Reply.TheVariants.{Done, LoggedOut, Text, Entered, Left}
@@ -8,12 +8,16 @@ use Rattle.reply_text.specs.declared.fault.ShellFault.{ShellFault}
 use Rattle.reply_text.specs.Texts.{text_of_reply, text_of_fault, no_memory_text}
 use Rattle.session_shell.specs.declared.door.Given0.{Given0}
 use Rattle.session_shell.specs.declared.door.Given0.TheVariants.{Kept, Seen, NoMemory}
+use Rattle.session_shell.specs.declared.json_show.Manner.{Manner}
+use Rattle.session_shell.specs.declared.json_show.Manner.TheVariants.{Plain, Json, Dry, NoJson}
 use Rattle.session_shell.specs.declared.reading.Item.{Item}
-use Rattle.session_shell.specs.declared.reading.Item.TheVariants.{Ask, Wrong}
+use Rattle.session_shell.specs.declared.reading.Item.TheVariants.{Ask, ShowJson, Wrong}
+use Rattle.session_shell.specs.declared.reading.Item.TheVariants as item
 use Rattle.session_shell.specs.declared.reading.Reading.{Reading}
 use Rattle.session_shell.specs.declared.reading.Reading.TheVariants.{Operational, Configuring, Out}
 use Rattle.session_shell.specs.declared.turn.Turn.{Turn}
 use Rattle.session_shell.specs.declared.turn.Turn.TheVariants as turn
+use Rattle.session_shell.specs.Json.{IsWritten}
 
 -- the event's place of what was given
 abbrev pub place_of : Given0 → Option ℕ
@@ -27,32 +31,62 @@ front_of (Kept place reply) = None
 front_of (Seen front reply) = Some front
 front_of NoMemory = None
 
--- an item with the clock's answer that it took: the command and what the door gave for it, or the fault for which it was
--- refused
+-- an item with the clock's answer that it took: the command, what the door gave for it, and how that is written; or the fault for
+-- which it was refused; or want of memory, before anything was asked
 pub data Exchange : Type 0 where
-  Asked : (moment : ℕ) (command : Command) (given : Given0) → Exchange
+  Asked : (moment : ℕ) (command : Command) (given : Given0) (manner : Manner) → Exchange
   Refused : (moment : ℕ) (fault : ShellFault) → Exchange
+  Wanted : (moment : ℕ) → Exchange
 
 -- the answer of the clock that an item took
 abbrev pub moment_in : Exchange → ℕ
-moment_in (Asked moment command given) = moment
+moment_in (Asked moment command given manner) = moment
 moment_in (Refused moment fault) = moment
+moment_in (Wanted moment) = moment
+
+-- the item for which a command is asked whose answer is written so
+abbrev pub item_of : Manner → Command → Item
+item_of Plain command = Ask command
+item_of (Json text) command = ShowJson
+item_of Dry command = ShowJson
+item_of NoJson command = ShowJson
 
 -- the item itself
 abbrev pub item_asked : Exchange → Item
-item_asked (Asked moment command given) = Ask command
+item_asked (Asked moment command given manner) = item_of manner command
 item_asked (Refused moment fault) = Wrong fault
+item_asked (Wanted moment) = item.NoMemory
+
+-- what was given for an item is written as it may be
+abbrev pub IsWrittenIn : Exchange → Type 0
+IsWrittenIn (Asked moment command given manner) = IsWritten command given manner
+IsWrittenIn (Refused moment fault) = Unit {0}
+IsWrittenIn (Wanted moment) = Unit {0}
+
+-- memory for JSON was wanting
+abbrev pub is_dry : Manner → Bool
+is_dry Plain = false
+is_dry (Json text) = false
+is_dry Dry = true
+is_dry NoJson = false
+
+abbrev pub kept_turn : Bool → ℕ → Turn
+kept_turn dry place = if dry then turn.KeptDry place else turn.Kept place
+
+abbrev pub seen_turn : Bool → ℕ → ℕ → Turn
+seen_turn dry front moment = if dry then turn.SeenDry front moment else turn.Seen front moment
 
 -- the turn that stands for what was given at a moment
-abbrev pub turn_of_given : ℕ → Given0 → Turn
-turn_of_given moment (Kept place reply) = turn.Kept place
-turn_of_given moment (Seen front reply) = turn.Seen front moment
-turn_of_given moment NoMemory = turn.NoMemory
+abbrev pub turn_of_given : Manner → ℕ → Given0 → Turn
+turn_of_given manner moment (Kept place reply) = kept_turn (is_dry manner) place
+turn_of_given manner moment (Seen front reply) = seen_turn (is_dry manner) front moment
+turn_of_given manner moment NoMemory = turn.NoMemory
 
 -- the turn that stands for an item
 abbrev pub turn_taken : Exchange → Turn
-turn_taken (Asked moment command given) = turn_of_given moment given
+turn_taken (Asked moment command given manner) = turn_of_given manner moment given
 turn_taken (Refused moment fault) = turn.Local fault
+turn_taken (Wanted moment) = turn.NoMemory
 
 -- the text of what was given
 abbrev pub text_of_given : Given0 → List ℕ
@@ -60,10 +94,18 @@ text_of_given (Kept place reply) = text_of_reply reply
 text_of_given (Seen front reply) = text_of_reply reply
 text_of_given NoMemory = no_memory_text
 
+-- the same, by how it is written
+abbrev pub text_by : Manner → Given0 → List ℕ
+text_by Plain given = text_of_given given
+text_by (Json text) given = text
+text_by Dry given = no_memory_text
+text_by NoJson given = text_of_given given
+
 -- the text that answers an item
 abbrev pub text_written : Exchange → List ℕ
-text_written (Asked moment command given) = text_of_given given
+text_written (Asked moment command given manner) = text_by manner given
 text_written (Refused moment fault) = text_of_fault fault
+text_written (Wanted moment) = no_memory_text
 
 -- how a session reads on after a reply
 abbrev pub after_reply : Reading → Reply → Reading
@@ -85,5 +127,6 @@ after_given reading NoMemory = reading
 
 -- how a session reads on after an item
 abbrev pub reading_after : Reading → Exchange → Reading
-reading_after reading (Asked moment command given) = after_given reading given
+reading_after reading (Asked moment command given manner) = after_given reading given
 reading_after reading (Refused moment fault) = reading
+reading_after reading (Wanted moment) = reading

@@ -1,5 +1,6 @@
-pub mod Exchange
 pub mod Shows
+pub mod Json
+pub mod Exchange
 pub mod Items
 pub mod Cut
 pub mod Transcript

@@ -1,6 +1,6 @@
 -- A session's transcript, from the bytes read to the bytes written. The rules are this project's own.
 use Rattle.std.specs.Prelude.{◌≡◌, ◌<◌, ◌+◌, ◌↔◌, ℕ, List, [], ◌∷◌, ◌++◌, length, map, Option, None, Some, ◌⊎◌}
-use Rattle.std.specs.List.{flat_map}
+use Rattle.std.specs.List.{AllByRecursion, flat_map}
 use Rattle.cfg_base.specs.Counts.{Rose}
 use Rattle.commands.specs.declared.command.Command.{Command}
 use Rattle.commands.specs.declared.command.Command.TheVariants.{Logout}
@@ -15,7 +15,7 @@ use Rattle.session_shell.specs.declared.door.Given0.{Given0}
 use Rattle.session_shell.specs.declared.reading.Reading.{Reading}
 use Rattle.session_shell.specs.declared.reading.Reading.TheVariants.{Operational, Out}
 use Rattle.session_shell.specs.declared.reading.Item.TheVariants.{Ask}
-use Rattle.session_shell.specs.Exchange.{Exchange, Asked, Refused, moment_in, item_asked, turn_taken, text_written}
+use Rattle.session_shell.specs.Exchange.{Exchange, Asked, Refused, Wanted, IsWrittenIn, moment_in, item_asked, turn_taken, text_written}
 use Rattle.session_shell.specs.Items.{ReadsThrough}
 use Rattle.session_shell.specs.Cut.{AreFirstLines}
 
@@ -50,16 +50,19 @@ TakesAnswers (Some coming) answers None = ⊥
 -- the door went from one state to another by the commands of the exchanges alone, in order, each asked once
 abbrev pub GoesBy : {D : Type 0} → Following D → List Exchange → D → D → Type 0
 GoesBy follows [] d e = e ≡ d
-GoesBy {D} follows (Asked moment command given ∷ exchanges) d e =
+GoesBy {D} follows (Asked moment command given manner ∷ exchanges) d e =
     (next : D) × follows d command moment given next × GoesBy follows exchanges next e
 GoesBy follows (Refused moment fault ∷ exchanges) d e = GoesBy follows exchanges d e
+GoesBy follows (Wanted moment ∷ exchanges) d e = GoesBy follows exchanges d e
 
--- the exchanges took their turns: one answer of the clock each, one turn each, and the commands of the door
+-- the exchanges took their turns: one answer of the clock each, one turn each, and the commands of the door; what it gave is
+-- written as it may be
 pub record TakesTurns {D : Type 0} (follows : Following D) (exchanges : List Exchange) (d e : D)
     (old new : SessionView) : Type 0 where
   pub moments : TakesAnswers old.coming (map moment_in exchanges) new.coming
   pub turned : new.turns ≡ old.turns ++ map turn_taken exchanges
   pub asked : GoesBy follows exchanges d e
+  pub written : AllByRecursion IsWrittenIn exchanges
 
 -- the first text was written whole, and of the second a part from its beginning: less than the whole only where the sink's
 -- count of faults rose

@@ -3,27 +3,52 @@
 ghost use Rattle.std.specs.Prelude.{◌≡◌, ◌≤◌, OnErr, is_ok};
 ghost use Rattle.cfg_base.specs.Counts.{Rose};
 ghost use Rattle.io_edge.specs.Wrote.{Wrote};
-ghost use Rattle.session_shell.specs.Exchange.{after_given, after_reply, text_of_given, turn_of_given};
+ghost use Rattle.session_shell.specs.Exchange.{after_given, after_reply, is_dry, kept_turn, seen_turn, text_by, text_of_given, turn_of_given};
 ghost use Rattle.session_shell.specs.Steps.{how_next, is_end, is_out};
 
 use crate::door::Given0;
+use crate::json_show::Manner;
 use crate::reading::Reading;
 use crate::turn::{How, Turn};
 use cfg_base::Moment;
 use config_core::Reply;
-use io_edge::{Line, PutFailed, Sink};
+use io_edge::{Line, PutFailed, Sink, put_all};
 use reply_text::{put_no_memory, put_reply};
 
+/// Whether memory for JSON was wanting.
+fn is_dry(manner: &Manner) -> bool
+    ensures { result ≡ is_dry manner.now }
+{
+    matches!(manner, Manner::Dry)
+}
+
+fn kept_turn(dry: bool, place: u64) -> Turn
+    ensures { result ≡ kept_turn dry place }
+{
+    if dry {
+        Turn::KeptDry(place)
+    } else {
+        Turn::Kept(place)
+    }
+}
+
+fn seen_turn(dry: bool, front: u64, moment: Moment) -> Turn
+    ensures { result ≡ seen_turn dry front moment }
+{
+    if dry {
+        Turn::SeenDry { front, moment }
+    } else {
+        Turn::Seen { front, moment }
+    }
+}
+
 /// The turn of what was given at a moment.
-pub(crate) fn turn_of(moment: Moment, given: &Given0) -> Turn
-    ensures { result ≡ turn_of_given moment given.now }
+pub(crate) fn turn_of(moment: Moment, given: &Given0, manner: &Manner) -> Turn
+    ensures { result ≡ turn_of_given manner.now moment given.now }
 {
     match given {
-        Given0::Kept { place, reply: _ } => Turn::Kept(*place),
-        Given0::Seen { front, reply: _ } => Turn::Seen {
-            front: *front,
-            moment,
-        },
+        Given0::Kept { place, reply: _ } => kept_turn(is_dry(manner), *place),
+        Given0::Seen { front, reply: _ } => seen_turn(is_dry(manner), *front, moment),
         Given0::NoMemory => Turn::NoMemory,
     }
 }
@@ -60,7 +85,7 @@ fn follow(reading: &mut Reading, given: &Given0)
     }
 }
 
-fn put_given<K: Sink>(sink: &mut K, given: &Given0) -> Result<(), PutFailed>
+fn put_own<K: Sink>(sink: &mut K, given: &Given0) -> Result<(), PutFailed>
     ensures wrote { Wrote result (text_of_given given.now) (K.view sink.old).held (K.view sink.new).held }
     ensures cause { OnErr result (Rose (K.view sink.old).faults (K.view sink.new).faults) }
     ensures later { (K.view sink.old).faults ≤ (K.view sink.new).faults }
@@ -71,19 +96,32 @@ fn put_given<K: Sink>(sink: &mut K, given: &Given0) -> Result<(), PutFailed>
     }
 }
 
+fn put_given<K: Sink>(sink: &mut K, given: &Given0, manner: &Manner) -> Result<(), PutFailed>
+    ensures wrote { Wrote result (text_by manner.now given.now) (K.view sink.old).held (K.view sink.new).held }
+    ensures cause { OnErr result (Rose (K.view sink.old).faults (K.view sink.new).faults) }
+    ensures later { (K.view sink.old).faults ≤ (K.view sink.new).faults }
+{
+    match manner {
+        Manner::Plain | Manner::NoJson => put_own(sink, given),
+        Manner::Json(text) => put_all(sink, text.as_slice()),
+        Manner::Dry => put_no_memory(sink),
+    }
+}
+
 /// Writes what was given, and reads on after it.
 pub(crate) fn answer<K: Sink>(
     sink: &mut K,
     reading: &mut Reading,
     given: Given0,
+    manner: Manner,
 ) -> Result<(), PutFailed>
     ensures reading { reading.new ≡ after_given reading.old given }
-    ensures wrote { Wrote result (text_of_given given) (K.view sink.old).held (K.view sink.new).held }
+    ensures wrote { Wrote result (text_by manner given) (K.view sink.old).held (K.view sink.new).held }
     ensures cause { OnErr result (Rose (K.view sink.old).faults (K.view sink.new).faults) }
     ensures later { (K.view sink.old).faults ≤ (K.view sink.new).faults }
 {
     follow(reading, &given);
-    put_given(sink, &given)
+    put_given(sink, &given, &manner)
 }
 
 /// Lets go of what was given without writing it.

@@ -4,7 +4,7 @@ ghost use Rattle.std.specs.Prelude.{ℕ};
 ghost use Rattle.commands.specs.Sound.{IsSound};
 ghost use Rattle.commands.specs.declared.command.Command.{Command};
 ghost use Rattle.session_shell.specs.declared.door.Given0.{Given0};
-ghost use Rattle.session_shell.specs.Shows.{SeesShow};
+ghost use Rattle.session_shell.specs.Shows.{PrintsWhole, SeesShow};
 
 use cfg_base::Moment;
 use commands::Command;
@@ -46,4 +46,8 @@ pub trait Door {
     // only a show of the active configuration or of the commits is answered from a snapshot
     ghost shows: { (d e : Self) (command : Command) (moment : ℕ) (given : Given0) → follows d command moment given e
         → SeesShow command given };
+
+    // a text that was given for the show of the whole active configuration in curly form is that of a configuration
+    ghost prints: { (d e : Self) (command : Command) (moment : ℕ) (given : Given0) → follows d command moment given e
+        → PrintsWhole command given };
 }

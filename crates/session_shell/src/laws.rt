@@ -7,6 +7,9 @@ ghost use Rattle.session_shell.specs.Law.{Agree, IsDetermined, IsNamed, IsShown,
 ghost use Rattle.session_shell.specs.Transcript.{GoesBy, SessionView};
 
 use crate::door::Door;
+use curly_grammar::texts_say_one_thing;
+use curly_text::printed_text_is_read_back;
+use json_text::texts_have_one_answer;
 use shell_words::lines_are_read_in_one_way;
 
 /// What a door gave for a session is what it names at the end. It answered no command but a show of the active configuration or
@@ -33,4 +36,7 @@ pub fn sessions_have_one_text<D: Door>()
         → (one.turns ≡ other.turns) × (one.held ≡ other.held) × (e ≡ e') }
 {
     lines_are_read_in_one_way();
+    texts_have_one_answer();
+    printed_text_is_read_back();
+    texts_say_one_thing();
 }

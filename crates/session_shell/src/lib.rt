@@ -11,6 +11,8 @@
 mod answer;
 mod door;
 mod end;
+mod json_load;
+mod json_show;
 mod laws;
 mod reading;
 mod serving;
@@ -19,6 +21,7 @@ mod turn;
 
 pub use door::{Door, Given0};
 pub use end::{End, Ended, NoSession};
+pub use json_show::Manner;
 pub use laws::{replies_are_named, sessions_have_one_text};
 pub use reading::{Item, Reading, TEXT_LIMIT, limits_are_stated};
 pub use session::Session;

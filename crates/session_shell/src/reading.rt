@@ -1,9 +1,11 @@
 //! How a session reads its lines: the items that they end, and the text of a load.
 
-ghost use Rattle.std.specs.Prelude.{◌≡◌, ◌∷◌, ◌++◌, [], IfOk, OnOk, OnErr};
+ghost use Rattle.std.specs.Prelude.{◌≡◌, ◌∷◌, ◌++◌, [], IfOk, OnOk, OnErr, Some};
 ghost use Rattle.io_edge.specs.declared.lines.Line.TheVariants.{Text, TooLong, End};
-ghost use Rattle.session_shell.specs.Items.{AsksSound, ComesOf, IsReadAs, with_line};
+ghost use Rattle.session_shell.specs.declared.reading.Reading.TheVariants.{Collecting};
+ghost use Rattle.session_shell.specs.Items.{AsksSound, ComesOf, EndsText, IsReadAs, with_line};
 
+use crate::json_load::json_item;
 use cfg_base::{Bytes, NoMemory};
 use commands::{Command, LoadWay};
 use io_edge::Line;
@@ -26,8 +28,12 @@ const END_OF_TEXT: [u8; 1] = [4];
 #[derive(Debug, Drop)]
 pub enum Item {
     Ask(Command),
+    /// A show of the whole active configuration as JSON.
+    ShowJson,
     /// A line that is no command, or a load whose text has a fault.
     Wrong(ShellFault),
+    /// A load whose JSON text couldn't be read for want of memory.
+    NoMemory,
 }
 
 /// How a session reads its next line.
@@ -35,12 +41,27 @@ pub enum Item {
 pub enum Reading {
     Operational,
     Configuring,
-    /// The text of a load is collected, up to the line that ends it.
-    Collecting { way: LoadWay, text: Bytes },
+    /// The text of a load, which is JSON or isn't, is collected, up to the line that ends it.
+    Collecting {
+        way: LoadWay,
+        json: bool,
+        text: Bytes,
+    },
     /// A text that had that fault is skipped up to the line that ends it.
     Spoilt(ShellFault),
     /// Logged out: no line is read.
     Out,
+}
+
+/// A text is collected from here on.
+fn collecting(alloc: Global, way: LoadWay, json: bool) -> Reading
+    ensures { result ≡ Collecting way json [] }
+{
+    Reading::Collecting {
+        way,
+        json,
+        text: Bytes::empty(alloc),
+    }
 }
 
 /// What a line asks: an item, a text that is to be collected, or nothing.
@@ -57,11 +78,13 @@ fn read_item(
     match read_line(alloc, configuring, line) {
         Ok(None) => Ok(None),
         Ok(Some(Words0::Whole(command))) => Ok(Some(Item::Ask(command))),
+        Ok(Some(Words0::ShowJson)) => Ok(Some(Item::ShowJson)),
         Ok(Some(Words0::NeedsText(way))) => {
-            *reading = Reading::Collecting {
-                way,
-                text: Bytes::empty(alloc),
-            };
+            *reading = collecting(alloc, way, false);
+            Ok(None)
+        }
+        Ok(Some(Words0::NeedsJson(way))) => {
+            *reading = collecting(alloc, way, true);
             Ok(None)
         }
         Err(ReadFault::Syntax(place)) => Ok(Some(Item::Wrong(ShellFault::Syntax(place)))),
@@ -69,13 +92,25 @@ fn read_item(
     }
 }
 
+/// The item of a load, whose text has ended.
+fn load_item(alloc: Global, way: LoadWay, json: bool, text: Bytes) -> Item
+    ensures ends { EndsText way json text result }
+    ensures sound { AsksSound (Some result) }
+{
+    if json {
+        json_item(alloc, way, text.as_slice())
+    } else {
+        Item::Ask(Command::Load { way, text })
+    }
+}
+
 /// The end of a text: the item of its load.
-fn finish_text(reading: &mut Reading) -> Option<Item>
+fn finish_text(alloc: Global, reading: &mut Reading) -> Option<Item>
     ensures ends { ComesOf reading.old End (result, reading.new) }
     ensures sound { AsksSound result }
 {
     match std::mem::replace(reading, Reading::Configuring) {
-        Reading::Collecting { way, text } => Some(Item::Ask(Command::Load { way, text })),
+        Reading::Collecting { way, json, text } => Some(load_item(alloc, way, json, text)),
         Reading::Spoilt(fault) => Some(Item::Wrong(fault)),
         other => {
             *reading = other;
@@ -104,7 +139,7 @@ fn gather(reading: &mut Reading, line: &[u8]) -> Result<(), NoMemory>
     ensures err { OnErr result (reading.new ≡ reading.old) }
 {
     match std::mem::replace(reading, Reading::Spoilt(ShellFault::TextTooLong)) {
-        Reading::Collecting { way, text } => {
+        Reading::Collecting { way, json, text } => {
             if line.len() >= TEXT_LIMIT.saturating_sub(text.as_slice().len()) {
                 return Ok(());
             }
@@ -112,6 +147,7 @@ fn gather(reading: &mut Reading, line: &[u8]) -> Result<(), NoMemory>
             let put = put_line(&mut bytes, line);
             *reading = Reading::Collecting {
                 way,
+                json,
                 text: Bytes::from(bytes),
             };
             put
@@ -137,7 +173,7 @@ fn comes_of_text(
         Reading::Operational => read_item(alloc, false, reading, line),
         Reading::Configuring => read_item(alloc, true, reading, line),
         Reading::Collecting { .. } | Reading::Spoilt(_) if line == END_OF_TEXT.as_slice() => {
-            Ok(finish_text(reading))
+            Ok(finish_text(alloc, reading))
         }
         Reading::Collecting { .. } => {
             gather(reading, line)?;
@@ -175,7 +211,7 @@ pub(crate) fn comes_of(
     match line {
         Line::Text(text) => comes_of_text(alloc, reading, text.as_slice()),
         Line::TooLong => Ok(comes_of_long(reading)),
-        Line::End => Ok(finish_text(reading)),
+        Line::End => Ok(finish_text(alloc, reading)),
         Line::Failed | Line::InputFull => Ok(None),
     }
 }

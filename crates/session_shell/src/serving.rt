@@ -12,12 +12,13 @@ ghost use Rattle.session_shell.specs.Steps.{AsksOnly, Ends, Finishes, is_end, is
 
 use crate::answer::{answer, how_next, is_out, let_go, turn_of};
 use crate::door::Door;
+use crate::json_show::{Manner, manner_of, whole_show};
 use crate::reading::{Item, Reading, comes_of};
 use crate::turn::{How, Turn};
 use cfg_base::{Limits, NoMemory};
 use commands::Command;
 use io_edge::{Clock, Line, Lines, PutFailed, Sink, Source};
-use reply_text::put_fault;
+use reply_text::{put_fault, put_no_memory};
 use std::alloc::Global;
 use std::marker::Model;
 use std::sync::Wait;
@@ -124,13 +125,23 @@ impl<S: Source, K: Sink, C: Clock> Serving<S, K, C> {
         match item {
             Item::Ask(command) => {
                 let given = door.ask(rt, moment, command);
-                self.turns.note(turn_of(moment, &given));
-                answer(&mut self.sink, &mut self.reading, given)
+                self.turns.note(turn_of(moment, &given, &Manner::Plain));
+                answer(&mut self.sink, &mut self.reading, given, Manner::Plain)
+            }
+            Item::ShowJson => {
+                let given = door.ask(rt, moment, whole_show(self.alloc));
+                let manner = manner_of(self.alloc, &given);
+                self.turns.note(turn_of(moment, &given, &manner));
+                answer(&mut self.sink, &mut self.reading, given, manner)
             }
             Item::Wrong(fault) => {
                 let put = put_fault(&mut self.sink, &fault);
                 self.turns.note(Turn::Local(fault));
                 put
+            }
+            Item::NoMemory => {
+                self.turns.note(Turn::NoMemory);
+                put_no_memory(&mut self.sink)
             }
         }
     }
@@ -223,7 +234,7 @@ impl<S: Source, K: Sink, C: Clock> Serving<S, K, C> {
     {
         let moment = self.clock.now();
         let given = door.ask(rt, moment, Command::Logout);
-        self.turns.note(turn_of(moment, &given));
+        self.turns.note(turn_of(moment, &given, &Manner::Plain));
         let_go(given);
     }
 

@@ -11,8 +11,12 @@ use trace_list::Trace;
 pub enum Turn {
     /// The event at that place of the history, counted from 0.
     Kept(u64),
+    /// The event at that place is a show that was answered with a text, and memory for its JSON was wanting.
+    KeptDry(u64),
     /// What a snapshot of that many entries of the list of commits says, at that answer of the session's clock.
     Seen { front: u64, moment: Moment },
+    /// The same, of a show that was answered with a text, and memory for its JSON was wanting.
+    SeenDry { front: u64, moment: Moment },
     /// The line, or the text of a load, was refused.
     Local(ShellFault),
     /// Memory ran out.

@@ -1,4 +1,4 @@
-use Rattle.std.proofs.Common.{◌≡◌, ◌<◌, ◌≤◌, refl, sym, subst, ap, rules, arith}
+use Rattle.std.proofs.Common.{◌≡◌, ◌<◌, ◌≤◌, refl, sym, subst, ap, rules}
 use Rattle.io_edge.specs.Line.{Falls, GivesLine, ReadAhead}
 use Rattle.cfg_base.specs.Counts.{Rose}
 use Rattle.io_edge.specs.declared.lines.Line.TheVariants.{InputFull as Full}
