@@ -14,5 +14,6 @@ mod EventLemmas
 pub mod FaultLemmas
 mod MoveLemmas
 mod AnswerLemmas
+mod NextLemmas
 pub mod CalledLemmas
 mod ClosingLemmas

@@ -1,5 +1,5 @@
 -- What comes before a command, and what is answered.
-use Rattle.std.specs.Prelude.{◌≡◌, ◌≤◌, ◌⊎◌, ℕ, List, [], ◌∷◌, ◌++◌, length, max, IfSome, IsSome}
+use Rattle.std.specs.Prelude.{◌≡◌, ◌≤◌, ◌⊎◌, ℕ, ◌+◌, List, [], ◌∷◌, ◌++◌, length, max, IfSome, IsSome}
 use Rattle.commit_journal.specs.Journal.{JournalView, disks_of}
 use Rattle.disk_model.specs.Pair.{FaultOnEither}
 use Rattle.commands.specs.declared.command.Command.{Command}
@@ -159,3 +159,8 @@ pub record Answers (caller moment : ℕ) (command : Command) (answered : Answere
   pub own : List Happened
   pub extends : Extends caller moment own v v'
   pub answer : IsAnswer caller moment command answered own v v'
+
+-- an answered command is the next event, and the last one; one for which memory ran out adds none
+abbrev pub IsNext : Answered → List Happened → List Happened → Type 0
+IsNext (Kept place reply) events events' = (place ≡ length events) × (length events' ≡ place + 1)
+IsNext NoMemory events events' = events' ≡ events

@@ -2,16 +2,17 @@ ghost use Rattle.std.specs.Prelude.{◌≡◌, ◌<◌, ◌≤◌, [], length};
 ghost use Rattle.disk_model.specs.Pair.{pair_of};
 ghost use Rattle.std.specs.Arc.{arc_value};
 ghost use Rattle.commands.specs.Sound.{IsSound};
+ghost use Rattle.config_core.specs.Callers.{level_of};
 ghost use Rattle.session_history.specs.Events.{IsLegal, StaysAccepted};
 ghost use Rattle.active_snapshot.specs.Views.{AreViews};
 ghost use Rattle.config_db.specs.View.{AreParts, opened};
 ghost use Rattle.config_db.specs.Shown.{Shows};
-ghost use Rattle.config_db.specs.Answers.{Answers, MakesWay, PublishesFirst, moment_at};
+ghost use Rattle.config_db.specs.Answers.{Answers, IsClear, IsNext, MakesWay, PublishesFirst, moment_at};
 ghost use Rattle.config_db.specs.Closing.{IsClosed};
 
 use crate::answer::{Answered, ClosedBook, Ticked};
 use active_snapshot::{Naming, Shown, SnapNote, SnapReaders, SnapWriter};
-use cfg_base::{Moment, Users};
+use cfg_base::{Moment, Path, Users};
 use commands::Command;
 use commit_journal::Journal;
 use commit_ledger::Ledger;
@@ -93,6 +94,7 @@ impl<D: Disk, J: Naming> Database<D, J> {
         requires caller { (0 < caller) × (caller ≤ length self.old.users) }
         requires sound { IsSound command }
         ensures answers { Answers caller (moment_at moment self.old) command result self.old self.new }
+        ensures next { IsClear (moment_at moment self.old) self.old → IsNext result self.old.events self.new.events }
         ensures shown { PublishesFirst (result ≡ Answered.NoMemory) self.old self.new }
     {
         let moment = moment.later(self.core.greatest());
@@ -106,6 +108,25 @@ impl<D: Disk, J: Naming> Database<D, J> {
     {
         let moment = moment.later(self.core.greatest());
         self.make_way(rt, 0, moment)
+    }
+
+    /// Does in a caller's name what its next command would wait for: settles and reverts where that is needed. Unless it is
+    /// answered `DiskFault` or `NoMemory`, nothing comes before a command of that moment.
+    pub fn ready<R: Wait>(&mut self, rt: &R, caller: u32, moment: Moment) -> Ticked
+        requires { (0 < caller) × (caller ≤ length self.old.users) }
+        ensures way { MakesWay caller (moment_at moment self.old) result self.old self.new }
+        ensures shown { PublishesFirst (result ≡ Ticked.NoMemory) self.old self.new }
+    {
+        let moment = moment.later(self.core.greatest());
+        self.make_way(rt, caller, moment)
+    }
+
+    /// The level at which a caller stands.
+    pub fn level(&self, caller: u32) -> &Path
+        requires { (0 < caller) × (caller ≤ length self.now.users) }
+        ensures { result.now ≡ level_of self.now.state caller }
+    {
+        self.core.level(caller)
     }
 
     /// Takes the readers: one for each user, and one where there is no user. The second time there are none.
