@@ -1,5 +1,5 @@
 -- What one ask makes of a pass and its reader.
-use Rattle.std.proofs.Common.{◌≡◌, ℕ, true, false, List, Option, Some, None, refl, sym, ap, subst, ◌∙◌}
+use Rattle.std.proofs.Common.{◌≡◌, ℕ, true, false, List, Option, Some, None, IfSome, refl, sym, ap, subst, ◌∙◌}
 use mathlib.Core.List.{IsPrefix}
 use Rattle.active_snapshot.specs.States.{ReaderView}
 use Rattle.active_snapshot.specs.Views.{IsLast, IsLonger}
@@ -13,7 +13,7 @@ use Rattle.config_db.specs.View.{DatabaseView, opened}
 use Rattle.session_history.specs.Events.{IsLegal}
 use Rattle.session_shell.specs.declared.door.Given0.{Given0}
 use Rattle.session_shell.specs.declared.door.Given0.TheVariants.{Kept as KeptAt, Seen, NoMemory}
-use Rattle.session_shell.specs.Shows.{IsActiveShow}
+use Rattle.session_shell.specs.Shows.{IsActiveShow, PrintsWhole}
 use Rattle.session_threads.specs.Adding.{given_of}
 use Rattle.session_threads.specs.Gates.{FollowsIn, GateView, GivesShow, GivesView, Learns, LooksAt, LooksIn, ReadsLast, ReadsOn}
 use Rattle.session_threads.specs.Gates.{ReadsShow, TellsKept, TookIn, TurnsIn}
@@ -59,24 +59,26 @@ module _ (command : Command) (answer : ℕ) (old new : ReaderView) (later : IsPr
     ReadsShow-due view reached is_last due = record {
       reads = ReadsOn-read old new later same;
       gives = record { view = view; reached = reached; is_last = is_last; due = due };
+      prints = tt;
     }
 
     -- a reader answers a show from the last view that it has
     pub ReadsShow-at : (front : ℕ) (view shown : Kept) (given : Given0) → IsPrefix new.told new.list → IsLast new.list view
         → front ≡ view.count → is_revert_due view answer ≡ false → shown ≡ view → GivesView command front shown given
-        → ReadsShow command answer (Some given) old new
-    ReadsShow-at front view shown given reached is_last count due is gives = record {
+        → PrintsWhole command given → ReadsShow command answer (Some given) old new
+    ReadsShow-at front view shown given reached is_last count due is gives prints = record {
       reads = ReadsOn-read old new later same;
       gives = gives_read command answer front shown given new (record { view = view; reached = reached; is_last = is_last; due = due })
           (sym is) (count ∙ ap (λ (k : Kept). k.count) (sym is)) gives;
+      prints = prints;
     }
 
 looks_at : (d : GateView) (command : Command) (answer : ℕ) (given : Option Given0) (reader : ReaderView) → KnowsOwn d.pass
     → ((first : DatabaseView) → d.pass.fixed ≡ Some first → IsLegal (opened first) d.pass.seen) → IsActiveShow command
-    → GivesShow command answer given reader → LooksAt d command answer given reader
-looks_at d command answer None reader own legal is gives = λ _. gives
-looks_at d command answer (Some given) reader own legal is gives =
-    record { is_show = is; gives = gives; own = own; legal = legal }
+    → GivesShow command answer given reader → IfSome given (PrintsWhole command) → LooksAt d command answer given reader
+looks_at d command answer None reader own legal is gives prints = λ _. gives
+looks_at d command answer (Some given) reader own legal is gives prints =
+    record { is_show = is; gives = gives; prints = prints; own = own; legal = legal }
 
 -- a reader was asked for a show
 pub LooksIn-read : (lock : TableId) (pass : CallerPass) (old new : ReaderView) (command : Command) (answer : ℕ)
@@ -88,7 +90,7 @@ LooksIn-read lock pass old new command answer given ready is read = record {
   reads = read.reads;
   looks = looks_at (record { pass = pass; reader = old }) command answer given new ready.1.own
       (λ first fixed. subst (λ (f : DatabaseView). IsLegal (opened f) pass.seen) (some_is (sym ready.1.fixed ∙ fixed)) ready.1.legal)
-      is read.gives;
+      is read.gives read.prints;
 }
 
 -- a show was answered without a turn
@@ -99,6 +101,7 @@ FollowsIn-looked d e command answer (Seen front reply) looked = record {
   goes = subst (WentOn d.pass) (sym looked.same) (WentOn-same d.pass looked.looks.own);
   reads = looked.reads;
   comes = record { same = looked.same; is_show = looked.looks.is_show; answers = looked.looks.gives };
+  prints = looked.looks.prints;
 }
 FollowsIn-looked d e command answer NoMemory looked = record {
   goes = subst (WentOn d.pass) (sym looked.same) (WentOn-same d.pass looked.looks.own);
@@ -106,6 +109,7 @@ FollowsIn-looked d e command answer NoMemory looked = record {
   comes = λ first fixed.
       subst (λ (p : CallerPass). FollowsTurn (opened first) d.pass.caller d.pass.seen command answer Wanting p.seen) (sym looked.same)
       (FollowsTurn-none (opened first) d.pass.caller answer d.pass.seen command (looked.looks.legal first fixed));
+  prints = looked.looks.prints;
 }
 
 turns_from : (first : DatabaseView) (d mid e : GateView) (command : Command) (answer : ℕ) (answered : Answered) → mid.pass ≡ d.pass
@@ -127,12 +131,14 @@ by_answer d mid e command answer (Done place reply) looked took = record {
         (took.turns first (ap (λ (p : CallerPass). p.fixed) looked.same ∙ fixed));
     missed = λ is. record { mid = mid.reader; before = looked.reads; missed = looked.looks is; behind = took.reads };
   };
+  prints = took.prints;
 }
 by_answer d mid e command answer Wanting looked took = record {
   goes = subst (λ p. WentOn p e.pass) looked.same took.goes;
   reads = ReadsOn-then d.reader mid.reader e.reader looked.reads took.reads;
   comes = λ first fixed. (turns_from first d mid e command answer Wanting looked.same
       (took.turns first (ap (λ (p : CallerPass). p.fixed) looked.same ∙ fixed))).turn;
+  prints = took.prints;
 }
 
 -- a command took its turn
@@ -144,13 +150,14 @@ FollowsIn-took d mid e command answer answered given looked took is =
 
 -- the turn of a command, and what its reader learns
 pub TookIn-turn : (old new : CallerPass) (reader reader' : ReaderView) (command : Command) (answer : ℕ) (answered : Answered)
-    (list : List Kept) → Learns answered list reader reader'
+    (list : List Kept) → Learns answered list reader reader' → PrintsWhole command (given_of answered)
     → WentOn old new × ((first : DatabaseView) → old.fixed ≡ Some first
     → FollowsTurn (opened first) old.caller old.seen command answer answered new.seen × TellsKept (opened first) new.seen list)
     → TookIn (record { pass = old; reader = reader }) command answer answered (record { pass = new; reader = reader' })
-TookIn-turn old new reader reader' command answer answered list learns took = record {
+TookIn-turn old new reader reader' command answer answered list learns prints took = record {
   goes = took.0;
   reads = learns.reads;
   turns = λ first fixed.
       let both = took.1 first fixed in record { turn = both.0; list = list; tells = both.1; told = learns.told };
+  prints = prints;
 }

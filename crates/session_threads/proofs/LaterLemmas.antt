@@ -8,7 +8,7 @@ use Rattle.session_shell.specs.declared.door.Given0.{Given0}
 use Rattle.session_shell.specs.declared.door.Given0.TheVariants.{Kept as KeptAt, Seen, NoMemory}
 use Rattle.session_shell.specs.declared.turn.How.{How}
 use Rattle.session_shell.specs.declared.turn.Turn.{Turn}
-use Rattle.session_shell.specs.Exchange.{Exchange, Asked as AskedOf, Refused}
+use Rattle.session_shell.specs.Exchange.{Exchange, Asked as AskedOf, Refused, Wanted}
 use Rattle.session_shell.specs.Transcript.{EndView, GoesBy, IsSession}
 use Rattle.session_threads.specs.History.{FollowsAsked, HasMissed, Known}
 
@@ -45,9 +45,10 @@ module _ (opening : State) (caller : ℕ) (final more : List Happened) where
   goes_later : (exchanges : List Exchange) (d e : Known) → GoesBy (FollowsAsked opening caller final) exchanges d e
       → GoesBy (FollowsAsked opening caller (final ++ more)) exchanges d e
   goes_later [] d e goes = goes
-  goes_later (AskedOf moment command given ∷ exchanges) d e goes =
+  goes_later (AskedOf moment command given manner ∷ exchanges) d e goes =
       (goes.0, Follows-later d command moment given goes.0 goes.1, goes_later exchanges goes.0 e goes.2)
   goes_later (Refused moment fault ∷ exchanges) d e goes = goes_later exchanges d e goes
+  goes_later (Wanted moment ∷ exchanges) d e goes = goes_later exchanges d e goes
 
   -- a session
   pub IsSession-later : (limit : ℕ) (how : How) (turns : List Turn) (old new : EndView) (d e : Known)
@@ -66,6 +67,7 @@ module _ (opening : State) (caller : ℕ) (final more : List Happened) where
         moments = s.transcript.turns.moments;
         turned = s.transcript.turns.turned;
         asked = goes_later (s.transcript.asked ++ s.transcript.final) d e s.transcript.turns.asked;
+        written = s.transcript.turns.written;
       };
       texts = s.transcript.texts;
     };

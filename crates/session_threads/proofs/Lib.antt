@@ -9,3 +9,4 @@ mod SendLemmas
 mod TickLemmas
 mod TraceLemmas
 mod WholeLemmas
+mod WholeShowLemmas

@@ -237,11 +237,15 @@ FollowsAlone-of first v v' caller answer command answered leads asks = record {
   alone = refl;
 }
 
+-- a database began over the same list, for the same users
+pub opened_same : (first v : DatabaseView) → IsUnderway (record { first = first; database = v }) → opened v ≡ opened first
+opened_same first v underway = λ i. opening_of (underway.adds.same.opening i) (underway.adds.same.users i)
+
 -- what a database reports of the lists that it kept
 pub TellsKept-of : (first v : DatabaseView) → IsUnderway (record { first = first; database = v })
     → AreViews v.shown.list → Shows (opened v) v.events v.state v.shown → TellsKept (opened first) v.events v.shown.list
 TellsKept-of first v underway views shows =
-    let same : opened v ≡ opened first = λ i. opening_of (underway.adds.same.opening i) (underway.adds.same.users i) in
+    let same : opened v ≡ opened first = opened_same first v underway in
     record {
       after = v.state;
       leads = underway.leads;

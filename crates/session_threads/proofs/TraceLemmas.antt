@@ -15,7 +15,7 @@ use Rattle.session_shell.specs.declared.door.Given0.{Given0}
 use Rattle.session_shell.specs.declared.door.Given0.TheVariants.{Kept as KeptAt, Seen, NoMemory}
 use Rattle.session_shell.specs.declared.turn.How.{How}
 use Rattle.session_shell.specs.declared.turn.Turn.{Turn}
-use Rattle.session_shell.specs.Exchange.{Exchange, Asked as AskedOf, Refused}
+use Rattle.session_shell.specs.Exchange.{Exchange, Asked as AskedOf, Refused, Wanted}
 use Rattle.session_shell.specs.Transcript.{EndView, GoesBy, IsSession}
 use Rattle.session_threads.specs.Gates.{FollowsIn, GateView, MissedIn, ReadsLast, ReadsOn, StartsReading, TellsKept}
 use Rattle.session_threads.specs.History.{FollowsAsked, FollowsTurn, HasMissed, Known, known_first}
@@ -75,17 +75,19 @@ reaches_start first reader starts = record {
 
 goes_on : (exchanges : List Exchange) (d e : GateView) → GoesBy FollowsIn exchanges d e → ReadsOn d.reader e.reader
 goes_on [] d e goes = subst (λ (g : GateView). ReadsOn d.reader g.reader) (sym goes) (ReadsOn-same d.reader)
-goes_on (AskedOf moment command given ∷ exchanges) d e goes =
+goes_on (AskedOf moment command given manner ∷ exchanges) d e goes =
     ReadsOn-then d.reader goes.0.reader e.reader goes.1.reads (goes_on exchanges goes.0 e goes.2)
 goes_on (Refused moment fault ∷ exchanges) d e goes = goes_on exchanges d e goes
+goes_on (Wanted moment ∷ exchanges) d e goes = goes_on exchanges d e goes
 
 -- a door's pass is the same one, and has seen more
 pub WentOn-asked : (exchanges : List Exchange) (start : CallerPass) (d e : GateView) → WentOn start d.pass
     → GoesBy FollowsIn exchanges d e → WentOn start e.pass
 WentOn-asked [] start d e went goes = subst (λ (g : GateView). WentOn start g.pass) (sym goes) went
-WentOn-asked (AskedOf moment command given ∷ exchanges) start d e went goes =
+WentOn-asked (AskedOf moment command given manner ∷ exchanges) start d e went goes =
     WentOn-asked exchanges start goes.0 e (WentOn-then start d.pass goes.0.pass went goes.1.goes) goes.2
 WentOn-asked (Refused moment fault ∷ exchanges) start d e went goes = WentOn-asked exchanges start d e went goes
+WentOn-asked (Wanted moment ∷ exchanges) start d e went goes = WentOn-asked exchanges start d e went goes
 
 module _ (never_fall : (one two : List Kept) (view later : Kept) → AreViews two → IsPrefix one two → IsLast one view
     → IsLast two later → view.count ≤ later.count) (first : DatabaseView) (final : List Happened) (list : List Kept)
@@ -202,7 +204,7 @@ module _ (never_fall : (one two : List Kept) (view later : Kept) → AreViews tw
         → GoesBy FollowsIn exchanges d e → (front' : ℕ) × GoesBy Knows exchanges (known d front) (known e front')
     goes_known start fixed is_caller [] d e front went within reaches goes =
         (front, ap (λ (g : GateView). known g front) goes)
-    goes_known start fixed is_caller (AskedOf moment command given ∷ exchanges) d e front went within reaches goes =
+    goes_known start fixed is_caller (AskedOf moment command given manner ∷ exchanges) d e front went within reaches goes =
         let next : GateView = goes.0 in
         let on : ReadsOn next.reader e.reader = goes_on exchanges next e goes.2 in
         let one = one_known d next command moment given front (went.fixed ∙ fixed) (went.caller ∙ is_caller)
@@ -211,6 +213,8 @@ module _ (never_fall : (one two : List Kept) (view later : Kept) → AreViews tw
         within one.2 goes.2 in
         (more.0, (known next one.0, one.1, more.1))
     goes_known start fixed is_caller (Refused moment fault ∷ exchanges) d e front went within reaches goes =
+        goes_known start fixed is_caller exchanges d e front went within reaches goes
+    goes_known start fixed is_caller (Wanted moment ∷ exchanges) d e front went within reaches goes =
         goes_known start fixed is_caller exchanges d e front went within reaches goes
 
   -- a session over a pass and its reader is one over what its caller knows
@@ -233,7 +237,7 @@ module _ (never_fall : (one two : List Kept) (view later : Kept) → AreViews tw
             reads = t.reads;
             input = t.input;
             logs_out = t.logs_out;
-            turns = record { moments = t.turns.moments; turned = t.turns.turned; asked = went.1 };
+            turns = record { moments = t.turns.moments; turned = t.turns.turned; asked = went.1; written = t.turns.written };
             texts = t.texts;
           };
           user = s.user;

@@ -1,5 +1,5 @@
 -- A caller's pass with its reader, before and after what is done with them. This project's own.
-use Rattle.std.specs.Prelude.{◌≡◌, ℕ, Bool, true, false, List, Option, None, Some}
+use Rattle.std.specs.Prelude.{◌≡◌, ℕ, Bool, true, false, List, Option, None, Some, IfSome}
 use Rattle.std.specs.List.{AllByRecursion}
 use mathlib.Core.List.{IsPrefix}
 use Rattle.active_snapshot.specs.States.{ReaderView, first_read}
@@ -16,7 +16,8 @@ use Rattle.session_history.specs.Events.{IsLegal, Leads}
 use Rattle.session_history.specs.Kept.{WasKept}
 use Rattle.session_shell.specs.declared.door.Given0.{Given0}
 use Rattle.session_shell.specs.declared.door.Given0.TheVariants.{Kept as KeptAt, Seen, NoMemory}
-use Rattle.session_shell.specs.Shows.{IsActiveShow}
+use Rattle.session_shell.specs.Shows.{IsActiveShow, PrintsWhole}
+use Rattle.session_threads.specs.Adding.{given_of}
 use Rattle.session_threads.specs.History.{FollowsTurn, HasEvent, ShowsKept}
 use Rattle.session_threads.specs.Passes.{CallerPass, KnowsOwn, WentOn}
 
@@ -82,6 +83,7 @@ GivesShow command answer (Some NoMemory) reader = Unit {0}
 pub record ReadsShow (command : Command) (answer : ℕ) (given : Option Given0) (old new : ReaderView) : Type 0 where
   pub reads : ReadsOn old new
   pub gives : GivesShow command answer given new
+  pub prints : IfSome given (PrintsWhole command)
 
 -- a command has no answer without a turn: where it is a show, since a deadline has come
 abbrev pub NeedsTurn : Command → ℕ → ReaderView → Type 0
@@ -91,6 +93,7 @@ NeedsTurn command answer reader = IsActiveShow command → ReadsLast answer true
 pub record SeesAt (d : GateView) (command : Command) (answer : ℕ) (given : Given0) (reader : ReaderView) : Type 0 where
   pub is_show : IsActiveShow command
   pub gives : GivesShow command answer (Some given) reader
+  pub prints : PrintsWhole command given
   pub own : KnowsOwn d.pass
   pub legal : (first : DatabaseView) → d.pass.fixed ≡ Some first → IsLegal (opened first) d.pass.seen
 
@@ -120,6 +123,7 @@ pub record TookIn (d : GateView) (command : Command) (answer : ℕ) (answered : 
   pub goes : WentOn d.pass e.pass
   pub reads : ReadsOn d.reader e.reader
   pub turns : (first : DatabaseView) → d.pass.fixed ≡ Some first → TurnsIn first d command answer answered e
+  pub prints : PrintsWhole command (given_of answered)
 
 -- a reader found a deadline that has come, on the way from what it knew to what it knows
 pub record MissedIn (answer : ℕ) (old new : ReaderView) : Type 0 where
@@ -159,6 +163,7 @@ pub record FollowsIn (d : GateView) (command : Command) (answer : ℕ) (given : 
   pub goes : WentOn d.pass e.pass
   pub reads : ReadsOn d.reader e.reader
   pub comes : ComesIn d command answer given e
+  pub prints : PrintsWhole command given
 
 -- a beginning of the lists that a reader has, whose last one shows this
 pub record HasShown (command : Command) (front : ℕ) (reply : Reply) (reader : ReaderView) : Type 0 where

@@ -9,7 +9,7 @@ use Rattle.config_db.specs.View.{opened}
 use Rattle.session_history.proofs.EventLemmas.{IsAsked-append}
 use Rattle.session_shell.specs.declared.door.Given0.{Given0}
 use Rattle.session_shell.specs.declared.door.Given0.TheVariants.{Kept as KeptAt, Seen, NoMemory}
-use Rattle.session_shell.specs.Shows.{SeesShow}
+use Rattle.session_shell.specs.Shows.{PrintsWhole, SeesShow}
 use Rattle.session_threads.specs.Gates.{FollowsIn, GateView, NamesIn}
 use Rattle.session_threads.specs.History.{HasEvent}
 
@@ -62,3 +62,7 @@ pub shows_given : (d e : GateView) (command : Command) (answer : ℕ) (given : G
 shows_given d e command answer (KeptAt place reply) goes = tt
 shows_given d e command answer (Seen front reply) goes = goes.comes.is_show
 shows_given d e command answer NoMemory goes = tt
+
+pub prints_given : (d e : GateView) (command : Command) (answer : ℕ) (given : Given0)
+    → FollowsIn d command answer given e → PrintsWhole command given
+prints_given d e command answer given goes = goes.prints

@@ -5,6 +5,9 @@ ghost use Rattle.std.specs.Arc.{arc_value};
 ghost use Rattle.active_snapshot.specs.Views.{IsLast};
 ghost use Rattle.commands.specs.Sound.{IsSound};
 ghost use Rattle.config_db.specs.View.{opened};
+ghost use Rattle.session_history.specs.Events.{StaysAccepted};
+ghost use Rattle.session_shell.specs.Shows.{PrintsWhole};
+ghost use Rattle.session_threads.specs.Adding.{given_of};
 ghost use Rattle.session_threads.specs.Gates.{TellsKept};
 ghost use Rattle.session_threads.specs.Looks.{LooksAlone};
 ghost use Rattle.session_threads.specs.Passes.{FollowsAlone};
@@ -14,8 +17,9 @@ use crate::waking::Waker;
 use active_snapshot::{Naming, Shown, SnapNote};
 use cfg_base::Moment;
 use commands::Command;
-use config_db::Answered;
+use config_db::{Answered, Database};
 use disk_model::Disk;
+use session_history::histories_have_one_outcome;
 use std::alloc::Global;
 use std::sync::{Arc, Wait};
 use turn_lock::Deed;
@@ -43,6 +47,13 @@ fn again(view: &Arc<Shown, Global>) -> Option<Arc<Shown, Global>>
     Arc::try_clone(view).ok()
 }
 
+/// Tells contracts that the active configuration stays accepted, and does nothing.
+fn tell_accepted<D: Disk, J: Naming>(database: &Database<D, J>)
+    ensures { StaysAccepted (opened database.now) database.now.events }
+{
+    let _count = database.count();
+}
+
 impl<D: Disk, J: Naming> Deed<Served<D, J>> for Ask {
     type Answer = Asked<J>;
 
@@ -51,11 +62,14 @@ impl<D: Disk, J: Naming> Deed<Served<D, J>> for Ask {
     ghost says = { λ deed caller first before after asked.
         FollowsAlone first caller before deed.command deed.moment asked.answered after
         × (TellsKept (opened first) after asked.note.list
-        × IfSome asked.view (λ view. IsLast asked.note.list (arc_value view))) };
+        × (IfSome asked.view (λ view. IsLast asked.note.list (arc_value view))
+        × PrintsWhole deed.command (given_of asked.answered))) };
 
     fn act<R: Wait>(self, rt: &R, caller: u32, served: &mut Served<D, J>) -> Asked<J> {
         let Ask { moment, command } = self;
+        histories_have_one_outcome();
         let answered = served.database.step(rt, caller, moment, command);
+        tell_accepted(&served.database);
         let note = served.database.note();
         let view = again(served.database.view());
         Asked {

@@ -4,13 +4,15 @@
 ghost use Rattle.std.specs.Prelude.{◌≡◌, false, true, IfOk, IfSome};
 ghost use Rattle.std.specs.Arc.{arc_value};
 ghost use Rattle.active_snapshot.specs.Views.{IsLast};
+ghost use Rattle.cfg_tree.specs.Tree.{IsTree};
 ghost use Rattle.commands.specs.Sound.{IsSound};
+ghost use Rattle.commit_ledger.specs.Kept.{active_of};
 ghost use Rattle.config_db.specs.View.{DatabaseView};
-ghost use Rattle.session_shell.specs.Shows.{IsActiveShow};
+ghost use Rattle.session_shell.specs.Shows.{IsActiveShow, PrintsWhole, SaysWhole};
 ghost use Rattle.session_threads.specs.Adding.{given_of};
 ghost use Rattle.session_threads.specs.Gates.{FollowsIn, GivesView, Learns, LooksIn, NamesIn, ReadsShow, TookIn};
 ghost use Rattle.session_threads.specs.History.{ShowsKept};
-ghost use Rattle.session_threads.specs.Naming.{keeps_names, names_given, shows_given};
+ghost use Rattle.session_threads.specs.Naming.{keeps_names, names_given, prints_given, shows_given};
 ghost use Rattle.session_threads.specs.Passes.{IsReady};
 
 use crate::begun::Begun;
@@ -18,6 +20,7 @@ use crate::deeds::{Ask, Asked};
 use crate::served::Served;
 use active_snapshot::{Naming, Read, Shown, SnapNote, SnapReader};
 use cfg_base::{Moment, NoMemory};
+use cfg_tree::Tree;
 use commands::Command;
 use config_core::{Reply, show_active};
 use config_db::Answered;
@@ -64,13 +67,25 @@ fn is_active_show(command: &Command) -> bool
     }
 }
 
+/// The active configuration of a view.
+fn active_in(view: &Shown) -> &Tree
+    ensures is { result.now ≡ active_of view.now }
+    ensures tree { IsTree (active_of view.now) }
+{
+    let active = view.active();
+    let _count = active.count();
+    active
+}
+
 /// What a view says to a show.
 fn shown_in(alloc: Global, view: &Shown, command: &Command) -> Result<Reply, NoMemory>
     requires { IsActiveShow command.now }
-    ensures { IfOk result (λ reply. ShowsKept view.now command.now reply) }
+    ensures shows { IfOk result (λ reply. ShowsKept view.now command.now reply) }
+    ensures whole { IfOk result (SaysWhole command.now) }
 {
+    let active = active_in(view);
     match command {
-        Command::ShowActive { .. } => show_active(alloc, view.active(), view.full(), command),
+        Command::ShowActive { .. } => show_active(alloc, active, view.full(), command),
         Command::ShowCommits => Ok(Reply::Text(view.history_lines(alloc)?)),
         _ => unreachable!(),
     }
@@ -79,7 +94,8 @@ fn shown_in(alloc: Global, view: &Shown, command: &Command) -> Result<Reply, NoM
 /// The same, as a door gives it.
 fn given_in(alloc: Global, front: u64, view: &Shown, command: &Command) -> Given0
     requires { IsActiveShow command.now }
-    ensures { GivesView command.now front view.now result }
+    ensures gives { GivesView command.now front view.now result }
+    ensures prints { PrintsWhole command.now result }
 {
     match shown_in(alloc, view, command) {
         Ok(reply) => Given0::Seen { front, reply },
@@ -211,4 +227,6 @@ impl<'a, D: Disk, J: Naming> Door for Gate<'a, D, J> {
     ghost keeps = { keeps_names };
 
     ghost shows = { shows_given };
+
+    ghost prints = { prints_given };
 }
