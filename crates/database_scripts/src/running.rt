@@ -13,7 +13,8 @@ use disk_model::MemDisk;
 use io_edge::VecSink;
 use reply_text::put_reply;
 use script_lines::{
-    Arg, Fault, Text, bytes_of, first_and_rest, number, say, say_counted, say_text, small_number,
+    Arg, Fault, Text, bytes_of, first_and_rest, number, say, say_counted, say_path, say_text,
+    small_number,
 };
 use shell_words::{ReadFault, Words0, read_line};
 use std::alloc::Global;
@@ -85,6 +86,30 @@ fn look<R: Wait, J: Naming>(rt: &R, book: &mut Database<MemDisk, J>, moment: Mom
     ensures { book.new.users ≡ book.old.users }
 {
     book.tick(rt, moment)
+}
+
+/// Looks at the time in a caller's name.
+fn make_ready<R: Wait, J: Naming>(
+    rt: &R,
+    book: &mut Database<MemDisk, J>,
+    caller: u32,
+    moment: Moment,
+) -> Ticked
+    requires { (0 < caller) × (caller ≤ length book.old.users) }
+    ensures { book.new.users ≡ book.old.users }
+{
+    book.ready(rt, caller, moment)
+}
+
+/// What resulted from a look at the time.
+fn say_ticked(out: &mut Text, ticked: Ticked) {
+    match ticked {
+        Ticked::Nothing => say(out, "nothing"),
+        Ticked::Settled => say(out, "settled"),
+        Ticked::Reverted => say(out, "reverted"),
+        Ticked::DiskFault => say(out, "disk fault"),
+        Ticked::NoMemory => out.lacks_memory(),
+    }
 }
 
 impl<J: Naming> Running<J> {
@@ -180,13 +205,30 @@ impl<J: Naming> Running<J> {
     /// tick SECONDS
     fn tick<R: Wait>(&mut self, rt: &R, seconds: &[u8], out: &mut Text) -> Result<(), Fault> {
         let moment = Moment::of(number(seconds)?);
-        match look(rt, &mut self.book, moment) {
-            Ticked::Nothing => say(out, "nothing"),
-            Ticked::Settled => say(out, "settled"),
-            Ticked::Reverted => say(out, "reverted"),
-            Ticked::DiskFault => say(out, "disk fault"),
-            Ticked::NoMemory => out.lacks_memory(),
-        }
+        say_ticked(out, look(rt, &mut self.book, moment));
+        Ok(())
+    }
+
+    /// ready CALLER SECONDS
+    fn ready<R: Wait>(
+        &mut self,
+        rt: &R,
+        caller: &[u8],
+        seconds: &[u8],
+        out: &mut Text,
+    ) -> Result<(), Fault> {
+        let caller = small_number(caller)?;
+        let moment = Moment::of(number(seconds)?);
+        self.place_of(caller)?;
+        say_ticked(out, make_ready(rt, &mut self.book, caller, moment));
+        Ok(())
+    }
+
+    /// level CALLER
+    fn say_level(&self, caller: &[u8], out: &mut Text) -> Result<(), Fault> {
+        let caller = small_number(caller)?;
+        self.place_of(caller)?;
+        say_path(out, "level", self.book.level(caller));
         Ok(())
     }
 
@@ -254,6 +296,8 @@ impl<J: Naming> Running<J> {
     ) -> Result<(), Fault> {
         match (name, args) {
             ("tick", [seconds]) => self.tick(rt, seconds, out),
+            ("ready", [caller, seconds]) => self.ready(rt, caller, seconds, out),
+            ("level", [caller]) => self.say_level(caller, out),
             ("read", [caller, seconds]) => self.read(alloc, caller, seconds, out),
             ("learn", [caller]) => self.learn(caller),
             ("tell", [caller]) => self.tell(caller),
@@ -279,5 +323,8 @@ impl<J: Naming> Running<J> {
 
 /// Whether a call is one of an open database.
 pub(crate) fn is_call(name: &str) -> bool {
-    matches!(name, "tick" | "read" | "learn" | "tell" | "within" | "note")
+    matches!(
+        name,
+        "tick" | "ready" | "level" | "read" | "learn" | "tell" | "within" | "note"
+    )
 }
