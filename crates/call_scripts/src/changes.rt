@@ -2,6 +2,7 @@
 
 ghost use Rattle.cfg_tree.specs.Typed.{IsLevelPath};
 
+use crate::json_calls::ask_write;
 use crate::level::resolved;
 use cfg_base::{Path, Value, WordList, Words};
 use cfg_tree::Tree;
@@ -189,6 +190,7 @@ pub(crate) fn look(
         "next" => ask_next(alloc, tree, args, out),
         "print" => ask_print(alloc, tree, args, out),
         "print_lines" => ask_print_lines(alloc, tree, args, out),
+        "write_json" => ask_write(alloc, tree, args, out),
         _ => return None,
     })
 }

@@ -14,6 +14,7 @@ mod base_calls;
 mod changes;
 mod check_calls;
 mod group_calls;
+mod json_calls;
 mod kept;
 mod kinds;
 mod ledger_calls;

@@ -3,6 +3,7 @@
 
 ghost use Rattle.cfg_lex.specs.Tokens.{IsPlaced};
 
+use crate::json_calls::ask_read;
 use cfg_base::NoMemory;
 use cfg_lex::{LexFault, Token, TokenKind, tokens};
 use cfg_tree::Tree;
@@ -110,7 +111,7 @@ fn ask_parse_lines(alloc: Global, text: &[u8], out: &mut Text) {
 
 /// Whether a call reads a text.
 pub(crate) fn is_call(call: &str) -> bool {
-    matches!(call, "tokens" | "parse" | "parse_lines")
+    matches!(call, "tokens" | "parse" | "parse_lines" | "read_json")
 }
 
 /// Answers a call that reads a text.
@@ -118,6 +119,7 @@ pub(crate) fn ask(alloc: Global, tree: &mut Tree, call: &str, text: &[u8], out: 
     match call {
         "tokens" => ask_tokens(alloc, text, out),
         "parse" => ask_parse(alloc, tree, text, None, out),
+        "read_json" => ask_read(alloc, tree, text, out),
         _ => ask_parse_lines(alloc, text, out),
     }
 }
