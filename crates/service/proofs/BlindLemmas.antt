@@ -4,7 +4,7 @@ use Rattle.std.proofs.Common.{◌≡◌, ℕ, suc, List, [], ◌∷◌, ◌++◌
 use Rattle.std.proofs.lemmas.Bool.{false≢true}
 use Rattle.std.proofs.lemmas.List.{append-nil}
 use Rattle.std.proofs.lemmas.Option.{none-some}
-use Rattle.std.specs.List.{flat_map}
+use Rattle.std.specs.List.{AllByRecursion, flat_map}
 use Rattle.commands.specs.declared.command.Command.{Command}
 use Rattle.commands.specs.declared.command.Command.TheVariants.{Logout}
 use Rattle.config_core.specs.declared.reply.Reply.{Reply}
@@ -13,22 +13,24 @@ use Rattle.config_core.specs.State.{State}
 use Rattle.config_db.specs.declared.answer.Answered.TheVariants.{Kept as DoneAt, NoMemory as Wanting}
 use Rattle.io_edge.specs.declared.lines.Line.{Line}
 use Rattle.io_edge.specs.Ends.{held_after}
-use Rattle.reply_text.specs.declared.fault.ShellFault.{ShellFault}
 use Rattle.session_history.specs.declared.history.Happened.{Happened}
 use Rattle.session_history.specs.Events.{IsAt, Leads}
 use Rattle.session_shell.specs.declared.door.Given0.{Given0}
 use Rattle.session_shell.specs.declared.door.Given0.TheVariants.{Kept as KeptAt, Seen, NoMemory}
+use Rattle.session_shell.specs.declared.json_show.Manner.{Manner}
+use Rattle.session_shell.specs.declared.json_show.Manner.TheVariants.{Plain, Json, Dry, NoJson}
 use Rattle.session_shell.specs.declared.reading.Item.{Item}
-use Rattle.session_shell.specs.declared.reading.Item.TheVariants.{Ask, Wrong}
+use Rattle.session_shell.specs.declared.reading.Item.TheVariants.{Ask}
 use Rattle.session_shell.specs.declared.reading.Reading.{Reading}
 use Rattle.session_shell.specs.declared.reading.Reading.TheVariants.{Operational, Configuring, Collecting, Spoilt, Out}
 use Rattle.session_shell.specs.declared.turn.How.{How}
 use Rattle.session_shell.specs.declared.turn.How.TheVariants.{Clean, InputFull}
-use Rattle.session_shell.specs.Exchange.{Exchange, Asked, Refused, reading_after, item_asked, moment_in, text_written, turn_taken}
+use Rattle.session_shell.specs.Exchange.{Exchange, Asked, Refused, Wanted, IsWrittenIn, is_dry, item_of, reading_after, item_asked, moment_in, seen_turn, text_written, turn_taken}
 use Rattle.session_shell.specs.Items.{Continues, ReadsThrough}
-use Rattle.session_shell.specs.Law.{SeeAlike}
+use Rattle.session_shell.specs.Json.{IsWritten}
+use Rattle.session_shell.specs.Law.{SeeAlike, is_wanting}
 use Rattle.session_shell.specs.Transcript.{GoesBy, LogsOut, SessionView, Texts, WroteTexts}
-use Rattle.session_shell.proofs.LawLemmas.{Peels}
+use Rattle.session_shell.proofs.LawLemmas.{AllWere, Once, Peels, asked_is, command_once, fault_is, item_wrong, kept_front, not_dry, seen_at}
 use Rattle.session_threads.proofs.ListLemmas.{some_is}
 use Rattle.service.proofs.AloneLemmas.{FollowsPlain, turns_once}
 
@@ -38,10 +40,23 @@ blind_given (KeptAt place reply) = KeptAt place reply
 blind_given (Seen front reply) = Seen front SaysDone
 blind_given NoMemory = NoMemory
 
+-- how it is written: what a view didn't say has no JSON
+abbrev pub unsaid : Manner → Manner
+unsaid Plain = Plain
+unsaid (Json text) = NoJson
+unsaid Dry = Dry
+unsaid NoJson = NoJson
+
+abbrev pub blind_manner : Given0 → Manner → Manner
+blind_manner (KeptAt place reply) manner = manner
+blind_manner (Seen front reply) manner = unsaid manner
+blind_manner NoMemory manner = manner
+
 -- an item, but for what a view said of it
 abbrev pub blind : Exchange → Exchange
-blind (Asked moment command given) = Asked moment command (blind_given given)
+blind (Asked moment command given manner) = Asked moment command (blind_given given) (blind_manner given manner)
 blind (Refused moment fault) = Refused moment fault
+blind (Wanted moment) = Wanted moment
 
 -- how a history that one caller makes alone follows after one ask, but for what a view said
 abbrev pub FollowsBlind : State → ℕ → List Happened → Command → ℕ → Given0 → List Happened → Type 0
@@ -49,26 +64,62 @@ FollowsBlind opening caller events command answer (KeptAt place reply) events' =
 FollowsBlind opening caller events command answer (Seen front reply) events' = (events' ≡ events) × (reply ≡ SaysDone)
 FollowsBlind opening caller events command answer NoMemory events' = FollowsPlain opening caller events command answer Wanting events'
 
+unsaid_item : (manner : Manner) (command : Command) → item_of (unsaid manner) command ≡ item_of manner command
+unsaid_item Plain command = refl
+unsaid_item (Json text) command = refl
+unsaid_item Dry command = refl
+unsaid_item NoJson command = refl
+
+unsaid_dry : (manner : Manner) → is_dry (unsaid manner) ≡ is_dry manner
+unsaid_dry Plain = refl
+unsaid_dry (Json text) = refl
+unsaid_dry Dry = refl
+unsaid_dry NoJson = refl
+
 -- what a view said changes nothing else of an item
-blind_item : (exchange : Exchange) → item_asked (blind exchange) ≡ item_asked exchange
-blind_item (Asked moment command given) = refl
+pub blind_item : (exchange : Exchange) → item_asked (blind exchange) ≡ item_asked exchange
+blind_item (Asked moment command (KeptAt place reply) manner) = refl
+blind_item (Asked moment command (Seen front reply) manner) = unsaid_item manner command
+blind_item (Asked moment command NoMemory manner) = refl
 blind_item (Refused moment fault) = refl
+blind_item (Wanted moment) = refl
 
 blind_after : (reading : Reading) (exchange : Exchange) → reading_after reading (blind exchange) ≡ reading_after reading exchange
-blind_after reading (Asked moment command (KeptAt place reply)) = refl
-blind_after reading (Asked moment command (Seen front reply)) = refl
-blind_after reading (Asked moment command NoMemory) = refl
+blind_after reading (Asked moment command (KeptAt place reply) manner) = refl
+blind_after reading (Asked moment command (Seen front reply) manner) = refl
+blind_after reading (Asked moment command NoMemory manner) = refl
 blind_after reading (Refused moment fault) = refl
+blind_after reading (Wanted moment) = refl
 
 blind_turn : (exchange : Exchange) → turn_taken (blind exchange) ≡ turn_taken exchange
-blind_turn (Asked moment command (KeptAt place reply)) = refl
-blind_turn (Asked moment command (Seen front reply)) = refl
-blind_turn (Asked moment command NoMemory) = refl
+blind_turn (Asked moment command (KeptAt place reply) manner) = refl
+blind_turn (Asked moment command (Seen front reply) manner) = ap (λ dry. seen_turn dry front moment) (unsaid_dry manner)
+blind_turn (Asked moment command NoMemory manner) = refl
 blind_turn (Refused moment fault) = refl
+blind_turn (Wanted moment) = refl
 
 blind_moment : (exchange : Exchange) → moment_in (blind exchange) ≡ moment_in exchange
-blind_moment (Asked moment command given) = refl
+blind_moment (Asked moment command given manner) = refl
 blind_moment (Refused moment fault) = refl
+blind_moment (Wanted moment) = refl
+
+-- it is written as it may be, where memory wasn't wanting
+unsaid_written : (command : Command) (front moment : ℕ) (reply : Reply) (manner : Manner) → IsWritten command (Seen front reply) manner → is_wanting (seen_turn (is_dry manner) front moment) ≡ false → IsWritten command (Seen front SaysDone) (unsaid manner)
+unsaid_written command front moment reply Plain written want = tt
+unsaid_written command front moment reply (Json text) written want = (written.0, refl)
+unsaid_written command front moment reply Dry written want = absurd (false≢true (sym want))
+unsaid_written command front moment reply NoJson written want = (written.0, refl)
+
+blind_written : (exchange : Exchange) → IsWrittenIn exchange → is_wanting (turn_taken exchange) ≡ false → IsWrittenIn (blind exchange)
+blind_written (Asked moment command (KeptAt place reply) manner) written want = written
+blind_written (Asked moment command (Seen front reply) manner) written want = unsaid_written command front moment reply manner written want
+blind_written (Asked moment command NoMemory manner) written want = written
+blind_written (Refused moment fault) written want = tt
+blind_written (Wanted moment) written want = tt
+
+pub all_written : (exchanges : List Exchange) → AllByRecursion IsWrittenIn exchanges → AllWere exchanges → AllByRecursion IsWrittenIn (map blind exchanges)
+all_written [] written wants = tt
+all_written (exchange ∷ exchanges) written wants = (blind_written exchange written.0 wants.0, all_written exchanges written.1 wants.1)
 
 pub blind_turns : (exchanges : List Exchange) → map turn_taken (map blind exchanges) ≡ map turn_taken exchanges
 blind_turns [] = refl
@@ -98,7 +149,7 @@ logout_blind final is = (blind is.0, ap (map blind) is.1, blind_item is.0 ∙ is
 pub blind_logs_out : (reading : Reading) (final : List Exchange) → LogsOut reading final → LogsOut reading (map blind final)
 blind_logs_out Operational final out = logout_blind final out
 blind_logs_out Configuring final out = logout_blind final out
-blind_logs_out (Collecting way text) final out = logout_blind final out
+blind_logs_out (Collecting way json text) final out = logout_blind final out
 blind_logs_out (Spoilt fault) final out = logout_blind final out
 blind_logs_out Out final out = ap (map blind) out
 
@@ -122,55 +173,51 @@ texts_of how asked final old view empty ended = by_how ended
     by_how (inl clean) = subst (λ h. Texts h asked final old (view_of asked final view)) (sym clean) wrote
     by_how (inr full) = subst (λ h. Texts h asked final old (view_of asked final view)) (sym full) wrote
 
-command_is : (one other : Command) → Ask one ≡ Ask other → one ≡ other
-command_is one other is = ap (λ i. elim i [ Ask r ↦ r | Wrong f ↦ one ]) is
-
-fault_is : (one other : ShellFault) → Wrong one ≡ Wrong other → one ≡ other
-fault_is one other is = ap (λ i. elim i [ Ask r ↦ one | Wrong f ↦ f ]) is
-
-ask_is : (command : Command) (fault : ShellFault) → Ask command ≡ Wrong fault → ⊥
-ask_is command fault is = false≢true (ap (λ i. elim i [ Ask r ↦ false | Wrong f ↦ true ]) is)
-
-asked_is : (moment moment' : ℕ) (command command' : Command) (given given' : Given0) → moment ≡ moment' → command ≡ command' → given ≡ given' → Asked moment command given ≡ Asked moment' command' given'
-asked_is moment moment' command command' given given' when which same =
-    ap (λ m. Asked m command given) when ∙ ap (λ c. Asked moment' c given) which ∙ ap (Asked moment' command') same
-
 -- two such histories that began alike, and went on by what was asked; the same items were answered from views of as many entries
 pub record BeganAlike (opening : State) (caller : ℕ) (e e' : List Happened) (xs ys : List Exchange) : Type 0 where
   pub start : List Happened
   pub went : GoesBy (FollowsBlind opening caller) xs start e
   pub went' : GoesBy (FollowsBlind opening caller) ys start e'
   pub seen : SeeAlike (map turn_taken xs) (map turn_taken ys)
+  pub written : AllByRecursion IsWrittenIn xs
+  pub written' : AllByRecursion IsWrittenIn ys
 
-module _ (opening : State) (caller : ℕ) (e e' : List Happened)
+module _ (once : Once) (opening : State) (caller : ℕ) (e e' : List Happened)
     (leads_once : (events : List Happened) (one other : State) → Leads opening events one → Leads opening events other → one ≡ other)
     (at_once : (events : List Happened) (place : ℕ) (before again : State) (event same : Happened) (one other : Reply) → IsAt opening events place before event one → IsAt opening events place again same other → (event ≡ same) × (before ≡ again) × (one ≡ other)) where
   -- so the first items came to the same
   pub blind_peels : Peels (BeganAlike opening caller e e')
-  blind_peels (Asked moment command (KeptAt place reply)) (Asked moment' command' (KeptAt place' reply')) xs ys item when want want' from =
-      let which : command ≡ command' = command_is command command' item in
+  blind_peels (Asked moment command (KeptAt place reply) manner) (Asked moment' command' (KeptAt place' reply') manner') xs ys item when want want' from =
+      let which : command ≡ command' = command_once manner manner' command command' (KeptAt place reply) (KeptAt place' reply') item from.written.0 from.written'.0 in
       let did : FollowsPlain opening caller from.start command moment (DoneAt place' reply') from.went'.0 =
       subst (λ m. FollowsPlain opening caller from.start command m (DoneAt place' reply') from.went'.0) (sym when) (subst (λ c. FollowsPlain opening caller from.start c moment' (DoneAt place' reply') from.went'.0) (sym which) from.went'.1) in
       let same : (place ≡ place') × (reply ≡ reply') × (from.went.0 ≡ from.went'.0) = turns_once opening caller leads_once at_once from.start from.went.0 from.went'.0 command moment place place' reply reply' from.went.1 did in (
-        asked_is moment moment' command command' (KeptAt place reply) (KeptAt place' reply') when which (ap (λ p. KeptAt p reply) same.0 ∙ ap (KeptAt place') same.1),
-        record { start = from.went'.0; went = subst (λ x. GoesBy (FollowsBlind opening caller) xs x e) same.2 from.went.2; went' = from.went'.2; seen = λ number. from.seen (suc number) },
+        asked_is once moment moment' command command' (KeptAt place reply) (KeptAt place' reply') manner manner' when item (ap (λ p. KeptAt p reply) same.0 ∙ ap (KeptAt place') same.1) from.written.0 from.written'.0
+            (not_dry manner moment (KeptAt place reply) want) (not_dry manner' moment' (KeptAt place' reply') want'),
+        record { start = from.went'.0; went = subst (λ x. GoesBy (FollowsBlind opening caller) xs x e) same.2 from.went.2; went' = from.went'.2; seen = λ number. from.seen (suc number); written = from.written.1; written' = from.written'.1 },
       )
-  blind_peels (Asked moment command (Seen front reply)) (Asked moment' command' (Seen front' reply')) xs ys item when want want' from =
-      let which : command ≡ command' = command_is command command' item in
-      let fronts : front ≡ front' = some_is (from.seen 0) in
+  blind_peels (Asked moment command (Seen front reply) manner) (Asked moment' command' (Seen front' reply') manner') xs ys item when want want' from =
+      let fronts : front ≡ front' = some_is (sym (seen_at (is_dry manner) front moment) ∙ from.seen 0 ∙ seen_at (is_dry manner') front' moment') in
       let same : from.went.0 ≡ from.went'.0 = from.went.1.0 ∙ sym from.went'.1.0 in (
-        asked_is moment moment' command command' (Seen front reply) (Seen front' reply') when which (ap (λ f. Seen f reply) fronts ∙ ap (Seen front') (from.went.1.1 ∙ sym from.went'.1.1)),
-        record { start = from.went'.0; went = subst (λ x. GoesBy (FollowsBlind opening caller) xs x e) same from.went.2; went' = from.went'.2; seen = λ number. from.seen (suc number) },
+        asked_is once moment moment' command command' (Seen front reply) (Seen front' reply') manner manner' when item (ap (λ f. Seen f reply) fronts ∙ ap (Seen front') (from.went.1.1 ∙ sym from.went'.1.1)) from.written.0 from.written'.0
+            (not_dry manner moment (Seen front reply) want) (not_dry manner' moment' (Seen front' reply') want'),
+        record { start = from.went'.0; went = subst (λ x. GoesBy (FollowsBlind opening caller) xs x e) same from.went.2; went' = from.went'.2; seen = λ number. from.seen (suc number); written = from.written.1; written' = from.written'.1 },
       )
-  blind_peels (Asked moment command (KeptAt place reply)) (Asked moment' command' (Seen front' reply')) xs ys item when want want' from = absurd (none-some front' (from.seen 0))
-  blind_peels (Asked moment command (Seen front reply)) (Asked moment' command' (KeptAt place' reply')) xs ys item when want want' from = absurd (none-some front (sym (from.seen 0)))
-  blind_peels (Asked moment command NoMemory) y xs ys item when want want' from = absurd (want refl)
-  blind_peels (Asked moment command (KeptAt place reply)) (Asked moment' command' NoMemory) xs ys item when want want' from = absurd (want' refl)
-  blind_peels (Asked moment command (Seen front reply)) (Asked moment' command' NoMemory) xs ys item when want want' from = absurd (want' refl)
+  blind_peels (Asked moment command (KeptAt place reply) manner) (Asked moment' command' (Seen front' reply') manner') xs ys item when want want' from =
+      absurd (none-some front' (sym (kept_front (is_dry manner) place) ∙ from.seen 0 ∙ seen_at (is_dry manner') front' moment'))
+  blind_peels (Asked moment command (Seen front reply) manner) (Asked moment' command' (KeptAt place' reply') manner') xs ys item when want want' from =
+      absurd (none-some front (sym (kept_front (is_dry manner') place') ∙ sym (from.seen 0) ∙ seen_at (is_dry manner) front moment))
+  blind_peels (Asked moment command NoMemory manner) y xs ys item when want want' from = absurd (false≢true (sym want))
+  blind_peels (Asked moment command (KeptAt place reply) manner) (Asked moment' command' NoMemory manner') xs ys item when want want' from = absurd (false≢true (sym want'))
+  blind_peels (Asked moment command (Seen front reply) manner) (Asked moment' command' NoMemory manner') xs ys item when want want' from = absurd (false≢true (sym want'))
   blind_peels (Refused moment fault) (Refused moment' fault') xs ys item when want want' from = (
     ap (λ m. Refused m fault) when ∙ ap (Refused moment') (fault_is fault fault' item),
-    record { start = from.start; went = from.went; went' = from.went'; seen = λ number. from.seen (suc number) },
+    record { start = from.start; went = from.went; went' = from.went'; seen = λ number. from.seen (suc number); written = from.written.1; written' = from.written'.1 },
   )
-  blind_peels (Asked moment command (KeptAt place reply)) (Refused moment' fault') xs ys item when want want' from = absurd (ask_is command fault' item)
-  blind_peels (Asked moment command (Seen front reply)) (Refused moment' fault') xs ys item when want want' from = absurd (ask_is command fault' item)
-  blind_peels (Refused moment fault) (Asked moment' command' given') xs ys item when want want' from = absurd (ask_is command' fault (sym item))
+  blind_peels (Asked moment command (KeptAt place reply) manner) (Refused moment' fault') xs ys item when want want' from = absurd (item_wrong manner command fault' item)
+  blind_peels (Asked moment command (Seen front reply) manner) (Refused moment' fault') xs ys item when want want' from = absurd (item_wrong manner command fault' item)
+  blind_peels (Refused moment fault) (Asked moment' command' given' manner') xs ys item when want want' from = absurd (item_wrong manner' command' fault (sym item))
+  blind_peels (Wanted moment) y xs ys item when want want' from = absurd (false≢true (sym want))
+  blind_peels (Asked moment command (KeptAt place reply) manner) (Wanted moment') xs ys item when want want' from = absurd (false≢true (sym want'))
+  blind_peels (Asked moment command (Seen front reply) manner) (Wanted moment') xs ys item when want want' from = absurd (false≢true (sym want'))
+  blind_peels (Refused moment fault) (Wanted moment') xs ys item when want want' from = absurd (false≢true (sym want'))

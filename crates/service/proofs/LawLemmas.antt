@@ -14,15 +14,16 @@ use Rattle.session_history.specs.Kept.{WasKept}
 use Rattle.session_shell.specs.declared.door.Given0.{Given0}
 use Rattle.session_shell.specs.declared.door.Given0.TheVariants.{Kept as KeptAt, Seen, NoMemory}
 use Rattle.session_shell.specs.declared.reading.Reading.TheVariants.{Operational}
-use Rattle.session_shell.specs.Exchange.{Exchange, Asked, Refused}
-use Rattle.session_shell.specs.Law.{Agree, SeeAlike, Undisturbed, front_at}
+use Rattle.session_shell.specs.declared.json_show.Manner.{Manner}
+use Rattle.session_shell.specs.Exchange.{Exchange, Asked, Refused, Wanted, IsWrittenIn, item_asked, item_of, turn_taken}
+use Rattle.session_shell.specs.Law.{Agree, SeeAlike, Undisturbed, front_at, is_wanting}
 use Rattle.session_shell.specs.Transcript.{Following, GoesBy, SessionView, TakesAnswers, TakesTurns}
-use Rattle.session_shell.proofs.LawLemmas.{Once, all_same, outcome_same}
+use Rattle.session_shell.proofs.LawLemmas.{AllWere, Once, all_same, asked_is, not_dry, outcome_same}
 use Rattle.session_threads.specs.History.{FollowsAsked, FollowsTurn, HasEvent, HasView, IsTurn, Known, Names, ShowsKept, known_first, places_answered}
 use Rattle.session_threads.proofs.ListLemmas.{all_back, some_is}
 use Rattle.service.specs.Alone.{AreAlike, IsAlone, IsCalm, uncounted}
 use Rattle.service.proofs.AloneLemmas.{FollowsPlain, IsPlain, Leads-split}
-use Rattle.service.proofs.BlindLemmas.{BeganAlike, FollowsBlind, blind, blind_given, blind_logs_out, blind_moments, blind_peels, blind_reads, blind_turns, texts_of, view_of}
+use Rattle.service.proofs.BlindLemmas.{BeganAlike, FollowsBlind, all_written, blind, blind_given, blind_item, blind_logs_out, blind_manner, blind_moments, blind_peels, blind_reads, blind_turns, texts_of, view_of}
 use Rattle.service.proofs.GrowthLemmas.{more_events}
 use Rattle.service.proofs.ListLemmas.{All-map, all_front, slice_get-map}
 
@@ -127,17 +128,19 @@ IsViewGiven opening final command (Seen front reply) = HasView opening final com
 IsViewGiven opening final command NoMemory = Unit {0}
 
 abbrev pub IsViewed : State → List Happened → Exchange → Type 0
-IsViewed opening final (Asked moment command given) = IsViewGiven opening final command given
+IsViewed opening final (Asked moment command given manner) = IsViewGiven opening final command given
 IsViewed opening final (Refused moment fault) = Unit {0}
+IsViewed opening final (Wanted moment) = Unit {0}
 
 -- each of these items that was answered from a view
 pub all_viewed : (opening : State) (caller : ℕ) (final : List Happened) (exchanges : List Exchange) (d e : Known) → GoesBy (FollowsAsked opening caller final) exchanges d e → AllByRecursion (IsViewed opening (plain final)) exchanges
 all_viewed opening caller final [] d e goes = tt
-all_viewed opening caller final (Asked moment command (KeptAt place reply) ∷ exchanges) d e goes = (tt, all_viewed opening caller final exchanges goes.0 e goes.2)
-all_viewed opening caller final (Asked moment command (Seen front reply) ∷ exchanges) d e goes =
+all_viewed opening caller final (Asked moment command (KeptAt place reply) manner ∷ exchanges) d e goes = (tt, all_viewed opening caller final exchanges goes.0 e goes.2)
+all_viewed opening caller final (Asked moment command (Seen front reply) manner ∷ exchanges) d e goes =
     (plain_view opening final command front reply (record { kept = goes.1.kept; was_kept = goes.1.was_kept; shows = goes.1.shows }), all_viewed opening caller final exchanges goes.0 e goes.2)
-all_viewed opening caller final (Asked moment command NoMemory ∷ exchanges) d e goes = (tt, all_viewed opening caller final exchanges goes.0 e goes.2)
+all_viewed opening caller final (Asked moment command NoMemory manner ∷ exchanges) d e goes = (tt, all_viewed opening caller final exchanges goes.0 e goes.2)
 all_viewed opening caller final (Refused moment fault ∷ exchanges) d e goes = (tt, all_viewed opening caller final exchanges d e goes)
+all_viewed opening caller final (Wanted moment ∷ exchanges) d e goes = (tt, all_viewed opening caller final exchanges d e goes)
 
 module _ (opening : State) (caller : ℕ) where
   follows_alone : (events : List Happened) (command : Command) (answer : ℕ) (answered : Answered) (events' : List Happened) → IsAlone opening caller events' → FollowsTurn opening caller events command answer answered events' →
@@ -160,13 +163,14 @@ module _ (opening : State) (caller : ℕ) where
 
     goes_blind : (exchanges : List Exchange) (d e : Known) → IsAlone opening caller e.events → GoesBy (FollowsAsked opening caller final) exchanges d e → GoesBy (FollowsBlind opening caller) (map blind exchanges) (plain d.events) (plain e.events)
     goes_blind [] d e alone goes = ap (λ (k : Known). plain k.events) goes
-    goes_blind (Asked moment command (KeptAt place reply) ∷ exchanges) d e alone goes =
+    goes_blind (Asked moment command (KeptAt place reply) manner ∷ exchanges) d e alone goes =
         (plain goes.0.events, follows_alone d.events command moment (DoneAt place reply) goes.0.events (alone_before exchanges goes.0 e goes.2 alone) goes.1.turn, goes_blind exchanges goes.0 e alone goes.2)
-    goes_blind (Asked moment command (Seen front reply) ∷ exchanges) d e alone goes =
+    goes_blind (Asked moment command (Seen front reply) manner ∷ exchanges) d e alone goes =
         (plain goes.0.events, (ap plain goes.1.same, refl), goes_blind exchanges goes.0 e alone goes.2)
-    goes_blind (Asked moment command NoMemory ∷ exchanges) d e alone goes =
+    goes_blind (Asked moment command NoMemory manner ∷ exchanges) d e alone goes =
         (plain goes.0.events, follows_alone d.events command moment Wanting goes.0.events (alone_before exchanges goes.0 e goes.2 alone) goes.1.turn, goes_blind exchanges goes.0 e alone goes.2)
     goes_blind (Refused moment fault ∷ exchanges) d e alone goes = goes_blind exchanges d e alone goes
+    goes_blind (Wanted moment ∷ exchanges) d e alone goes = goes_blind exchanges d e alone goes
 
   module _ (limit : ℕ) (bytes : List ℕ) (coming : ℕ → ℕ) (after : Known) (view : SessionView)
       (quiet : Undisturbed (FollowsAsked opening caller after.events) limit bytes coming (known_first opening []) after view)
@@ -185,6 +189,7 @@ module _ (opening : State) (caller : ℕ) where
       moments = subst (λ l. TakesAnswers (Some coming) l view.coming) (sym (blind_moments all)) quiet.session.turns.moments;
       turned = quiet.session.turns.turned ∙ sym (blind_turns all);
       asked = goes_blind after.events all (known_first opening []) after alone quiet.session.turns.asked;
+      written = all_written all quiet.session.turns.written (subst (AllByRecursion (λ turn. is_wanting turn ≡ false)) quiet.session.turns.turned quiet.no_want);
     }
 
     -- a session that nothing disturbs, without what views said
@@ -215,8 +220,9 @@ FollowsAny d command answer given e = Unit {0}
 
 goes_any : (follows : Following Known) (exchanges : List Exchange) (d e : Known) → GoesBy follows exchanges d e → GoesBy FollowsAny exchanges d e
 goes_any follows [] d e goes = goes
-goes_any follows (Asked moment command given ∷ exchanges) d e goes = (goes.0, tt, goes_any follows exchanges goes.0 e goes.2)
+goes_any follows (Asked moment command given manner ∷ exchanges) d e goes = (goes.0, tt, goes_any follows exchanges goes.0 e goes.2)
 goes_any follows (Refused moment fault ∷ exchanges) d e goes = goes_any follows exchanges d e goes
+goes_any follows (Wanted moment ∷ exchanges) d e goes = goes_any follows exchanges d e goes
 
 abbrev of_any : (follows : Following Known) (limit : ℕ) (bytes : List ℕ) (coming : ℕ → ℕ) (d e : Known) (view : SessionView) → Undisturbed follows limit bytes coming d e view → Undisturbed FollowsAny limit bytes coming d e view
 of_any follows limit bytes coming d e view quiet = record {
@@ -235,6 +241,7 @@ of_any follows limit bytes coming d e view quiet = record {
       moments = quiet.session.turns.moments;
       turned = quiet.session.turns.turned;
       asked = goes_any follows (quiet.session.asked ++ quiet.session.final) d e quiet.session.turns.asked;
+      written = quiet.session.turns.written;
     };
     texts = quiet.session.texts;
   };
@@ -247,8 +254,8 @@ cons_is : {A : Type 0} {x y : A} {xs ys : List A} → x ∷ xs ≡ y ∷ ys → 
 cons_is is = (cc, cc)
 
 -- what an item is but for what a view said of it
-moments_are : (moment moment' : ℕ) (command command' : Command) (given given' : Given0) → Asked moment command given ≡ Asked moment' command' given' → (moment ≡ moment') × (command ≡ command') × (given ≡ given')
-moments_are moment moment' command command' given given' is = (cc, cc, cc)
+moments_are : (moment moment' : ℕ) (command command' : Command) (given given' : Given0) (manner manner' : Manner) → Asked moment command given manner ≡ Asked moment' command' given' manner' → (moment ≡ moment') × (command ≡ command') × (given ≡ given')
+moments_are moment moment' command command' given given' manner manner' is = (cc, cc, cc)
 
 module _ (opening : State) (kept_once : (events : List Happened) (one other : Kept) → WasKept opening events one → WasKept opening events other → one.count ≡ other.count → one ≡ other)
     (shows_once : (kept : Kept) (command : Command) (one other : Reply) → ShowsKept kept command one → ShowsKept kept command other → one ≡ other) where
@@ -270,22 +277,30 @@ module _ (opening : State) (kept_once : (events : List Happened) (one other : Ke
   seen_given events command NoMemory (KeptAt place' reply') is v v' = cc
   seen_given events command NoMemory (Seen front' reply') is v v' = cc
 
-  seen_one : (events : List Happened) (x y : Exchange) → blind x ≡ blind y → IsViewed opening events x → IsViewed opening events y → x ≡ y
-  seen_one events (Asked moment command given) (Asked moment' command' given') is v v' =
-      let are = moments_are moment moment' command command' (blind_given given) (blind_given given') is in
-      ap (λ m. Asked m command given) are.0 ∙ ap (λ c. Asked moment' c given) are.1
-      ∙ ap (Asked moment' command') (seen_given events command' given given' are.2 (subst (λ c. IsViewGiven opening events c given) are.1 v) v')
-  seen_one events (Refused moment fault) (Refused moment' fault') is v v' = is
-  seen_one events (Asked moment command given) (Refused moment' fault') is v v' = cc
-  seen_one events (Refused moment fault) (Asked moment' command' given') is v v' = cc
+  seen_one : Once → (events : List Happened) (x y : Exchange) → blind x ≡ blind y → IsViewed opening events x → IsViewed opening events y → IsWrittenIn x → IsWrittenIn y → is_wanting (turn_taken x) ≡ false → is_wanting (turn_taken y) ≡ false → x ≡ y
+  seen_one once events (Asked moment command given manner) (Asked moment' command' given' manner') is v v' w w' want want' =
+      let are = moments_are moment moment' command command' (blind_given given) (blind_given given') (blind_manner given manner) (blind_manner given' manner') is in
+      let item : item_of manner command ≡ item_of manner' command' =
+      sym (blind_item (Asked moment command given manner)) ∙ ap item_asked is ∙ blind_item (Asked moment' command' given' manner') in
+      asked_is once moment moment' command command' given given' manner manner' are.0 item
+      (seen_given events command' given given' are.2 (subst (λ c. IsViewGiven opening events c given) are.1 v) v') w w' (not_dry manner moment given want) (not_dry manner' moment' given' want')
+  seen_one once events (Refused moment fault) (Refused moment' fault') is v v' w w' want want' = is
+  seen_one once events (Wanted moment) (Wanted moment') is v v' w w' want want' = is
+  seen_one once events (Asked moment command given manner) (Refused moment' fault') is v v' w w' want want' = cc
+  seen_one once events (Asked moment command given manner) (Wanted moment') is v v' w w' want want' = cc
+  seen_one once events (Refused moment fault) (Asked moment' command' given' manner') is v v' w w' want want' = cc
+  seen_one once events (Refused moment fault) (Wanted moment') is v v' w w' want want' = cc
+  seen_one once events (Wanted moment) (Asked moment' command' given' manner') is v v' w w' want want' = cc
+  seen_one once events (Wanted moment) (Refused moment' fault') is v v' w w' want want' = cc
 
   -- items that are one but for what views said of them, each of which a run names, are one
-  pub seen_all : (events : List Happened) (xs ys : List Exchange) → map blind xs ≡ map blind ys → AllByRecursion (IsViewed opening events) xs → AllByRecursion (IsViewed opening events) ys → xs ≡ ys
-  seen_all events [] [] is v v' = refl
-  seen_all events [] (y ∷ ys) is v v' = cc
-  seen_all events (x ∷ xs) [] is v v' = cc
-  seen_all events (x ∷ xs) (y ∷ ys) is v v' =
-      let are = cons_is is in ap (λ z. z ∷ xs) (seen_one events x y are.0 v.0 v'.0) ∙ ap (λ l. y ∷ l) (seen_all events xs ys are.1 v.1 v'.1)
+  pub seen_all : Once → (events : List Happened) (xs ys : List Exchange) → map blind xs ≡ map blind ys → AllByRecursion (IsViewed opening events) xs → AllByRecursion (IsViewed opening events) ys →
+      AllByRecursion IsWrittenIn xs → AllByRecursion IsWrittenIn ys → AllWere xs → AllWere ys → xs ≡ ys
+  seen_all once events [] [] is v v' w w' wants wants' = refl
+  seen_all once events [] (y ∷ ys) is v v' w w' wants wants' = cc
+  seen_all once events (x ∷ xs) [] is v v' w w' wants wants' = cc
+  seen_all once events (x ∷ xs) (y ∷ ys) is v v' w w' wants wants' =
+      let are = cons_is is in ap (λ z. z ∷ xs) (seen_one once events x y are.0 v.0 v'.0 w.0 w'.0 wants.0 wants'.0) ∙ ap (λ l. y ∷ l) (seen_all once events xs ys are.1 v.1 v'.1 w.1 w'.1 wants.1 wants'.1)
 
   -- at a place a history names one reply, and so does a run of a view of so many entries
   pub names_agree : (caller : ℕ) (events : List Happened) (d : Known) → ((place : ℕ) (before again : State) (event same : Happened) (one other : Reply) → IsAt opening d.events place before event one → IsAt opening d.events place again same other → (event ≡ same) × (before ≡ again) × (one ≡ other)) →
@@ -329,20 +344,24 @@ module _ (opening : State) (kept_once : (events : List Happened) (one other : Ke
       went = one_blind.session.turns.asked;
       went' = other_blind.session.turns.asked;
       seen = λ number. ap (λ turns. front_at turns number) (sym one_blind.session.turns.turned) ∙ seen number ∙ ap (λ turns. front_at turns number) other_blind.session.turns.turned;
+      written = one_blind.session.turns.written;
+      written' = other_blind.session.turns.written;
     }
 
     but_for_views : (map blind first.session.asked ++ map blind first.session.final ≡ map blind second.session.asked ++ map blind second.session.final) × BeganAlike opening caller (plain after.events) (plain after'.events) [] []
     but_for_views = all_same (FollowsBlind opening caller) once limit bytes coming [] (plain after.events) [] (plain after'.events)
         (blind_view opening caller limit bytes coming after one first alone) (blind_view opening caller limit bytes coming after' other second alone') one_blind other_blind
-        (BeganAlike opening caller (plain after.events) (plain after'.events)) (blind_peels opening caller (plain after.events) (plain after'.events) leads_once at_once) began
+        (BeganAlike opening caller (plain after.events) (plain after'.events)) (blind_peels once opening caller (plain after.events) (plain after'.events) leads_once at_once) began
 
     alike : AreAlike after.events after'.events
     alike = but_for_views.1.went ∙ sym but_for_views.1.went'
 
     all_one : xs ≡ ys
-    all_one = seen_all (plain after'.events) xs ys (map-append blind first.session.asked first.session.final ∙ but_for_views.0 ∙ sym (map-append blind second.session.asked second.session.final))
+    all_one = seen_all once (plain after'.events) xs ys (map-append blind first.session.asked first.session.final ∙ but_for_views.0 ∙ sym (map-append blind second.session.asked second.session.final))
         (subst (λ l. AllByRecursion (IsViewed opening l) xs) alike (all_viewed opening caller after.events xs (known_first opening []) after first.session.turns.asked))
         (all_viewed opening caller after'.events ys (known_first opening []) after' second.session.turns.asked)
+        first.session.turns.written second.session.turns.written
+        (subst (AllByRecursion (λ turn. is_wanting turn ≡ false)) first.session.turns.turned first.no_want) (subst (AllByRecursion (λ turn. is_wanting turn ≡ false)) second.session.turns.turned second.no_want)
 
     -- two sessions that nothing disturbs, and that were answered from views of as many entries, are one
     pub one_text : (one.turns ≡ other.turns) × (one.held ≡ other.held) × AreAlike after.events after'.events

@@ -15,7 +15,10 @@ ghost use Rattle.service.specs.Alone.{AreAlike, IsAlone};
 ghost use Rattle.service.specs.Generating.{IsGenerated};
 
 use config_core::steps_have_one_outcome;
+use curly_grammar::texts_say_one_thing;
+use curly_text::printed_text_is_read_back;
 use group_expand::expansion_is_one;
+use json_text::texts_have_one_answer;
 use session_history::histories_have_one_outcome;
 use shell_words::lines_are_read_in_one_way;
 
@@ -39,6 +42,9 @@ pub fn sessions_have_one_text()
 {
     histories_have_one_outcome();
     lines_are_read_in_one_way();
+    texts_have_one_answer();
+    printed_text_is_read_back();
+    texts_say_one_thing();
     steps_have_one_outcome();
 }
 
