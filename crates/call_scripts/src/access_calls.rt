@@ -2,9 +2,9 @@
 
 use crate::group_calls::say_expand_fault;
 use access_rules::{AccessFault, Right, Rights, Section, allows};
-use cfg_base::{Bytes, Path, UserName};
+use cfg_base::{Bytes, Path, UserName, Words};
 use cfg_tree::{Full, Tree};
-use commands::Command;
+use commands::{Command, Form};
 use group_expand::expand;
 use script_lines::{
     Arg, Fault, Text, bytes_of, first_and_rest, put_bytes, say, say_bytes, say_counted, user_of,
@@ -62,11 +62,15 @@ pub(crate) fn ask_rights(
     Ok(())
 }
 
-/// What a line asks; a load without its text.
+/// What a line asks of the machine; a load without its text.
 fn command_of(asked: Words0, alloc: Global) -> Command {
     match asked {
         Words0::Whole(command) => command,
-        Words0::NeedsText(way) => Command::Load {
+        Words0::ShowJson => Command::ShowActive {
+            words: Words::new(alloc),
+            form: Form::Curly,
+        },
+        Words0::NeedsText(way) | Words0::NeedsJson(way) => Command::Load {
             way,
             text: Bytes::empty(alloc),
         },

@@ -30,6 +30,16 @@ pub(crate) fn load_as(way: LoadWay) -> &'static str {
     }
 }
 
+/// A load of a JSON text, without it.
+pub(crate) fn load_json_as(way: LoadWay) -> &'static str {
+    match way {
+        LoadWay::Merge => "load json merge",
+        LoadWay::Override => "load json override",
+        LoadWay::Replace => "load json replace",
+        LoadWay::SetLines => "load json set",
+    }
+}
+
 /// A load with its text's number of bytes.
 fn say_load(out: &mut Text, way: LoadWay, text: &Bytes) {
     out.put("= ");

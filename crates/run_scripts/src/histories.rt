@@ -9,8 +9,10 @@ use script_lines::{Text, say, say_bytes, say_counted};
 use session_history::{Happened, History};
 use session_shell::{Turn, TurnList};
 
-fn say_seen(out: &mut Text, front: u64, moment: Moment) {
-    out.put("= turn seen ");
+fn say_seen(out: &mut Text, name: &str, front: u64, moment: Moment) {
+    out.put("= turn ");
+    out.put(name);
+    out.put(" ");
     out.put_number(front);
     out.put(" ");
     out.put_number(moment.seconds());
@@ -20,12 +22,15 @@ fn say_seen(out: &mut Text, front: u64, moment: Moment) {
 fn say_turn(out: &mut Text, turn: &Turn) {
     match turn {
         Turn::Kept(place) => say_counted(out, "turn event", *place),
-        Turn::Seen { front, moment } => say_seen(out, *front, *moment),
+        Turn::KeptDry(place) => say_counted(out, "turn dry event", *place),
+        Turn::Seen { front, moment } => say_seen(out, "seen", *front, *moment),
+        Turn::SeenDry { front, moment } => say_seen(out, "dry seen", *front, *moment),
         Turn::Local(ShellFault::Syntax(place)) => {
             say_counted(out, "turn syntax error at byte", u64::from(*place));
         }
         Turn::Local(ShellFault::LineTooLong) => say(out, "turn line too long"),
         Turn::Local(ShellFault::TextTooLong) => say(out, "turn text too long"),
+        Turn::Local(ShellFault::Json(_)) => say(out, "turn json"),
         Turn::NoMemory => say(out, "turn no memory"),
     }
 }

@@ -1,6 +1,6 @@
 //! Calls that read a line of a session. What stands after the mode and a blank is the line, blanks and all.
 
-use crate::asking::{load_as, say_command};
+use crate::asking::{load_as, load_json_as, say_command};
 use cfg_lex::is_plain;
 use commands::{Command, Op};
 use script_lines::{
@@ -23,7 +23,9 @@ fn say_read(alloc: Global, configuring: bool, line: &[u8], out: &mut Text) {
     match read_line(alloc, configuring, line) {
         Ok(None) => say(out, "nothing"),
         Ok(Some(Words0::Whole(command))) => say_command(out, &command),
+        Ok(Some(Words0::ShowJson)) => say(out, "show active json"),
         Ok(Some(Words0::NeedsText(way))) => say(out, load_as(way)),
+        Ok(Some(Words0::NeedsJson(way))) => say(out, load_json_as(way)),
         Err(ReadFault::Syntax(place)) => {
             say_counted(out, "syntax error at byte", u64::from(place));
         }
