@@ -7,7 +7,7 @@ use Rattle.serde_json.specs.Read.{read}
 use Rattle.json_text.specs.declared.fault.JsonFault.{JsonFault}
 use Rattle.json_text.specs.declared.fault.JsonFault.TheVariants.{NotJson, Unknown, BadValue, Form, TooMany}
 use Rattle.json_text.specs.Faults.{IsFirstFault}
-use Rattle.json_text.specs.Reading.{IsJson, IsReadAs, SaysTooMany, HasFirstFault, IsFaultOf}
+use Rattle.json_text.specs.Reading.{IsJson, IsReadAs, SaysTooMany, HasFirstFault, IsTextFault}
 use Rattle.json_text.specs.Said.{Says}
 use Rattle.json_text.proofs.ApartLemmas as apart
 use Rattle.json_text.proofs.OneFaultLemmas as single
@@ -35,7 +35,7 @@ first_apart text m fault x y =
     let same : x.value ≡ y.value = one_value text x.value y.value x.json y.json in
     apart.fault_apart y.value fault m y.first (subst (λ (d : Data). Says d m) same x.says)
 
-pub fault_apart : (text : List ℕ) (m : Statements) (fault : JsonFault) → IsReadAs text m → ¬ (IsFaultOf text fault)
+pub fault_apart : (text : List ℕ) (m : Statements) (fault : JsonFault) → IsReadAs text m → ¬ (IsTextFault text fault)
 fault_apart text m NotJson x = λ none. none x.value x.json
 fault_apart text m TooMany x = λ many. many_apart text m x many
 fault_apart text m (Unknown path) x = λ first. first_apart text m (Unknown path) x first
@@ -59,7 +59,7 @@ data Kind (text : List ℕ) (f : JsonFault) : Type 0 where
   Many : SaysTooMany text → f ≡ TooMany → Kind text f
   First : HasFirstFault text f → Kind text f
 
-kind_of : (text : List ℕ) (f : JsonFault) → IsFaultOf text f → Kind text f
+kind_of : (text : List ℕ) (f : JsonFault) → IsTextFault text f → Kind text f
 kind_of text NotJson x = NoValue x refl
 kind_of text TooMany x = Many x refl
 kind_of text (Unknown path) x = First x
@@ -77,5 +77,5 @@ one_of text f g (First x) (NoValue y h) = absurd (y x.value x.json)
 one_of text f g (First x) (Many y h) = absurd (first_many text f x y)
 one_of text f g (First x) (First y) = first_one text f g x y
 
-pub one_fault : (text : List ℕ) (f g : JsonFault) → IsFaultOf text f → IsFaultOf text g → f ≡ g
+pub one_fault : (text : List ℕ) (f g : JsonFault) → IsTextFault text f → IsTextFault text g → f ≡ g
 one_fault text f g x y = one_of text f g (kind_of text f x) (kind_of text g y)

@@ -9,11 +9,11 @@ use Rattle.json_text.specs.declared.fault.ReadFault.{ReadFault}
 use Rattle.json_text.specs.declared.fault.ReadFault.TheVariants.{Json, NoMemory}
 use Rattle.json_text.specs.Checking.{HasFault}
 use Rattle.json_text.specs.Faults.{IsFirstFault}
-use Rattle.json_text.specs.Reading.{IsJson, IsReadAs, SaysTooMany, IsFaultOf, IsRefused}
+use Rattle.json_text.specs.Reading.{IsJson, IsReadAs, SaysTooMany, IsTextFault, IsRefused}
 use Rattle.json_text.specs.Said.{Says}
 use Rattle.json_text.proofs.PathLemmas.{has_path}
 
-fault_of : (text : List ℕ) (d : Data) (f : JsonFault) → IsJson text d → IsFirstFault d f → IsFaultOf text f
+fault_of : (text : List ℕ) (d : Data) (f : JsonFault) → IsJson text d → IsFirstFault d f → IsTextFault text f
 fault_of text d (Unknown path) j x = record { value = d; json = j; first = x }
 fault_of text d (BadValue path) j x = record { value = d; json = j; first = x }
 fault_of text d (Form path) j x = record { value = d; json = j; first = x }

@@ -38,12 +38,12 @@ pub record HasFirstFault (text : List ℕ) (fault : JsonFault) : Type 0 where
   pub first : IsFirstFault value fault
 
 -- a text has this fault: it is no value; or it says too many statements; or its value has the fault
-abbrev pub IsFaultOf : List ℕ → JsonFault → Type 0
-IsFaultOf text NotJson = (d : Data) → ¬ (IsJson text d)
-IsFaultOf text TooMany = SaysTooMany text
-IsFaultOf text fault = HasFirstFault text fault
+abbrev pub IsTextFault : List ℕ → JsonFault → Type 0
+IsTextFault text NotJson = (d : Data) → ¬ (IsJson text d)
+IsTextFault text TooMany = SaysTooMany text
+IsTextFault text fault = HasFirstFault text fault
 
 -- why a text isn't read: its fault; or memory ran out
 abbrev pub IsRefused : List ℕ → ReadFault → Type 0
-IsRefused text (Json fault) = IsFaultOf text fault
+IsRefused text (Json fault) = IsTextFault text fault
 IsRefused text NoMemory = ⊤

@@ -7,7 +7,7 @@ ghost use Rattle.cfg_tree.specs.Tree.{IsTree};
 ghost use Rattle.serde_json.specs.Data.{Data, Members};
 ghost use Rattle.json_text.specs.declared.fault.JsonFault.{JsonFault};
 ghost use Rattle.json_text.specs.Faults.{IsFirstFault, MembersFit};
-ghost use Rattle.json_text.specs.Reading.{IsFaultOf, IsReadAs};
+ghost use Rattle.json_text.specs.Reading.{IsTextFault, IsReadAs};
 ghost use Rattle.json_text.specs.Said.{Item, Says, SaysInside, Spot};
 ghost use Rattle.json_text.specs.Written.{json_of};
 
@@ -32,6 +32,6 @@ pub fn faulty_values_say_nothing()
 /// A text is read as one configuration, or it has one fault.
 pub fn texts_have_one_answer()
     ensures one { (text : List ℕ) (m n : Statements) → IsReadAs text m → IsReadAs text n → m ≡ n }
-    ensures apart { (text : List ℕ) (m : Statements) (fault : JsonFault) → IsReadAs text m → ¬ (IsFaultOf text fault) }
-    ensures one_fault { (text : List ℕ) (f g : JsonFault) → IsFaultOf text f → IsFaultOf text g → f ≡ g }
+    ensures apart { (text : List ℕ) (m : Statements) (fault : JsonFault) → IsReadAs text m → ¬ (IsTextFault text fault) }
+    ensures one_fault { (text : List ℕ) (f g : JsonFault) → IsTextFault text f → IsTextFault text g → f ≡ g }
 {}

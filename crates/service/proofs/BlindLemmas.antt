@@ -25,9 +25,9 @@ use Rattle.session_shell.specs.declared.reading.Reading.{Reading}
 use Rattle.session_shell.specs.declared.reading.Reading.TheVariants.{Operational, Configuring, Collecting, Spoilt, Out}
 use Rattle.session_shell.specs.declared.turn.How.{How}
 use Rattle.session_shell.specs.declared.turn.How.TheVariants.{Clean, InputFull}
-use Rattle.session_shell.specs.Exchange.{Exchange, Asked, Refused, Wanted, IsWrittenIn, is_dry, item_of, reading_after, item_asked, moment_in, seen_turn, text_written, turn_taken}
+use Rattle.session_shell.specs.Exchange.{Exchange, Asked, Refused, Wanted, IsWrittenIn, is_dry, asked_item, reading_after, item_asked, moment_in, seen_turn, text_written, turn_taken}
 use Rattle.session_shell.specs.Items.{Continues, ReadsThrough}
-use Rattle.session_shell.specs.Json.{IsWritten}
+use Rattle.session_shell.specs.Json.{MayBeWritten}
 use Rattle.session_shell.specs.Law.{SeeAlike, is_wanting}
 use Rattle.session_shell.specs.Transcript.{GoesBy, LogsOut, SessionView, Texts, WroteTexts}
 use Rattle.session_shell.proofs.LawLemmas.{AllWere, Once, Peels, asked_is, command_once, fault_is, item_wrong, kept_front, not_dry, seen_at}
@@ -64,7 +64,7 @@ FollowsBlind opening caller events command answer (KeptAt place reply) events' =
 FollowsBlind opening caller events command answer (Seen front reply) events' = (events' ≡ events) × (reply ≡ SaysDone)
 FollowsBlind opening caller events command answer NoMemory events' = FollowsPlain opening caller events command answer Wanting events'
 
-unsaid_item : (manner : Manner) (command : Command) → item_of (unsaid manner) command ≡ item_of manner command
+unsaid_item : (manner : Manner) (command : Command) → asked_item (unsaid manner) command ≡ asked_item manner command
 unsaid_item Plain command = refl
 unsaid_item (Json text) command = refl
 unsaid_item Dry command = refl
@@ -104,7 +104,7 @@ blind_moment (Refused moment fault) = refl
 blind_moment (Wanted moment) = refl
 
 -- it is written as it may be, where memory wasn't wanting
-unsaid_written : (command : Command) (front moment : ℕ) (reply : Reply) (manner : Manner) → IsWritten command (Seen front reply) manner → is_wanting (seen_turn (is_dry manner) front moment) ≡ false → IsWritten command (Seen front SaysDone) (unsaid manner)
+unsaid_written : (command : Command) (front moment : ℕ) (reply : Reply) (manner : Manner) → MayBeWritten command (Seen front reply) manner → is_wanting (seen_turn (is_dry manner) front moment) ≡ false → MayBeWritten command (Seen front SaysDone) (unsaid manner)
 unsaid_written command front moment reply Plain written want = tt
 unsaid_written command front moment reply (Json text) written want = (written.0, refl)
 unsaid_written command front moment reply Dry written want = absurd (false≢true (sym want))

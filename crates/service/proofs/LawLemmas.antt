@@ -15,7 +15,7 @@ use Rattle.session_shell.specs.declared.door.Given0.{Given0}
 use Rattle.session_shell.specs.declared.door.Given0.TheVariants.{Kept as KeptAt, Seen, NoMemory}
 use Rattle.session_shell.specs.declared.reading.Reading.TheVariants.{Operational}
 use Rattle.session_shell.specs.declared.json_show.Manner.{Manner}
-use Rattle.session_shell.specs.Exchange.{Exchange, Asked, Refused, Wanted, IsWrittenIn, item_asked, item_of, turn_taken}
+use Rattle.session_shell.specs.Exchange.{Exchange, Asked, Refused, Wanted, IsWrittenIn, item_asked, asked_item, turn_taken}
 use Rattle.session_shell.specs.Law.{Agree, SeeAlike, Undisturbed, front_at, is_wanting}
 use Rattle.session_shell.specs.Transcript.{Following, GoesBy, SessionView, TakesAnswers, TakesTurns}
 use Rattle.session_shell.proofs.LawLemmas.{AllWere, Once, all_same, asked_is, not_dry, outcome_same}
@@ -280,7 +280,7 @@ module _ (opening : State) (kept_once : (events : List Happened) (one other : Ke
   seen_one : Once → (events : List Happened) (x y : Exchange) → blind x ≡ blind y → IsViewed opening events x → IsViewed opening events y → IsWrittenIn x → IsWrittenIn y → is_wanting (turn_taken x) ≡ false → is_wanting (turn_taken y) ≡ false → x ≡ y
   seen_one once events (Asked moment command given manner) (Asked moment' command' given' manner') is v v' w w' want want' =
       let are = moments_are moment moment' command command' (blind_given given) (blind_given given') (blind_manner given manner) (blind_manner given' manner') is in
-      let item : item_of manner command ≡ item_of manner' command' =
+      let item : asked_item manner command ≡ asked_item manner' command' =
       sym (blind_item (Asked moment command given manner)) ∙ ap item_asked is ∙ blind_item (Asked moment' command' given' manner') in
       asked_is once moment moment' command command' given given' manner manner' are.0 item
       (seen_given events command' given given' are.2 (subst (λ c. IsViewGiven opening events c given) are.1 v) v') w w' (not_dry manner moment given want) (not_dry manner' moment' given' want')

@@ -18,8 +18,7 @@ use Rattle.io_edge.specs.declared.lines.Line.TheVariants.{Text, TooLong, End, Fa
 use Rattle.io_edge.specs.Ends.{held_after}
 use Rattle.io_edge.specs.Line.{TellsBoth}
 use Rattle.json_text.specs.declared.fault.JsonFault.{JsonFault}
-use Rattle.json_text.specs.Reading.{IsFaultOf}
-use Rattle.json_text.specs.Reading as json_text
+use Rattle.json_text.specs.Reading.{IsReadAs, IsTextFault}
 use Rattle.json_text.specs.Written.{json_of}
 use Rattle.serde_json.specs.Written.{compact_text}
 use Rattle.shell_words.specs.declared.making.Words0.{Words0}
@@ -37,9 +36,9 @@ use Rattle.session_shell.specs.declared.reading.Item.TheVariants.{Ask, ShowJson,
 use Rattle.session_shell.specs.declared.reading.Item.TheVariants as item
 use Rattle.session_shell.specs.declared.reading.Reading.{Reading}
 use Rattle.session_shell.specs.declared.reading.Reading.TheVariants.{Operational, Configuring, Collecting, Spoilt, Out}
-use Rattle.session_shell.specs.Exchange.{Exchange, Asked, Refused, Wanted, IsWrittenIn, is_dry, item_asked, item_of, kept_turn, moment_in, seen_turn, turn_of_given, turn_taken, text_written, reading_after, front_of, place_of}
-use Rattle.session_shell.specs.Items.{ComesOf, Continues, Ended, EndsText, EndsJson, IsLoadOf, ReadsLine, IsReadAs, ReadsThrough, SaysLoad, asked_by, is_end_of_text, with_line}
-use Rattle.session_shell.specs.Json.{IsJsonOf, IsWritten}
+use Rattle.session_shell.specs.Exchange.{Exchange, Asked, Refused, Wanted, IsWrittenIn, is_dry, item_asked, asked_item, kept_turn, moment_in, seen_turn, turn_of_given, turn_taken, text_written, reading_after, front_of, place_of}
+use Rattle.session_shell.specs.Items.{ComesOf, Continues, Ended, EndsText, EndsJson, IsLoadOf, ReadsLine, CommandLine, ReadsThrough, SaysLoad, asked_by, is_end_of_text, with_line}
+use Rattle.session_shell.specs.Json.{IsJsonOf, MayBeWritten}
 use Rattle.session_shell.specs.Cut.{lines_read}
 use Rattle.session_shell.specs.Transcript.{AnswersAre, EndsBy, Following, GoesBy, IsInput, LogsOut, Naming, SessionView, TakesAnswers, Texts, WroteTexts}
 use Rattle.session_shell.specs.Law.{Agree, IsDetermined, IsNamed, IsShown, SeeAlike, Undisturbed, front_at, is_wanting, kept_place, seen_front}
@@ -110,13 +109,13 @@ is_wrong (Wrong fault) = true
 is_wrong item.NoMemory = false
 
 -- a command's item is no fault, and no want of memory
-pub item_wrong : (manner : Manner) (command : Command) (fault : ShellFault) → item_of manner command ≡ Wrong fault → ⊥
+pub item_wrong : (manner : Manner) (command : Command) (fault : ShellFault) → asked_item manner command ≡ Wrong fault → ⊥
 item_wrong Plain command fault is = false≢true (sym (ap is_asking is))
 item_wrong (Json text) command fault is = false≢true (sym (ap is_asking is))
 item_wrong Dry command fault is = false≢true (sym (ap is_asking is))
 item_wrong NoJson command fault is = false≢true (sym (ap is_asking is))
 
-item_wanting : (manner : Manner) (command : Command) → item_of manner command ≡ item.NoMemory → ⊥
+item_wanting : (manner : Manner) (command : Command) → asked_item manner command ≡ item.NoMemory → ⊥
 item_wanting Plain command is = false≢true (sym (ap is_asking is))
 item_wanting (Json text) command is = false≢true (sym (ap is_asking is))
 item_wanting Dry command is = false≢true (sym (ap is_asking is))
@@ -127,20 +126,20 @@ ask_show : (command : Command) → Ask command ≡ ShowJson → ⊥
 ask_show command is = false≢true (ap is_show is)
 
 -- the command for which an item stands
-asks_it : (manner : Manner) (command asked : Command) → item_of manner command ≡ Ask asked → command ≡ asked
+asks_it : (manner : Manner) (command asked : Command) → asked_item manner command ≡ Ask asked → command ≡ asked
 asks_it Plain command asked is = command_is command asked is
 asks_it (Json text) command asked is = absurd (ask_show asked (sym is))
 asks_it Dry command asked is = absurd (ask_show asked (sym is))
 asks_it NoJson command asked is = absurd (ask_show asked (sym is))
 
-shows_whole : (manner : Manner) (command : Command) (given : Given0) → item_of manner command ≡ ShowJson → IsWritten command given manner → command ≡ whole_show
+shows_whole : (manner : Manner) (command : Command) (given : Given0) → asked_item manner command ≡ ShowJson → MayBeWritten command given manner → command ≡ whole_show
 shows_whole Plain command given is written = absurd (ask_show command is)
 shows_whole (Json text) command given is written = written.0
 shows_whole Dry command given is written = written.0
 shows_whole NoJson command given is written = written.0
 
 -- so the same item is one command
-pub command_once : (manner manner' : Manner) (command command' : Command) (given given' : Given0) → item_of manner command ≡ item_of manner' command' → IsWritten command given manner → IsWritten command' given' manner' → command ≡ command'
+pub command_once : (manner manner' : Manner) (command command' : Command) (given given' : Given0) → asked_item manner command ≡ asked_item manner' command' → MayBeWritten command given manner → MayBeWritten command' given' manner' → command ≡ command'
 command_once Plain manner' command command' given given' is w w' = sym (asks_it manner' command' command (sym is))
 command_once (Json text) manner' command command' given given' is w w' = w.0 ∙ sym (shows_whole manner' command' given' (sym is) w')
 command_once Dry manner' command command' given given' is w w' = w.0 ∙ sym (shows_whole manner' command' given' (sym is) w')
@@ -149,9 +148,9 @@ command_once NoJson manner' command command' given given' is w w' = w.0 ∙ sym 
 -- a line has one reading, a JSON text one answer, and a curly text is that of one configuration
 pub record Once : Type 0 where
   pub lines : (configuring : Bool) (line : List ℕ) (one other : Result (Option Words0) ℕ) → IsReading configuring line one → IsReading configuring line other → one ≡ other
-  pub maps : (text : List ℕ) (m n : Statements) → json_text.IsReadAs text m → json_text.IsReadAs text n → m ≡ n
-  pub apart : (text : List ℕ) (m : Statements) (fault : JsonFault) → json_text.IsReadAs text m → IsFaultOf text fault → ⊥
-  pub faults : (text : List ℕ) (one other : JsonFault) → IsFaultOf text one → IsFaultOf text other → one ≡ other
+  pub maps : (text : List ℕ) (m n : Statements) → IsReadAs text m → IsReadAs text n → m ≡ n
+  pub apart : (text : List ℕ) (m : Statements) (fault : JsonFault) → IsReadAs text m → IsTextFault text fault → ⊥
+  pub faults : (text : List ℕ) (one other : JsonFault) → IsTextFault text one → IsTextFault text other → one ≡ other
   pub printed_is : (m n : Statements) → IsTree m → IsTree n → printed m [] ≡ printed n [] → m ≡ n
 
 -- what is printed is that of one configuration, since it is read back
@@ -165,7 +164,7 @@ json_once once curly one other is is' =
     is.is ∙ ap (λ m. compact_text (json_of m) ++ 10 ∷ []) (once.printed_is is.statements is'.statements is.tree is'.tree (sym is.shown ∙ is'.shown)) ∙ sym is'.is
 
 -- how what was given is written for an item is one, where memory wasn't wanting
-pub manner_once : Once → (manner manner' : Manner) (command command' : Command) (given : Given0) → item_of manner command ≡ item_of manner' command' → IsWritten command given manner → IsWritten command' given manner' → is_dry manner ≡ false → is_dry manner' ≡ false → manner ≡ manner'
+pub manner_once : Once → (manner manner' : Manner) (command command' : Command) (given : Given0) → asked_item manner command ≡ asked_item manner' command' → MayBeWritten command given manner → MayBeWritten command' given manner' → is_dry manner ≡ false → is_dry manner' ≡ false → manner ≡ manner'
 manner_once once Dry manner' command command' given is w w' wet wet' = absurd (false≢true (sym wet))
 manner_once once Plain Plain command command' given is w w' wet wet' = refl
 manner_once once Plain (Json text') command command' given is w w' wet wet' = absurd (ask_show command is)
@@ -206,7 +205,7 @@ not_dry Dry moment (given.Kept place reply) want = absurd (false≢true (sym wan
 not_dry Dry moment (given.Seen front reply) want = absurd (false≢true (sym want))
 not_dry Dry moment given.NoMemory want = absurd (false≢true (sym want))
 
-read_once : Once → (configuring : Bool) (reading : Reading) (line : List ℕ) (one other : Option Item × Reading) → IsReadAs configuring reading line one → IsReadAs configuring reading line other → one ≡ other
+read_once : Once → (configuring : Bool) (reading : Reading) (line : List ℕ) (one other : Option Item × Reading) → CommandLine configuring reading line one → CommandLine configuring reading line other → one ≡ other
 read_once once configuring reading line one other first second =
     first.is ∙ ap (asked_by reading) (once.lines configuring line first.answer second.answer first.is_reading second.is_reading) ∙ sym second.is
 
@@ -451,17 +450,17 @@ record AtPlaces {D : Type 0} (names : Naming D) (d e : D) (xs ys : List Exchange
   pub written' : AllByRecursion IsWrittenIn ys
 
 -- the same item at the same moment, for which the same was given
-pub asked_is : Once → (moment moment' : ℕ) (command command' : Command) (given given' : Given0) (manner manner' : Manner) → moment ≡ moment' → item_of manner command ≡ item_of manner' command' → given ≡ given'
-    → IsWritten command given manner → IsWritten command' given' manner' → is_dry manner ≡ false → is_dry manner' ≡ false → Asked moment command given manner ≡ Asked moment' command' given' manner'
+pub asked_is : Once → (moment moment' : ℕ) (command command' : Command) (given given' : Given0) (manner manner' : Manner) → moment ≡ moment' → asked_item manner command ≡ asked_item manner' command' → given ≡ given'
+    → MayBeWritten command given manner → MayBeWritten command' given' manner' → is_dry manner ≡ false → is_dry manner' ≡ false → Asked moment command given manner ≡ Asked moment' command' given' manner'
 asked_is once moment moment' command command' given given' manner manner' when item same w w' wet wet' =
     let which : command ≡ command' = command_once manner manner' command command' given given' item w w' in
-    let how : manner ≡ manner' = manner_once once manner manner' command command' given' item (subst (λ g. IsWritten command g manner) same w) w' wet wet' in
+    let how : manner ≡ manner' = manner_once once manner manner' command command' given' item (subst (λ g. MayBeWritten command g manner) same w) w' wet wet' in
     ap (λ m. Asked m command given manner) when ∙ ap (λ x. Asked moment' x given manner) which ∙ ap (λ g. Asked moment' command' g manner) same ∙ ap (Asked moment' command' given') how
 
 module _ {D : Type 0} (names : Naming D) (d e : D) (agree : Agree names d e) (once : Once) where
   -- the same item at the same moment came to the same, where the place and the front are
-  asked_same : (moment moment' : ℕ) (command command' : Command) (given given' : Given0) (manner manner' : Manner) → item_of manner command ≡ item_of manner' command' → moment ≡ moment'
-      → IsWritten command given manner → IsWritten command' given' manner' → is_wanting (turn_of_given manner moment given) ≡ false → is_wanting (turn_of_given manner' moment' given') ≡ false
+  asked_same : (moment moment' : ℕ) (command command' : Command) (given given' : Given0) (manner manner' : Manner) → asked_item manner command ≡ asked_item manner' command' → moment ≡ moment'
+      → MayBeWritten command given manner → MayBeWritten command' given' manner' → is_wanting (turn_of_given manner moment given) ≡ false → is_wanting (turn_of_given manner' moment' given') ≡ false
       → names d command moment given → names e command' moment' given' → place_of given ≡ place_of given' → front_of given ≡ front_of given'
       → Asked moment command given manner ≡ Asked moment' command' given' manner'
   asked_same moment moment' command command' given given' manner manner' item when w w' want want' named named' place front =

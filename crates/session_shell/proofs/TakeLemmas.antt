@@ -21,16 +21,16 @@ use Rattle.session_shell.specs.declared.reading.Item.TheVariants.{Wrong}
 use Rattle.session_shell.specs.declared.reading.Item.TheVariants as item
 use Rattle.session_shell.specs.declared.reading.Reading.{Reading}
 use Rattle.session_shell.specs.declared.reading.Reading.TheVariants.{Operational, Configuring, Collecting, Spoilt, Out}
-use Rattle.session_shell.specs.Exchange.{Exchange, Asked, Refused, Wanted, item_of, text_by, text_written, turn_of_given, after_given}
+use Rattle.session_shell.specs.Exchange.{Exchange, Asked, Refused, Wanted, asked_item, text_by, text_written, turn_of_given, after_given}
 use Rattle.session_shell.specs.Items.{ComesOf, ReadsLine}
-use Rattle.session_shell.specs.Json.{IsWritten}
+use Rattle.session_shell.specs.Json.{MayBeWritten}
 use Rattle.session_shell.specs.Transcript.{Following, SessionView}
 use Rattle.session_shell.specs.Steps.{how_next, is_end, is_out, ServesItem, ServesLine, standing, TakesLine}
 use Rattle.session_shell.proofs.TurnLemmas.{one_answer, Turns-none}
 
 -- an item for which a command was asked
 pub Serves-asked : {D T E : Type 0} (follows : Following D) (item : Item) (command : Command) (moment : ℕ) (given : Given0) (manner : Manner) (put : Result T E) (d e : D) (reading reading' : Reading) (old new : SessionView) →
-    item_of manner command ≡ item → IsWritten command given manner →
+    asked_item manner command ≡ item → MayBeWritten command given manner →
     TakesAnswer old.coming new.coming moment → new.turns ≡ old.turns ++ turn_of_given manner moment given ∷ [] → follows d command moment given e → reading' ≡ after_given reading given → WroteAs put (text_by manner given) old.held new.held →
     ServesItem follows item put (standing d reading old) (standing e reading' new)
 Serves-asked follows item command moment given manner put d e reading reading' old new is_item written takes turned did is_reading wrote = record {

@@ -17,7 +17,7 @@ use Rattle.session_shell.specs.declared.reading.Reading.{Reading}
 use Rattle.session_shell.specs.declared.reading.Reading.TheVariants.{Operational, Configuring, Out}
 use Rattle.session_shell.specs.declared.turn.Turn.{Turn}
 use Rattle.session_shell.specs.declared.turn.Turn.TheVariants as turn
-use Rattle.session_shell.specs.Json.{IsWritten}
+use Rattle.session_shell.specs.Json.{MayBeWritten}
 
 -- the event's place of what was given
 abbrev pub place_of : Given0 → Option ℕ
@@ -45,21 +45,21 @@ moment_in (Refused moment fault) = moment
 moment_in (Wanted moment) = moment
 
 -- the item for which a command is asked whose answer is written so
-abbrev pub item_of : Manner → Command → Item
-item_of Plain command = Ask command
-item_of (Json text) command = ShowJson
-item_of Dry command = ShowJson
-item_of NoJson command = ShowJson
+abbrev pub asked_item : Manner → Command → Item
+asked_item Plain command = Ask command
+asked_item (Json text) command = ShowJson
+asked_item Dry command = ShowJson
+asked_item NoJson command = ShowJson
 
 -- the item itself
 abbrev pub item_asked : Exchange → Item
-item_asked (Asked moment command given manner) = item_of manner command
+item_asked (Asked moment command given manner) = asked_item manner command
 item_asked (Refused moment fault) = Wrong fault
 item_asked (Wanted moment) = item.NoMemory
 
 -- what was given for an item is written as it may be
 abbrev pub IsWrittenIn : Exchange → Type 0
-IsWrittenIn (Asked moment command given manner) = IsWritten command given manner
+IsWrittenIn (Asked moment command given manner) = MayBeWritten command given manner
 IsWrittenIn (Refused moment fault) = Unit {0}
 IsWrittenIn (Wanted moment) = Unit {0}
 

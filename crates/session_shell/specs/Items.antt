@@ -13,8 +13,7 @@ use Rattle.curly_print.specs.Printed.{printed}
 use Rattle.io_edge.specs.declared.lines.Line.{Line}
 use Rattle.io_edge.specs.declared.lines.Line.TheVariants.{Text, TooLong, End, Failed, InputFull}
 use Rattle.json_text.specs.declared.fault.JsonFault.{JsonFault}
-use Rattle.json_text.specs.Reading.{IsFaultOf}
-use Rattle.json_text.specs.Reading as json_text
+use Rattle.json_text.specs.Reading.{IsReadAs, IsTextFault}
 use Rattle.shell_words.specs.declared.making.Words0.{Words0}
 use Rattle.shell_words.specs.declared.making.Words0.TheVariants.{Whole, NeedsText, NeedsJson}
 use Rattle.shell_words.specs.declared.making.Words0.TheVariants as words0
@@ -45,7 +44,7 @@ asked_by reading (Ok (Some (NeedsJson way))) = (None, Collecting way true [])
 asked_by reading (Err place) = (Some (Wrong (Syntax place)), reading)
 
 -- the line is a command line of that mode, and this results from it
-pub record IsReadAs (configuring : Bool) (reading : Reading) (line : List ℕ) (came : Option Item × Reading) : Type 0 where
+pub record CommandLine (configuring : Bool) (reading : Reading) (line : List ℕ) (came : Option Item × Reading) : Type 0 where
   pub answer : Result (Option Words0) ℕ
   pub is_reading : IsReading configuring line answer
   pub is : came ≡ asked_by reading answer
@@ -70,13 +69,13 @@ IsLoadOf way statements item = (item ≡ Ask (Load way (printed statements [])))
 -- a JSON text says a configuration, and is the load of that
 pub record SaysLoad (way : LoadWay) (text : List ℕ) (item : Item) : Type 0 where
   pub statements : Statements
-  pub read : json_text.IsReadAs text statements
+  pub read : IsReadAs text statements
   pub load : IsLoadOf way statements item
 
 -- a JSON text has a fault, for which its load is refused
 pub record HasFault (text : List ℕ) (item : Item) : Type 0 where
   pub fault : JsonFault
-  pub has : IsFaultOf text fault
+  pub has : IsTextFault text fault
   pub is : item ≡ Wrong (Json fault)
 
 -- the item of a JSON text that has ended; or memory was wanting to read it
@@ -105,9 +104,9 @@ spoilt_line reading item line = if is_end_of_text line then (Some item, Configur
 
 -- what results from a line: the item that it ends, if it does, and how the session reads on before any reply
 abbrev pub ComesOf : Reading → Line → Option Item × Reading → Type 0
-ComesOf Operational (Text line) came = IsReadAs false Operational line came
+ComesOf Operational (Text line) came = CommandLine false Operational line came
 ComesOf Operational TooLong came = came ≡ (Some (Wrong LineTooLong), Operational)
-ComesOf Configuring (Text line) came = IsReadAs true Configuring line came
+ComesOf Configuring (Text line) came = CommandLine true Configuring line came
 ComesOf Configuring TooLong came = came ≡ (Some (Wrong LineTooLong), Configuring)
 ComesOf (Collecting way json text) (Text line) came = TextLine way json text line came
 ComesOf (Collecting way json text) TooLong came = came ≡ (None, Spoilt LineTooLong)

@@ -26,8 +26,8 @@ pub record HasJson (given : Given0) (json : List ℕ) : Type 0 where
 
 -- how what was given for a command may be written: as it is; as JSON or dry, where that show was answered with a text; and where
 -- it wasn't, as it is
-abbrev pub IsWritten : Command → Given0 → Manner → Type 0
-IsWritten command given Plain = Unit {0}
-IsWritten command given (Json json) = (command ≡ whole_show) × HasJson given json
-IsWritten command given Dry = (command ≡ whole_show) × IsSome (shown_text given)
-IsWritten command given NoJson = (command ≡ whole_show) × (shown_text given ≡ None)
+abbrev pub MayBeWritten : Command → Given0 → Manner → Type 0
+MayBeWritten command given Plain = Unit {0}
+MayBeWritten command given (Json json) = (command ≡ whole_show) × HasJson given json
+MayBeWritten command given Dry = (command ≡ whole_show) × IsSome (shown_text given)
+MayBeWritten command given NoJson = (command ≡ whole_show) × (shown_text given ≡ None)

@@ -2,8 +2,8 @@
 
 ghost use Rattle.std.specs.Prelude.{◌≡◌, IfOk, option_copied};
 ghost use Rattle.session_shell.specs.declared.reading.Item.TheVariants.{ShowJson};
-ghost use Rattle.session_shell.specs.Exchange.{item_of};
-ghost use Rattle.session_shell.specs.Json.{IsJsonOf, IsWritten};
+ghost use Rattle.session_shell.specs.Exchange.{asked_item};
+ghost use Rattle.session_shell.specs.Json.{IsJsonOf, MayBeWritten};
 ghost use Rattle.session_shell.specs.Shows.{IsPrinted, PrintsWhole, shown_text, text_in, whole_show};
 
 use crate::door::Given0;
@@ -75,8 +75,8 @@ fn json_of(alloc: Global, curly: &[u8]) -> Result<Bytes, NoMemory>
 /// How what was given for a JSON show is written.
 pub(crate) fn manner_of(alloc: Global, given: &Given0) -> Manner
     requires { PrintsWhole whole_show given.now }
-    ensures written { IsWritten whole_show given.now result }
-    ensures json { item_of result whole_show ≡ ShowJson }
+    ensures written { MayBeWritten whole_show given.now result }
+    ensures json { asked_item result whole_show ≡ ShowJson }
 {
     match shown_text(given) {
         Some(curly) => match json_of(alloc, curly.as_slice()) {

@@ -3,7 +3,7 @@
 ghost use Rattle.std.specs.Prelude.{◌≡◌, ◌∷◌, ◌++◌, [], IfOk, OnOk, OnErr, Some};
 ghost use Rattle.io_edge.specs.declared.lines.Line.TheVariants.{Text, TooLong, End};
 ghost use Rattle.session_shell.specs.declared.reading.Reading.TheVariants.{Collecting};
-ghost use Rattle.session_shell.specs.Items.{AsksSound, ComesOf, EndsText, IsReadAs, with_line};
+ghost use Rattle.session_shell.specs.Items.{AsksSound, ComesOf, EndsText, CommandLine, with_line};
 
 use crate::json_load::json_item;
 use cfg_base::{Bytes, NoMemory};
@@ -71,7 +71,7 @@ fn read_item(
     reading: &mut Reading,
     line: &[u8],
 ) -> Result<Option<Item>, NoMemory>
-    ensures ok { IfOk result (λ item. IsReadAs configuring reading.old line.now (item, reading.new)) }
+    ensures ok { IfOk result (λ item. CommandLine configuring reading.old line.now (item, reading.new)) }
     ensures sound { IfOk result AsksSound }
     ensures err { OnErr result (reading.new ≡ reading.old) }
 {
