@@ -5,6 +5,7 @@ ghost use Rattle.commands.specs.Sound.{IsSound};
 ghost use Rattle.config_core.specs.Callers.{level_of};
 ghost use Rattle.session_history.specs.Events.{IsLegal, StaysAccepted};
 ghost use Rattle.active_snapshot.specs.Views.{AreViews};
+ghost use Rattle.trace_list.specs.declared.trace.TheConstants.{MOST};
 ghost use Rattle.config_db.specs.View.{AreParts, opened};
 ghost use Rattle.config_db.specs.Shown.{Shows};
 ghost use Rattle.config_db.specs.Answers.{Answers, IsClear, IsNext, MakesWay, PublishesFirst, moment_at};
@@ -75,6 +76,7 @@ impl<D: Disk, J: Naming> Database<D, J> {
     /// How many events there are. They are a legal history, in which the active configuration stays accepted.
     pub fn count(&self) -> u64
         ensures count { result ≡ length self.now.events }
+        ensures most { result ≤ MOST }
         ensures legal { IsLegal (opened self.now) self.now.events }
         ensures accepted { StaysAccepted (opened self.now) self.now.events }
     {

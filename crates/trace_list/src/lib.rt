@@ -7,7 +7,7 @@
 
 mod trace;
 
-pub use trace::Trace;
+pub use trace::{MOST, Trace};
 
 #[cfg(test)]
 mod tests;

@@ -1,8 +1,12 @@
 ghost use Rattle.std.specs.Prelude.{◌≡◌, ◌∷◌, ◌++◌, ◌+◌, ◌<◌, ◌≤◌, ◌↔◌, [], length, true, OnOk, IfSome, IsSome};
+ghost use Rattle.trace_list.specs.declared.trace.TheConstants.{MOST};
 
 use std::alloc::{AllocError, Global};
 use std::marker::Model;
 use std::snapshot::Snapshot;
+
+/// As many as a vector has at most whose values have bytes. A snapshot has none, so nothing else bounds how many are noted.
+pub const MOST: usize = 0x7fff_ffff_ffff_ffff;
 
 /// What was noted, in order. A snapshot has no bytes, so without values it takes no memory.
 #[derive(Drop)]
@@ -19,6 +23,7 @@ pub struct Trace<T> {
 impl<T> Model for Trace<T> {
     ghost use Rattle.std.specs.Prelude.{◌≡◌, ◌+◌, ◌≤◌, true, map, vec_len, vec_capacity};
     ghost use Rattle.trace_list.specs.Noted.{TraceView, held_of};
+    ghost use Rattle.trace_list.specs.declared.trace.TheConstants.{MOST};
 
     ghost Value = { TraceView T };
 
@@ -30,6 +35,7 @@ impl<T> Model for Trace<T> {
 
     ghost invariant = { λ t. (t.values.items ≡ held_of t.is_kept (map (λ s. s.value) t.noted.items))
         × (vec_len t.noted + t.spare ≤ vec_capacity t.noted)
+        × (vec_len t.noted + t.spare ≤ MOST)
         × (t.is_kept ≡ true → vec_len t.values + t.spare ≤ vec_capacity t.values) };
 }
 
@@ -49,12 +55,13 @@ impl<T> Trace<T> {
 
     /// How many there are.
     pub fn len(&self) -> usize
-        ensures { result ≡ length self.now.items }
+        ensures items { result ≡ length self.now.items }
+        ensures most { result ≤ MOST }
     {
         self.noted.len()
     }
 
-    /// Makes room for so many more.
+    /// Makes room for so many more. There is none past MOST.
     pub fn reserve(&mut self, additional: usize) -> Result<(), AllocError>
         ensures items { self.new.items ≡ self.old.items }
         ensures ok { OnOk result (additional ≤ self.new.spare) }
@@ -63,6 +70,9 @@ impl<T> Trace<T> {
     {
         if additional <= self.spare {
             return Ok(());
+        }
+        if additional > MOST - self.noted.len() {
+            return Err(AllocError);
         }
         self.noted.reserve(additional)?;
         if self.is_kept {
