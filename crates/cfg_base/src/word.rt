@@ -10,7 +10,7 @@ ghost use Rattle.cfg_base.specs.Kept.{bytes_of, IsKept};
 ghost use Rattle.cfg_base.specs.declared.word.TheConstants.{IN_PLACE};
 
 use crate::fault::NoMemory;
-use crate::order::order_of;
+use crate::order::{order_of, same_bytes};
 use crate::shared::Shared;
 use std::alloc::{AllocError, Global};
 use std::cmp::Ordering;
@@ -195,7 +195,7 @@ impl PartialEq for Word {
     ghost laws = { Prim.search (comparing, rules) };
 
     fn eq(&self, other: &Word) -> bool {
-        self.cmp(other).is_eq()
+        same_bytes(self.as_bytes(), other.as_bytes())
     }
 }
 
