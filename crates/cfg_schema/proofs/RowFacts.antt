@@ -1,9 +1,11 @@
 -- The tests of the table, run once, and what they say of each row.
-use Rattle.std.proofs.Common.{None, not, ◌==◌, ◌≡◌, ℕ, zero, suc, ◌<◌, ◌+◌, nat_eq, true, false, List, [], ◌∷◌, length, map, filter, refl, arith, sym, subst, eqb-true}
+use Rattle.std.proofs.Common.{None, not, ◌||◌, Bool, ◌==◌, ◌≡◌, ℕ, zero, suc, ◌<◌, ◌+◌, nat_eq, true, false, List, [], ◌∷◌, length, map, filter, refl, arith, sym, subst, eqb-true}
+use Rattle.std.specs.Prelude.{codes}
 use Rattle.std.specs.List.{list_all}
 use Rattle.cfg_schema.specs.declared.table.Line.{Line}
 use Rattle.cfg_schema.specs.declared.rows.TheConstants.{ROWS}
-use Rattle.cfg_schema.specs.Profile.{profile, line_at}
+use Rattle.cfg_schema.specs.Keyword.{spelled}
+use Rattle.cfg_schema.specs.Profile.{profile, line_at, same_word}
 use Rattle.cfg_schema.specs.Place.{top_place, ordered_row}
 use Rattle.cfg_schema.specs.Facts.{numbered, is_sound, apart, height, rises_from}
 use Rattle.cfg_schema.proofs.TestLemmas.{both}
@@ -27,6 +29,14 @@ profile_apart = refl
 pub profile_ordered : map (λ (line : Line). line.number) (filter (λ (line : Line). line.ordered) profile) ≡ 10 ∷ 77 ∷ 102 ∷ []
 unfolding profile
 profile_ordered = refl
+
+-- a row that is ordered has no head, or this one
+abbrev pub has_ordered_head : Line → Bool
+has_ordered_head line = not line.ordered || ((length (spelled line.head) == 0) || same_word (spelled line.head) (codes "term"))
+
+pub profile_ordered_heads : list_all has_ordered_head profile ≡ true
+unfolding profile
+profile_ordered_heads = refl
 
 -- the rows that have another row's below them
 pub profile_shared : map {B = ℕ × ℕ} (λ (line : Line). (line.number, line.inner)) (filter (λ (line : Line). not (line.number == line.inner)) profile)

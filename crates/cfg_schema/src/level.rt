@@ -6,7 +6,7 @@ ghost use Rattle.cfg_schema.specs.Keyword.{spelled};
 use crate::rows::{GROUP, GROUPS};
 use crate::search::has_rows;
 use crate::table::{Line, Reach};
-use cfg_base::Shape;
+use cfg_base::{Shape, same_bytes};
 
 /// Where rows may stand.
 #[derive(Clone, Copy, Debug, PartialEq, Eq)]
@@ -63,7 +63,7 @@ impl Level {
     pub fn begins(&self, word: &[u8], line: &Line) -> bool
         ensures { result ≡ begins self.now word.now line.now }
     {
-        self.takes(line) && !is_bare(line.shape) && line.head.bytes() == word
+        self.takes(line) && !is_bare(line.shape) && same_bytes(line.head.bytes(), word)
     }
 
     /// Whether a row stands here and is a bare name.

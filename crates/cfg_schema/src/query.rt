@@ -7,7 +7,7 @@ ghost use Rattle.cfg_schema.specs.Query.{is_asked};
 
 use crate::level::{Level, goes_on};
 use crate::table::Line;
-use cfg_base::{Shape, Step};
+use cfg_base::{Shape, Step, same_bytes};
 
 /// A question to the rows of a level.
 #[derive(Clone, Copy, Debug)]
@@ -31,10 +31,10 @@ fn has_words(line: &Line, step: &Step) -> bool
     let name = step.name.as_bytes();
     match line.shape {
         Shape::Bare => head.is_empty(),
-        Shape::Keyed => line.head.bytes() == head,
-        Shape::Fixed => line.head.bytes() == head && line.name.bytes() == name,
+        Shape::Keyed => same_bytes(line.head.bytes(), head),
+        Shape::Fixed => same_bytes(line.head.bytes(), head) && same_bytes(line.name.bytes(), name),
         Shape::Container | Shape::Leaf | Shape::Flag | Shape::Many => {
-            line.head.bytes() == head && name.is_empty()
+            same_bytes(line.head.bytes(), head) && name.is_empty()
         }
     }
 }
@@ -42,7 +42,8 @@ fn has_words(line: &Line, step: &Step) -> bool
 fn fits(level: &Level, step: &Step, line: &Line) -> bool
     ensures { result ≡ fits level.now step.now line.now }
 {
-    level.takes(line) && has_words(line, step)
+    // Most rows of a level have other words.
+    has_words(line, step) && level.takes(line)
 }
 
 impl Query<'_> {

@@ -166,17 +166,13 @@ fn first_of(lines: &[Line], level: &Level, query: &Query<'_>, rows: &[u8]) -> Op
     requires within { AllByRecursion (λ r. r < ROWS) rows.now }
     ensures { result ≡ first_of (λ row. is_asked level.now query.now (line_at lines.now row)) rows.now }
 {
-    match rows {
-        [] => None,
-        [row, rest @ ..] => {
-            let place = *row as usize;
-            if query.is_asked(level, &lines[place]) {
-                Some(place)
-            } else {
-                first_of(lines, level, query, rest)
-            }
+    for &row in rows {
+        let place = row as usize;
+        if query.is_asked(level, &lines[place]) {
+            return Some(place);
         }
     }
+    None
 }
 
 /// The place of the first row of a level that is asked for.
