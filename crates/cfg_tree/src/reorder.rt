@@ -1,8 +1,9 @@
 //! The order of the children of an ordered row, which stands with their parent.
 
-ghost use Rattle.std.specs.Prelude.{◌≡◌, ◌≤◌, ◌<◌, ◌++◌, ◌∷◌, [], length, filter, not, IfOk, OnOk, OnErr, IsTrue};
+ghost use Rattle.std.specs.Prelude.{◌≡◌, ◌≤◌, ◌<◌, ◌++◌, ◌∷◌, [], length, filter, not, true, Option, IfOk, OnOk, OnErr, IsTrue};
 ghost use Rattle.cfg_base.specs.declared.path.TheConstants.{MAX_STEPS};
 ghost use Rattle.cfg_schema.specs.Profile.{same_word};
+ghost use Rattle.cfg_schema.specs.declared.place.Place.{Place};
 ghost use Rattle.cfg_schema.specs.Place.{place_of};
 ghost use Rattle.cfg_tree.specs.Shown.{shown};
 ghost use Rattle.cfg_tree.specs.Tree.{ordered_head};
@@ -10,7 +11,7 @@ ghost use Rattle.cfg_tree.specs.Change.{has_head, is_ordered, without, put_last}
 ghost use Rattle.cfg_tree.specs.Renaming.{changed_names, IsOrderOfParent, IsReorder, IsListedAs, reordered_by};
 
 use crate::store::{Entries, set_order};
-use cfg_base::{NoMemory, Path, Step, Word, WordList};
+use cfg_base::{NoMemory, Path, Step, Word, WordList, same_bytes};
 use cfg_schema::{Place, head};
 use std::alloc::Global;
 use std::slice::from_ref;
@@ -43,6 +44,14 @@ fn has_ordered_head(above: &[Step], last: &Step) -> bool
     }
 }
 
+/// Whether a step may be one of an ordered row: those rows have no head, or this one.
+fn may_be_ordered(last: &Step) -> bool
+    ensures { (here : Option Place) → has_head (ordered_head here) last.now ≡ true → result ≡ true }
+{
+    let head = last.head.as_bytes();
+    head.is_empty() || same_bytes(head, b"term")
+}
+
 /// Whether a path is that of a child of an ordered row.
 pub fn is_ordered(path: &Path) -> bool
     ensures is { result ≡ is_ordered path.now }
@@ -53,7 +62,9 @@ pub fn is_ordered(path: &Path) -> bool
         return false;
     }
     let (above, _) = steps.split_at(steps.len() - 1);
-    has_ordered_head(above, &steps[steps.len() - 1])
+    let last = &steps[steps.len() - 1];
+    // Most statements have heads of rows without an order, and their place isn't looked for.
+    may_be_ordered(last) && has_ordered_head(above, last)
 }
 
 pub fn pushed(path: &Path, step: &Step) -> Result<Path, NoMemory>
