@@ -166,7 +166,7 @@ impl<'a, V: Same + Drop> Maker<'a, V> {
             return Err(NoMemory);
         }
         let last = sought(&mut rest, last, &path);
-        let block = block_at(&last, &path);
+        let block = block_at(&last);
         let mut entries = make_room(
             alloc,
             &mut pages,

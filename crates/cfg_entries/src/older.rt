@@ -6,19 +6,23 @@ use crate::layers::Block;
 use crate::rest::Rest;
 use cfg_base::Path;
 
-/// An entry of an older map, and the block that it begins, where it begins one.
+/// An entry of an older map that stands at the path that was sought or after it, and the block that it begins, where it begins one.
 #[derive(Debug, Drop)]
 pub struct Older<'a, V> {
-    pub entry: &'a Entry<V>,
-    pub block: Option<&'a Block<V>>,
+    entry: &'a Entry<V>,
+    block: Option<&'a Block<V>>,
+    /// Whether it stands at that path.
+    met: bool,
 }
 
 /// The first of the entries that are left which stands at the path or after it.
 fn found<'a, V: Drop>(rest: &mut Rest<'a, V>, path: &Path) -> Option<Older<'a, V>> {
     let mut block = rest.next_block();
     while let Some(entry) = rest.next() {
-        if path <= entry.path() {
-            return Some(Older { entry, block });
+        let order = path.cmp(entry.path());
+        if order.is_le() {
+            let met = order.is_eq();
+            return Some(Older { entry, block, met });
         }
         block = rest.next_block();
     }
@@ -33,32 +37,33 @@ pub fn sought<'a, V: Drop>(
 ) -> Option<Older<'a, V>> {
     match last {
         None => found(rest, path),
-        Some(older) => {
-            if path <= older.entry.path() {
-                return Some(older);
+        Some(Older { entry, block, met }) => {
+            // The path comes after the one that was sought last.
+            if met {
+                return found(rest, path);
+            }
+            let order = path.cmp(entry.path());
+            if order.is_le() {
+                let met = order.is_eq();
+                return Some(Older { entry, block, met });
             }
             found(rest, path)
         }
     }
 }
 
-/// The older entry that was found.
+/// The older entry that was found, where it stands at the path.
 pub fn entry_of<'a, V: Drop>(older: &Option<Older<'a, V>>) -> Option<&'a Entry<V>> {
     match older {
-        None => None,
-        Some(found) => Some(found.entry),
+        Some(found) if found.met => Some(found.entry),
+        _ => None,
     }
 }
 
-/// The block that an older entry at this path begins.
-pub fn block_at<'a, V: Drop>(older: &Option<Older<'a, V>>, path: &Path) -> Option<&'a Block<V>> {
+/// The block that an older entry at the path begins.
+pub fn block_at<'a, V: Drop>(older: &Option<Older<'a, V>>) -> Option<&'a Block<V>> {
     match older {
-        None => None,
-        Some(found) => {
-            if found.entry.path() != path {
-                return None;
-            }
-            found.block
-        }
+        Some(found) if found.met => found.block,
+        _ => None,
     }
 }
