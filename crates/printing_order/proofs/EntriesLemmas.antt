@@ -1,12 +1,9 @@
 -- The entries of a map that stand below a path, from that path on.
 use Rattle.std.proofs.Common.{◌≡◌, ℕ, ◌<◌, arith, nat_lt, Bool, true, false, cond, T, ◌&&◌, ◌==◌, ◌+◌, List, [], ◌∷◌, ◌++◌, length, filter, Some, refl, sym, ap, ◌∙◌, append-nil, append_assoc, length-append, eqb-true, eq-eqb, None}
 use Rattle.std.specs.FinMap as finite
-use Rattle.std.specs.FinMap.Entries.{find, is_sorted, below_all}
+use Rattle.std.specs.FinMap.Entries.{find, is_sorted}
 use Rattle.std.specs.Map.{keys_of}
-use Rattle.std.specs.Ordering.{is_eq, is_le, is_lt}
-use Rattle.std.specs.List.{AllByRecursion}
-use Rattle.std.specs.declared.cmp.Ordering.{Ordering}
-use Rattle.std.specs.declared.cmp.Ordering.TheVariants.{Less, Equal, Greater}
+use Rattle.std.specs.Ordering.{is_eq, is_le}
 use Rattle.cfg_base.specs.Order.{path_cmp}
 use Rattle.cfg_base.specs.declared.path.Step.{Step}
 use Rattle.cfg_entries.specs.EntryMap.{Pair}

@@ -8,3 +8,4 @@ pub mod PutLemmas
 pub mod RowsLemmas
 pub mod ListingLemmas
 pub mod ChildlessLemmas
+pub mod PassLemmas
