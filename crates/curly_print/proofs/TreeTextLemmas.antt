@@ -1,12 +1,12 @@
 -- What the parts of the printer of trees make together.
-use Rattle.std.proofs.Common.{◌≡◌, ℕ, zero, suc, ◌+◌, ◌-◌, ◌<◌, List, [], ◌∷◌, ◌++◌, length, Option, Some, None, false, refl, sym, ap, ◌∙◌, arith}
+use Rattle.std.proofs.Common.{◌≡◌, ℕ, zero, suc, ◌+◌, ◌-◌, ◌<◌, ◌==◌, ◌&&◌, Bool, if◌then◌else◌, List, [], ◌∷◌, ◌++◌, length, Option, Some, None, false, refl, sym, ap, ◌∙◌, arith}
 use Rattle.std.specs.List.{flat_map}
 use Rattle.std.specs.FinMap as map
 use Rattle.cfg_base.specs.declared.path.Step.{Step}
 use Rattle.cfg_base.specs.declared.value.Value.{Value}
 use Rattle.cfg_entries.specs.EntryMap.{Pair}
 use Rattle.cfg_schema.specs.declared.place.Place.{Place}
-use Rattle.cfg_schema.specs.Profile.{row_of, rows_below}
+use Rattle.cfg_schema.specs.Profile.{row_of, rows_below, is_step_of}
 use Rattle.cfg_schema.specs.Place.{place_of}
 use Rattle.cfg_tree.specs.Statements.{Statements, last_of, size_of}
 use Rattle.cfg_tree.specs.Children.{children_of}
@@ -61,3 +61,8 @@ row_unordered levels m path indent id inside e unordered =
     ap (λ (o : Option Value). statement_text indent (last_of x.0) o (text_below levels m x.0 (indent + 4))) (sym found)
     ∙ ap (λ (k : List Step). statement_text indent (last_of x.0) (map.get m k) (text_below levels m k (indent + 4))) at)
     id inside e unordered
+
+-- nothing is printed by a row of a statement of another length
+pub no_child : (id count levels : ℕ) (m : Statements) (indent : ℕ) (e : Pair Value) → (length e.0 == count) ≡ false → own_if_of_row id count levels m indent e ≡ []
+no_child id count levels m indent e other =
+    ap (λ (b : Bool). if b && is_step_of id (last_of e.0) then own_text levels m indent e else []) other

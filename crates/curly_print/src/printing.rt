@@ -1,9 +1,10 @@
 //! Statements as curly text.
 
-ghost use Rattle.std.specs.Prelude.{◌≡◌, [], ◌++◌, IfOk, OnOk};
+ghost use Rattle.std.specs.Prelude.{◌≡◌, [], ◌++◌, Some, IfOk, OnOk};
 ghost use Rattle.std.specs.FinMap as map;
 ghost use Rattle.cfg_base.specs.declared.path.TheConstants.{MAX_STEPS};
 ghost use Rattle.cfg_schema.specs.Profile.{is_level};
+ghost use Rattle.cfg_schema.specs.Place.{place_of};
 ghost use Rattle.cfg_tree.specs.Statements.{last_of};
 ghost use Rattle.curly_print.specs.Printed.{printed, statement_text, text_below};
 
@@ -28,14 +29,21 @@ pub(crate) fn is_level(shape: Shape) -> bool
 }
 
 /// Puts what stands in the top or in a level at the end of a text.
-fn push_level(alloc: Global, text: &mut Vec<u8>, tree: &Tree, path: &Path) -> Result<(), NoMemory>
+fn push_level(
+    alloc: Global,
+    text: &mut Vec<u8>,
+    tree: &Tree,
+    path: &Path,
+    here: &Place,
+) -> Result<(), NoMemory>
+    requires { place_of path.now ≡ Some here.now }
     ensures { OnOk result (text.new.items ≡ text.old.items ++ text_below MAX_STEPS tree.now path.now 0) }
 {
     if tree.count() == 0 {
         return Ok(());
     }
     let inside = statements_below(alloc, tree, path)?;
-    TreePrinter::of(alloc, tree).push_below(text, path, &inside, MAX_STEPS, 0)
+    TreePrinter::of(alloc, tree).push_below(text, path, here, &inside, MAX_STEPS, 0)
 }
 
 /// Puts the statement of a path at the end of a text, where it is there.
@@ -58,7 +66,7 @@ fn push_below(alloc: Global, text: &mut Vec<u8>, tree: &Tree, path: &Path) -> Re
         None => Ok(()),
         Some(here) => {
             if is_level(row(here.row).shape) {
-                push_level(alloc, text, tree, path)
+                push_level(alloc, text, tree, path, &here)
             } else {
                 push_statement(text, tree, path)
             }

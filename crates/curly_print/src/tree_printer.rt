@@ -1,10 +1,12 @@
 //! The statements below a path of a tree, as curly text.
 
-ghost use Rattle.std.specs.Prelude.{◌≡◌, ◌<◌, ◌≤◌, ◌+◌, ◌*◌, ◌++◌, length, map, OnOk};
+ghost use Rattle.std.specs.Prelude.{◌≡◌, ◌<◌, ◌≤◌, ◌+◌, ◌*◌, ◌++◌, length, map, Some, OnOk};
 ghost use Rattle.std.specs.List.{flat_map};
 ghost use Rattle.std.specs.FinMap as finite;
 ghost use Rattle.cfg_base.specs.declared.path.TheConstants.{MAX_STEPS};
+ghost use Rattle.cfg_schema.specs.Place.{place_of, place_after};
 ghost use Rattle.cfg_tree.specs.Children.{order_in};
+ghost use Rattle.cfg_tree.specs.Statements.{last_of};
 ghost use Rattle.cfg_tree.specs.Tree.{step_of, IsTree};
 ghost use Rattle.printing_order.specs.Inside.{front_inside, statements_inside};
 ghost use Rattle.curly_print.specs.Printed.{ended, text_below};
@@ -32,16 +34,18 @@ impl<'a> TreePrinter<'a> {
         TreePrinter { alloc, tree }
     }
 
-    /// Puts the statements below a path at the end of a text, so many levels deep.
+    /// Puts the statements below a path of this place at the end of a text, so many levels deep.
     #[cycle(printing)]
     pub fn push_below(
         &self,
         text: &mut Vec<u8>,
         path: &Path,
+        here: &Place,
         inside: &[Statement<'a>],
         levels: usize,
         indent: usize,
     ) -> Result<(), NoMemory>
+        requires here { place_of path.now ≡ Some here.now }
         requires inside { inside.now ≡ statements_inside self.now.tree.now path.now }
         requires tree { IsTree self.now.tree.now }
         requires near { indent + 4 * levels ≤ 64 }
@@ -50,15 +54,35 @@ impl<'a> TreePrinter<'a> {
         if levels == 0 {
             return Ok(());
         }
+        let rows = rows_below(self.alloc, here.row, here.in_group)?;
+        self.push_rows(text, path, here, inside, &rows, levels - 1, indent)
+    }
+
+    /// Puts the statements that stand in a statement at the end of a text, so many levels deep; `above` is the place of the path
+    /// right above it.
+    #[cycle(printing)]
+    fn push_within(
+        &self,
+        text: &mut Vec<u8>,
+        above: &Place,
+        statement: &Statement<'_>,
+        inside: &[Statement<'a>],
+        levels: usize,
+        indent: usize,
+    ) -> Result<(), NoMemory>
+        requires above { place_of statement.now.0 ≡ place_after above.now (last_of statement.now.0) }
+        requires inside { inside.now ≡ statements_inside self.now.tree.now statement.now.0 }
+        requires tree { IsTree self.now.tree.now }
+        requires near { indent + 4 * levels ≤ 64 }
+        ensures { OnOk result (text.new.items ≡ text.old.items ++ text_below levels self.now.tree.now statement.now.0 indent) }
+    {
         if inside.is_empty() {
             return Ok(());
         }
-        let here = match Place::of(path.steps()) {
-            None => return Ok(()),
-            Some(here) => here,
-        };
-        let rows = rows_below(self.alloc, here.row, here.in_group)?;
-        self.push_rows(text, path, inside, &rows, levels - 1, indent)
+        match above.after(statement.step()) {
+            None => Ok(()),
+            Some(here) => self.push_below(text, statement.path(), &here, inside, levels, indent),
+        }
     }
 
     /// Puts the statements below a path by these rows at the end of a text.
@@ -67,19 +91,21 @@ impl<'a> TreePrinter<'a> {
         &self,
         text: &mut Vec<u8>,
         path: &Path,
+        here: &Place,
         inside: &[Statement<'a>],
         rows: &[RowId],
         levels: usize,
         indent: usize,
     ) -> Result<(), NoMemory>
         requires short { length path.now < MAX_STEPS }
+        requires here { place_of path.now ≡ Some here.now }
         requires inside { inside.now ≡ statements_inside self.now.tree.now path.now }
         requires tree { IsTree self.now.tree.now }
         requires near { indent + 4 * levels ≤ 60 }
         ensures { OnOk result (text.new.items ≡ text.old.items ++ flat_map (own_row levels self.now.tree.now path.now indent) rows.now) }
     {
         for id in rows {
-            self.push_row(text, path, inside, *id, levels, indent)?;
+            self.push_row(text, path, here, inside, *id, levels, indent)?;
         }
         Ok(())
     }
@@ -89,21 +115,23 @@ impl<'a> TreePrinter<'a> {
         &self,
         text: &mut Vec<u8>,
         path: &Path,
+        here: &Place,
         inside: &[Statement<'a>],
         id: RowId,
         levels: usize,
         indent: usize,
     ) -> Result<(), NoMemory>
         requires short { length path.now < MAX_STEPS }
+        requires here { place_of path.now ≡ Some here.now }
         requires inside { inside.now ≡ statements_inside self.now.tree.now path.now }
         requires tree { IsTree self.now.tree.now }
         requires near { indent + 4 * levels ≤ 60 }
         ensures { OnOk result (text.new.items ≡ text.old.items ++ own_row levels self.now.tree.now path.now indent id) }
     {
         if row(id).ordered {
-            self.push_named(text, path, head(id), levels, indent)
+            self.push_named(text, path, here, head(id), levels, indent)
         } else {
-            self.push_unordered(text, path, inside, &RowWords::of(id), levels, indent)
+            self.push_unordered(text, path, here, inside, &RowWords::of(id), levels, indent)
         }
     }
 
@@ -113,11 +141,13 @@ impl<'a> TreePrinter<'a> {
         &self,
         text: &mut Vec<u8>,
         path: &Path,
+        here: &Place,
         head: &[u8],
         levels: usize,
         indent: usize,
     ) -> Result<(), NoMemory>
         requires short { length path.now < MAX_STEPS }
+        requires here { place_of path.now ≡ Some here.now }
         requires tree { IsTree self.now.tree.now }
         requires near { indent + 4 * levels ≤ 60 }
         ensures { OnOk result (text.new.items ≡ text.old.items ++ flat_map (child_text levels self.now.tree.now path.now indent)
@@ -129,7 +159,7 @@ impl<'a> TreePrinter<'a> {
         };
         let mut left = value.order.iter();
         while let Some(name) = left.next() {
-            self.push_child(text, path, head, name, levels, indent)?;
+            self.push_child(text, path, here, head, name, levels, indent)?;
         }
         Ok(())
     }
@@ -139,12 +169,14 @@ impl<'a> TreePrinter<'a> {
         &self,
         text: &mut Vec<u8>,
         path: &Path,
+        here: &Place,
         head: &[u8],
         name: &Word,
         levels: usize,
         indent: usize,
     ) -> Result<(), NoMemory>
         requires short { length path.now < MAX_STEPS }
+        requires here { place_of path.now ≡ Some here.now }
         requires tree { IsTree self.now.tree.now }
         requires near { indent + 4 * levels ≤ 60 }
         ensures { OnOk result (text.new.items
@@ -155,7 +187,8 @@ impl<'a> TreePrinter<'a> {
             None => Ok(()),
             Some(value) => {
                 let inside = statements_below(self.alloc, self.tree, &child)?;
-                self.push_statement(text, &Statement::of(&child, value), &inside, levels, indent)
+                let statement = Statement::of(&child, value);
+                self.push_statement(text, here, &statement, &inside, levels, indent)
             }
         }
     }
@@ -166,11 +199,13 @@ impl<'a> TreePrinter<'a> {
         &self,
         text: &mut Vec<u8>,
         path: &Path,
+        here: &Place,
         inside: &[Statement<'a>],
         words: &RowWords,
         levels: usize,
         indent: usize,
     ) -> Result<(), NoMemory>
+        requires here { place_of path.now ≡ Some here.now }
         requires inside { inside.now ≡ statements_inside self.now.tree.now path.now }
         requires tree { IsTree self.now.tree.now }
         requires near { indent + 4 * levels ≤ 60 }
@@ -178,26 +213,34 @@ impl<'a> TreePrinter<'a> {
             ≡ text.old.items ++ flat_map (own_if_of_row words.now (length path.now + 1) levels self.now.tree.now indent) inside.now) }
     {
         let count = path.steps().len() + 1;
-        for at in 0..inside.len() {
+        let mut at = 0;
+        while at < inside.len() {
+            let statement = &inside[at];
             let (_, behind) = inside.split_at(at + 1);
-            self.push_if_of_row(text, &inside[at], behind, count, words, levels, indent)?;
+            // What stands in a child is no child.
+            let within = front_inside(statement, behind);
+            self.push_if_of_row(text, here, statement, within, count, words, levels, indent)?;
+            at += 1 + within.len();
         }
         Ok(())
     }
 
-    /// Puts a statement at the end of a text, where its path has so many steps, and the last of them is one of a row.
+    /// Puts a statement at the end of a text, where its path has so many steps, and the last of them is one of a row; `above` is the
+    /// place of the path right above it.
     #[cycle(printing)]
     fn push_if_of_row(
         &self,
         text: &mut Vec<u8>,
+        above: &Place,
         statement: &Statement<'a>,
-        behind: &[Statement<'a>],
+        inside: &[Statement<'a>],
         count: usize,
         words: &RowWords,
         levels: usize,
         indent: usize,
     ) -> Result<(), NoMemory>
-        requires inside { front_inside statement.now.0 behind.now ≡ statements_inside self.now.tree.now statement.now.0 }
+        requires above { length statement.now.0 ≡ count → place_of statement.now.0 ≡ place_after above.now (last_of statement.now.0) }
+        requires inside { inside.now ≡ statements_inside self.now.tree.now statement.now.0 }
         requires tree { IsTree self.now.tree.now }
         requires near { indent + 4 * levels ≤ 60 }
         ensures { OnOk result (text.new.items ≡ text.old.items ++ own_if_of_row words.now count levels self.now.tree.now indent statement.now) }
@@ -205,25 +248,21 @@ impl<'a> TreePrinter<'a> {
         if !statement.is_of_row(count, words) {
             return Ok(());
         }
-        self.push_statement(
-            text,
-            statement,
-            front_inside(statement, behind),
-            levels,
-            indent,
-        )
+        self.push_statement(text, above, statement, inside, levels, indent)
     }
 
-    /// Puts a statement at the end of a text, with what stands in it.
+    /// Puts a statement at the end of a text, with what stands in it; `above` is the place of the path right above it.
     #[cycle(printing)]
     fn push_statement(
         &self,
         text: &mut Vec<u8>,
+        above: &Place,
         statement: &Statement<'_>,
         inside: &[Statement<'a>],
         levels: usize,
         indent: usize,
     ) -> Result<(), NoMemory>
+        requires above { place_of statement.now.0 ≡ place_after above.now (last_of statement.now.0) }
         requires inside { inside.now ≡ statements_inside self.now.tree.now statement.now.0 }
         requires tree { IsTree self.now.tree.now }
         requires near { indent + 4 * levels ≤ 60 }
@@ -231,7 +270,7 @@ impl<'a> TreePrinter<'a> {
     {
         push_spaces(text, indent)?;
         push_line(text, statement.step(), statement.value())?;
-        self.push_end(text, statement.path(), inside, levels, indent)
+        self.push_end(text, above, statement, inside, levels, indent)
     }
 
     /// Puts the end of a statement's line at the end of a text, and what stands in it before that.
@@ -239,20 +278,23 @@ impl<'a> TreePrinter<'a> {
     fn push_end(
         &self,
         text: &mut Vec<u8>,
-        path: &Path,
+        above: &Place,
+        statement: &Statement<'_>,
         inside: &[Statement<'a>],
         levels: usize,
         indent: usize,
     ) -> Result<(), NoMemory>
-        requires inside { inside.now ≡ statements_inside self.now.tree.now path.now }
+        requires above { place_of statement.now.0 ≡ place_after above.now (last_of statement.now.0) }
+        requires inside { inside.now ≡ statements_inside self.now.tree.now statement.now.0 }
         requires tree { IsTree self.now.tree.now }
         requires near { indent + 4 * levels ≤ 60 }
-        ensures { OnOk result (text.new.items ≡ text.old.items ++ ended indent (text_below levels self.now.tree.now path.now (indent + 4))) }
+        ensures { OnOk result (text.new.items
+            ≡ text.old.items ++ ended indent (text_below levels self.now.tree.now statement.now.0 (indent + 4))) }
     {
         let end = text.len();
         push_bytes(text, b" {\n".as_slice())?;
         let within = text.len();
-        self.push_below(text, path, inside, levels, indent + INDENT)?;
+        self.push_within(text, above, statement, inside, levels, indent + INDENT)?;
         if text.len() == within {
             text.truncate(end);
             return push_bytes(text, b";\n".as_slice());

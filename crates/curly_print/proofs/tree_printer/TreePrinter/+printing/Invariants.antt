@@ -1,4 +1,4 @@
-use Rattle.std.proofs.Common.{◌≡◌, ◌+◌, ◌*◌, ◌++◌, length, map, take}
+use Rattle.std.proofs.Common.{◌≡◌, ◌+◌, ◌-◌, ◌*◌, ◌++◌, length, map, take}
 use Rattle.std.specs.List.{flat_map}
 use Rattle.std.specs.FinMap as finite
 use Rattle.cfg_tree.specs.Children.{order_in}
@@ -30,6 +30,9 @@ decreases-push_statement l = 8 * l.levels + 3
 abbrev pub decreases-push_end : goal.decreases-push_end
 decreases-push_end l = 8 * l.levels + 2
 
+abbrev pub decreases-push_within : goal.decreases-push_within
+decreases-push_within l = 8 * l.levels + 1
+
 abbrev pub decreases-push_below : goal.decreases-push_below
 decreases-push_below l = 8 * l.levels
 
@@ -51,3 +54,6 @@ abbrev pub invariant-push_unordered-loop-at : goal.invariant-push_unordered-loop
 invariant-push_unordered-loop-at l =
     l.text.items
     ≡ l.fn.text.items ++ flat_map (own_if_of_row l.words (length l.path + 1) l.levels l.self.tree.now l.indent) (take l.at l.inside)
+
+abbrev pub decreases-push_unordered-loop-at : goal.decreases-push_unordered-loop-at
+decreases-push_unordered-loop-at l = length l.inside - l.at
