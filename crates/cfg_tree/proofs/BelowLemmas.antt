@@ -9,7 +9,6 @@ use Rattle.std.specs.List.Sorted.{IsStrictlySortedBy}
 use Rattle.std.specs.Map.{keys_of}
 use Rattle.std.proofs.lemmas.Map.Keys.{sorted_head, sorted_tail}
 use Rattle.cfg_base.specs.Order.{path_cmp, step_cmp}
-use Rattle.cfg_base.specs.declared.value.Value.{Value}
 use Rattle.cfg_base.specs.declared.path.Step.{Step}
 pub use Rattle.cfg_entries.proofs.BelowLemmas.{below_le, below_between}
 use Rattle.cfg_tree.specs.Statements.{is_below}
@@ -52,36 +51,36 @@ front_is p (k ∷ ks) sorted =
     front_by p k (filter (from_here p) ks) (filter (is_below p) ks) _ _ refl refl (front_is p ks (sorted_tail path_cmp k ks sorted))
     (λ e f. none_later p k ks e f (sorted_head path_cmp k ks sorted))
 
-keys_cond : (c : Bool) (e : List Step × Value) (es : List (List Step × Value)) (ks : List (List Step)) → keys_of es ≡ ks
+keys_cond : {X : Type 0} (c : Bool) (e : List Step × X) (es : List (List Step × X)) (ks : List (List Step)) → keys_of es ≡ ks
     → keys_of (cond c (e ∷ es) es) ≡ cond c (e.0 ∷ ks) ks
 keys_cond true e es ks h = ap (λ (xs : List (List Step)). e.0 ∷ xs) h
 keys_cond false e es ks h = h
 
-pub keys_filter : (t : List Step → Bool) (es : List (List Step × Value)) → keys_of (filter (λ e. t e.0) es) ≡ filter t (keys_of es)
+pub keys_filter : {X : Type 0} (t : List Step → Bool) (es : List (List Step × X)) → keys_of (filter (λ e. t e.0) es) ≡ filter t (keys_of es)
 keys_filter t [] = refl
 keys_filter t (e ∷ es) = keys_cond (t e.0) e (filter (λ x. t x.0) es) _ (keys_filter t es)
 
 -- the paths that are found from a path on, up to the first that isn't below it, are all that are below it
-pub found_below : (p : List Step) (es start : List (List Step × Value)) → IsStrictlySortedBy path_cmp (keys_of es)
+pub found_below : {X : Type 0} (p : List Step) (es start : List (List Step × X)) → IsStrictlySortedBy path_cmp (keys_of es)
     → start ≡ filter (λ e. from_here p e.0) es → front_of (is_below p) (keys_of start) ≡ filter (is_below p) (keys_of es)
-found_below p es start sorted e =
-    ap (λ (xs : List (List Step × Value)). front_of (is_below p) (keys_of xs)) e
+found_below {X = X} p es start sorted e =
+    ap (λ (xs : List (List Step × X)). front_of (is_below p) (keys_of xs)) e
     ∙ ap (λ (ks : List (List Step)). front_of (is_below p) ks) (keys_filter (from_here p) es)
     ∙ front_is p (keys_of es) sorted
 
 -- what is found so far is all, where nothing is left or the next one isn't below
-pub found_end : (p : List Step) (so_far all : List (List Step)) (left : List (List Step × Value)) → left ≡ []
+pub found_end : {X : Type 0} (p : List Step) (so_far all : List (List Step)) (left : List (List Step × X)) → left ≡ []
     → so_far ++ front_of (is_below p) (keys_of left) ≡ all → so_far ≡ all
-found_end p so_far all left none e =
-    sym (append-nil so_far) ∙ ap (λ (xs : List (List Step × Value)). so_far ++ front_of (is_below p) (keys_of xs)) (sym none) ∙ e
+found_end {X = X} p so_far all left none e =
+    sym (append-nil so_far) ∙ ap (λ (xs : List (List Step × X)). so_far ++ front_of (is_below p) (keys_of xs)) (sym none) ∙ e
 
-pub found_other : (p k : List Step) (v : Value) (so_far all : List (List Step)) (left rest : List (List Step × Value))
+pub found_other : {X : Type 0} (p k : List Step) (v : X) (so_far all : List (List Step)) (left rest : List (List Step × X))
     → left ≡ (k, v) ∷ rest → false ≡ is_below p k
     → so_far ++ front_of (is_below p) (keys_of left) ≡ all → so_far ≡ all
-found_other p k v so_far all left rest next f e =
+found_other {X = X} p k v so_far all left rest next f e =
     sym (append-nil so_far)
     ∙ ap (λ (c : Bool). so_far ++ cond c (k ∷ front_of (is_below p) (keys_of rest)) []) f
-    ∙ ap (λ (xs : List (List Step × Value)). so_far ++ front_of (is_below p) (keys_of xs)) (sym next)
+    ∙ ap (λ (xs : List (List Step × X)). so_far ++ front_of (is_below p) (keys_of xs)) (sym next)
     ∙ e
 
 -- a child of what is below a path is below it

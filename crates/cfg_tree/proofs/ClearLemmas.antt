@@ -26,15 +26,15 @@ either true true x y = refl
 either true false x y = refl
 either false b x y = refl
 
-get-without_all : (m : Statements) (ks : List (List Step)) (q : List Step)
+pub get-without_all : {X : Type 0} (m : map.FinMap path_cmp X) (ks : List (List Step)) (q : List Step)
     → map.get (without_all m ks) q ≡ cond (list_any (eq_by_cmp path_cmp q) ks) None (map.get m q)
 get-without_all m [] q = refl
 get-without_all m (k ∷ ks) q =
     get-without_all (map.remove m k) ks q
-    ∙ ap (λ (o : Option Value). cond (list_any (eq_by_cmp path_cmp q) ks) None o) (map.get-remove paths_total m k q)
+    ∙ ap (λ o. cond (list_any (eq_by_cmp path_cmp q) ks) None o) (map.get-remove paths_total m k q)
     ∙ either (eq_by_cmp path_cmp q k) _ None (map.get m q)
 
-any-filter : (b : List Step → Bool) (ks : List (List Step)) (q : List Step)
+pub any-filter : (b : List Step → Bool) (ks : List (List Step)) (q : List Step)
     → list_any (eq_by_cmp path_cmp q) (filter b ks) ≡ (b q && list_any (eq_by_cmp path_cmp q) ks)
 any-filter b [] q = nothing (b q)
   where

@@ -12,38 +12,41 @@ use Rattle.cfg_entries.specs.EntryMap.{EntryMap, IsOrdered, get, without}
 use Rattle.cfg_tree.specs.Statements.{Statements}
 use Rattle.cfg_tree.specs.Shown.{shown, with_names}
 use Rattle.cfg_tree.specs.Change.{with_order, with_order_of}
-use Rattle.cfg_tree.proofs.MapLemmas.{get_is, entries_is, same_statements, path_same}
+use Rattle.cfg_tree.proofs.FullLemmas.{entries_from}
+use Rattle.cfg_tree.proofs.MapLemmas.{get_is, path_same}
 
--- what is put into a list of entries is put into the map
-pub inserted : (m n : EntryMap (List Step) Value) (k : List Step) (v : Value) → IsOrdered path_cmp m
-    → n.entries ≡ put path_cmp k v m.entries → shown n ≡ map.insert (shown m) k v
-inserted m n k v sorted e =
-    ap (λ (es : List (List Step × Value)). map.from_entries es)
-    (e
-    ∙ ap (λ (es : List (List Step × Value)). put path_cmp k v es) (sym (entries_is m.entries sorted))
-    ∙ sym (map.entries-insert paths_total (shown m) k v))
-    ∙ from_own (map.insert (shown m) k v)
-  where
-    from_own : (x : Statements) → map.from_entries (map.entries x) ≡ x
-    from_own x = same_statements _ _ (λ q. map.get-from_entries paths_total (map.entries x) q ∙ sym (map.get-entries x q))
+module _ {X : Type 0} where
+  -- what is put into a list of entries is put into the map
+  pub inserted : (m n : EntryMap (List Step) X) (k : List Step) (v : X) → IsOrdered path_cmp m
+      → n.entries ≡ put path_cmp k v m.entries → map.from_entries {R = path_cmp} n.entries ≡ map.insert (map.from_entries m.entries) k v
+  inserted m n k v sorted e =
+      ap (λ (es : List (List Step × X)). map.from_entries es)
+      (e
+      ∙ ap (λ (es : List (List Step × X)). put path_cmp k v es) (sym (entries_from m.entries sorted))
+      ∙ sym (map.entries-insert paths_total (map.from_entries m.entries) k v))
+      ∙ from_own (map.insert (map.from_entries m.entries) k v)
+    where
+      from_own : (x : map.FinMap path_cmp X) → map.from_entries (map.entries x) ≡ x
+      from_own x = map.same_map paths_total path_same _ _ (λ q. map.get-from_entries paths_total (map.entries x) q ∙ sym (map.get-entries x q))
 
--- what is taken out of a list of entries is taken out of the map
-pub taken : (m n : EntryMap (List Step) Value) (k : List Step) → n.entries ≡ without path_cmp k m.entries → shown n ≡ map.remove (shown m) k
-taken m n k e = same_statements _ _ (λ q.
-    map.get-from_entries paths_total n.entries q
-    ∙ ap (λ (es : List (List Step × Value)). map.find path_cmp q es) e
-    ∙ find-where_key path_cmp (λ x. not (eq_by_cmp path_cmp k x)) q (λ x tie. ap not (tied_alike x q tie)) m.entries
-    ∙ turned (eq_by_cmp path_cmp k q) (map.find path_cmp q m.entries)
-    ∙ ap (λ (b : Bool). cond b None (map.find path_cmp q m.entries)) ((eq_by_cmp_equiv paths_total).symm k q)
-    ∙ ap (λ (o : Option Value). cond (eq_by_cmp path_cmp q k) None o) (sym (map.get-from_entries paths_total m.entries q))
-    ∙ sym (map.get-remove paths_total (shown m) k q))
-  where
-    turned : (b : Bool) (o : Option Value) → cond (not b) o None ≡ cond b None o
-    turned true o = refl
-    turned false o = refl
+  -- what is taken out of a list of entries is taken out of the map
+  pub taken : (m n : EntryMap (List Step) X) (k : List Step) → n.entries ≡ without path_cmp k m.entries
+      → map.from_entries {R = path_cmp} n.entries ≡ map.remove (map.from_entries m.entries) k
+  taken m n k e = map.same_map paths_total path_same _ _ (λ q.
+      map.get-from_entries paths_total n.entries q
+      ∙ ap (λ (es : List (List Step × X)). map.find path_cmp q es) e
+      ∙ find-where_key path_cmp (λ x. not (eq_by_cmp path_cmp k x)) q (λ x tie. ap not (tied_alike x q tie)) m.entries
+      ∙ turned (eq_by_cmp path_cmp k q) (map.find path_cmp q m.entries)
+      ∙ ap (λ (b : Bool). cond b None (map.find path_cmp q m.entries)) ((eq_by_cmp_equiv paths_total).symm k q)
+      ∙ ap (λ (o : Option X). cond (eq_by_cmp path_cmp q k) None o) (sym (map.get-from_entries paths_total m.entries q))
+      ∙ sym (map.get-remove paths_total (map.from_entries m.entries) k q))
+    where
+      turned : (b : Bool) (o : Option X) → cond (not b) o None ≡ cond b None o
+      turned true o = refl
+      turned false o = refl
 
-    tied_alike : (x q : List Step) → path_cmp q x ≡ Equal → eq_by_cmp path_cmp k x ≡ eq_by_cmp path_cmp k q
-    tied_alike x q tie = ap (λ (y : List Step). eq_by_cmp path_cmp k y) (sym (path_same q x tie))
+      tied_alike : (x q : List Step) → path_cmp q x ≡ Equal → eq_by_cmp path_cmp k x ≡ eq_by_cmp path_cmp k q
+      tied_alike x q tie = ap (λ (y : List Step). eq_by_cmp path_cmp k y) (sym (path_same q x tie))
 
 -- the order of the value at a path, where there is one: the value that is put in its place
 module _ (m : EntryMap (List Step) Value) (p : List Step) (names : List (List ℕ)) where

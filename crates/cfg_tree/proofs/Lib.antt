@@ -40,5 +40,6 @@ pub mod NamingLemmas
 pub mod LimitLemmas
 pub mod StatedLemmas
 pub mod FullLemmas
+pub mod WithinLemmas
 pub mod FirstLemmas
 pub mod FoundLemmas

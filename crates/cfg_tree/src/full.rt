@@ -1,12 +1,13 @@
 //! The expansion of a configuration: what stands at each path once groups are applied.
 
-ghost use Rattle.std.specs.Prelude.{◌≡◌, ◌<◌, ◌≤◌, [], ◌∷◌, ◌++◌, length, filter, nat_le, IfOk, MatchOption};
+ghost use Rattle.std.specs.Prelude.{◌≡◌, ◌<◌, ◌≤◌, [], ◌∷◌, ◌++◌, length, filter, nat_le, IfOk, OnOk, OnErr, MatchOption};
 ghost use Rattle.std.specs.Option.{option_copied};
 ghost use Rattle.std.specs.Ordering.{is_le};
 ghost use Rattle.std.specs.Map.{keys_of};
 ghost use Rattle.std.specs.List.Sorted.{IsStrictlySortedBy};
 ghost use Rattle.std.specs.FinMap as map;
 ghost use Rattle.cfg_base.specs.Order.{path_cmp};
+ghost use Rattle.cfg_tree.specs.Full.{IsWithin};
 ghost use Rattle.cfg_tree.specs.declared.limit.TheConstants.{MAX_EXPANDED};
 
 use crate::limit::MAX_EXPANDED;
@@ -59,6 +60,15 @@ impl Full {
         }
     }
 
+    /// A copy of the expansion.
+    pub fn copy(&self) -> Result<Full, NoMemory>
+        ensures same { IfOk result (λ full. full ≡ self.now) }
+        ensures within { IfOk result IsWithin }
+    {
+        let entries = self.entries.clone()?;
+        Ok(Full { entries })
+    }
+
     /// What is given at a path, where it is there.
     pub fn at(&self, path: &Path) -> Option<&Given>
         ensures { option_copied result ≡ map.get self.now path.now }
@@ -71,6 +81,32 @@ impl Full {
         ensures { result ≡ map.len self.now }
     {
         self.entries.len() as u32
+    }
+
+    /// Whether there are as many paths as an expansion has at most.
+    pub fn is_full(&self) -> bool
+        ensures { result ≡ nat_le MAX_EXPANDED (map.len self.now) }
+    {
+        self.entries.len() >= MAX_EXPANDED
+    }
+
+    /// Puts what is given at a path. What doesn't change is shared with the copies.
+    pub fn put(&mut self, path: Path, given: Given) -> Result<(), NoMemory>
+        requires { map.len self.old < MAX_EXPANDED }
+        ensures ok { OnOk result (self.new ≡ map.insert self.old path given) }
+        ensures unchanged { OnErr result (self.new ≡ self.old) }
+        ensures within { IsWithin self.new }
+    {
+        self.entries.insert(path, given)
+    }
+
+    /// Takes a path away.
+    pub fn remove(&mut self, path: &Path) -> Result<(), NoMemory>
+        ensures ok { OnOk result (self.new ≡ map.remove self.old path.now) }
+        ensures unchanged { OnErr result (self.new ≡ self.old) }
+        ensures within { IsWithin self.new }
+    {
+        self.entries.remove(path)
     }
 
     /// All paths, in their order.
