@@ -29,8 +29,8 @@ fn top_level<'a>(alloc: Global, plan: &Plan<'a>, top: &Path) -> Result<Level<'a>
     level_below(alloc, plan, top, &own, &[])
 }
 
-/// The expansion of the statements of a row.
-fn expanded(alloc: Global, row: &[Statement<'_>]) -> Result<Full, ExpandFault>
+/// The expansion of the statements of a row, made beside an older one.
+fn expanded(alloc: Global, row: &[Statement<'_>], older: &Full) -> Result<Full, ExpandFault>
     requires { IsRow row.now }
     ensures ok { IfOk result (λ full. full ≡ map.from_entries (given_below row.now MAX_STEPS [])) }
     ensures within { OnOk result (length (given_below row.now MAX_STEPS []) ≤ MAX_EXPANDED) }
@@ -39,8 +39,7 @@ fn expanded(alloc: Global, row: &[Statement<'_>]) -> Result<Full, ExpandFault>
     let plan = Plan::of(alloc, row)?;
     let top = Path::top(alloc);
     let level = top_level(alloc, &plan, &top)?;
-    let none = Full::empty(alloc);
-    let maker = FullMaker::beside(alloc, &none);
+    let maker = FullMaker::beside(alloc, older);
     let place = Some(Place::top());
     match expand_level(alloc, &plan, MAX_STEPS, &top, &place, &level, maker) {
         Ok(made) => Ok(made.finish()?),
@@ -56,6 +55,17 @@ pub fn expand(alloc: Global, tree: &Tree) -> Result<Full, ExpandFault>
     ensures wide { IsErrOf result ExpandFault.TooWide → (full : Expansion) × IsExpansion tree.now full × (MAX_EXPANDED < map.len full) }
     ensures tree { OnOk result (IsTree tree.now) }
 {
+    let none = Full::empty(alloc);
+    expand_beside(alloc, tree, &none)
+}
+
+/// The same. What an older expansion has too is shared with it.
+pub fn expand_beside(alloc: Global, tree: &Tree, older: &Full) -> Result<Full, ExpandFault>
+    ensures ok { IfOk result (λ full. IsExpansion tree.now full) }
+    ensures within { IfOk result (λ full. map.len full ≤ MAX_EXPANDED) }
+    ensures wide { IsErrOf result ExpandFault.TooWide → (full : Expansion) × IsExpansion tree.now full × (MAX_EXPANDED < map.len full) }
+    ensures tree { OnOk result (IsTree tree.now) }
+{
     let row = row_of(alloc, tree)?;
-    expanded(alloc, &row)
+    expanded(alloc, &row, older)
 }

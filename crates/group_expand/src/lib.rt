@@ -25,7 +25,7 @@ mod run;
 mod step;
 mod unaltered;
 
-pub use expanding::expand;
+pub use expanding::{expand, expand_beside};
 pub use fault::ExpandFault;
 pub use laws::{
     expansion_is_of_what_is_applied, expansion_is_one, expansion_is_what_is_local_or_has_a_source,

@@ -8,7 +8,7 @@ use Rattle.group_expand.specs.Expansion.{IsExpansion}
 use Rattle.group_expand.specs.Row.{StatementView}
 use Rattle.group_expand.specs.Placed.{map_of, given_below, IsRow}
 use Rattle.group_expand.proofs.EndLemmas.{ok_map, expansion_is, size_is}
-use Rattle.group_expand.proofs.expanding.expand.Goals as goal
+use Rattle.group_expand.proofs.expanding.expand_beside.Goals as goal
 
 pub returns-clause-ok : goal.returns-clause-ok
 returns-clause-ok c =
