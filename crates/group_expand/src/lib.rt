@@ -32,4 +32,5 @@ pub use laws::{
     expansion_of_a_part_is_of_that_part, expansion_without_groups_is_the_live_part,
     limit_is_stated,
 };
+pub use run::is_outside;
 pub use step::is_apply;
