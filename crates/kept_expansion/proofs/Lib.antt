@@ -1,0 +1,6 @@
+mod LocalLemmas
+mod PickLemmas
+mod RootLemmas
+mod PartLemmas
+mod SpliceLemmas
+mod UpdateLemmas

@@ -1,0 +1,4 @@
+pub mod Changes
+pub mod Roots
+pub mod Part
+pub mod Splice
