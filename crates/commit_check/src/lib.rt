@@ -28,7 +28,7 @@ mod under;
 mod unit;
 mod users;
 
-pub use checking::check;
+pub use checking::{check, check_after};
 pub use fault::CheckFault;
 pub use judge::Judge;
 pub use laws::{

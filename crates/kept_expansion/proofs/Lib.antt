@@ -4,3 +4,4 @@ mod RootLemmas
 mod PartLemmas
 mod SpliceLemmas
 mod UpdateLemmas
+mod DifferingLemmas

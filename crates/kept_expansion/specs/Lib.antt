@@ -1,4 +1,5 @@
 pub mod Changes
+pub mod Differences
 pub mod Roots
 pub mod Part
 pub mod Splice
