@@ -2,6 +2,8 @@
 use Rattle.std.specs.Prelude.{ℕ, Bool, true, false, List, [], ◌∷◌, ◌++◌, ◌==◌, if◌then◌else◌, codes, decimal}
 use Rattle.std.specs.List.{join_by}
 use Rattle.cfg_base.specs.declared.path.Step.{Step}
+use Rattle.access_rules.specs.declared.right.Right.{Right}
+use Rattle.access_rules.specs.Rights.{word_of}
 use Rattle.commands.specs.declared.command.Mode.{Mode}
 use Rattle.commands.specs.declared.command.Mode.TheVariants.{Shared, Private, Exclusive}
 use Rattle.config_core.specs.declared.reply.Refusal.{Refusal}
@@ -148,6 +150,14 @@ text_of_fault (Syntax place) = error_line (codes "syntax error at byte " ++ deci
 text_of_fault LineTooLong = error_line (codes "line too long")
 text_of_fault TextTooLong = error_line (codes "text too long")
 text_of_fault (Json fault) = error_line (codes "json: " ++ message_of_json fault)
+
+-- what is written of a command that its user lacks a right for
+abbrev pub text_of_denial : Right → List ℕ
+text_of_denial right = error_line (codes "permission denied: " ++ word_of right)
+
+-- what is written of a command for which a disk failed before it was asked: the reply's text to one that a disk failed for
+abbrev pub unready_text : List ℕ
+unready_text = text_of_reply (Refused DiskFault)
 
 -- what is written for want of memory
 abbrev pub no_memory_text : List ℕ
