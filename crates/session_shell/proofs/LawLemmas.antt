@@ -36,12 +36,12 @@ use Rattle.session_shell.specs.declared.reading.Item.TheVariants.{Ask, ShowJson,
 use Rattle.session_shell.specs.declared.reading.Item.TheVariants as item
 use Rattle.session_shell.specs.declared.reading.Reading.{Reading}
 use Rattle.session_shell.specs.declared.reading.Reading.TheVariants.{Operational, Configuring, Collecting, Spoilt, Out}
-use Rattle.session_shell.specs.Exchange.{Exchange, Asked, Refused, Wanted, IsWrittenIn, is_dry, item_asked, asked_item, kept_turn, moment_in, seen_turn, turn_of_given, turn_taken, text_written, reading_after, front_of, place_of}
+use Rattle.session_shell.specs.Exchange.{Basis, Exchange, Asked, Failure, Lack, Refused, Snapshot, Wanted, IsWrittenIn, is_dry, item_asked, asked_item, kept_turn, moment_in, seen_turn, turn_of_given, turn_taken, text_written, reading_after, basis_of, place_of}
 use Rattle.session_shell.specs.Items.{ComesOf, Continues, Ended, EndsText, EndsJson, IsLoadOf, ReadsLine, CommandLine, ReadsThrough, SaysLoad, asked_by, is_end_of_text, with_line}
 use Rattle.session_shell.specs.Json.{IsJsonOf, MayBeWritten}
 use Rattle.session_shell.specs.Cut.{lines_read}
 use Rattle.session_shell.specs.Transcript.{AnswersAre, EndsBy, Following, GoesBy, IsInput, LogsOut, Naming, SessionView, TakesAnswers, Texts, WroteTexts}
-use Rattle.session_shell.specs.Law.{Agree, IsDetermined, IsNamed, IsShown, SeeAlike, Undisturbed, front_at, is_wanting, kept_place, seen_front}
+use Rattle.session_shell.specs.Law.{Agree, IsDetermined, IsNamed, IsShown, SeeAlike, Undisturbed, basis_at, is_wanting, kept_place, turn_basis}
 use Rattle.session_shell.specs.Shows.{SeesShow, whole_show}
 use Rattle.session_shell.proofs.TurnLemmas.{flat_map_over_append}
 use Rattle.session_shell.proofs.TakeLemmas.{not_full}
@@ -180,30 +180,91 @@ manner_once once NoJson (Json text') command command' given is w w' wet wet' = a
 manner_once once NoJson Dry command command' given is w w' wet wet' = absurd (false≢true (sym wet'))
 manner_once once NoJson NoJson command command' given is w w' wet wet' = refl
 
--- turns of events and of snapshots, whether memory was wanting for JSON or not
-kept_in : (dry : Bool) (place : ℕ) → kept_place (kept_turn dry place) ≡ place ∷ []
-kept_in true place = refl
-kept_in false place = refl
+-- the place of an event as a list
+abbrev pub places_in : Given0 → List ℕ
+places_in (given.Kept place reply) = place ∷ []
+places_in given = []
 
-pub kept_front : (dry : Bool) (place : ℕ) → seen_front (kept_turn dry place) ≡ None
-kept_front true place = refl
-kept_front false place = refl
+-- the turn of what was given has its place, or rests on the same, whether memory was wanting for JSON or not
+turn_place : (manner : Manner) (moment : ℕ) (gave : Given0) → kept_place (turn_of_given manner moment gave) ≡ places_in gave
+turn_place manner moment (given.Kept place reply) = by (is_dry manner)
+  where
+    by : (dry : Bool) → kept_place (kept_turn dry place) ≡ place ∷ []
+    by true = refl
+    by false = refl
+turn_place manner moment (given.Seen front reply) = by (is_dry manner)
+  where
+    by : (dry : Bool) → kept_place (seen_turn dry front moment) ≡ []
+    by true = refl
+    by false = refl
+turn_place manner moment (given.Denied front right) = refl
+turn_place manner moment (given.Unready front) = refl
+turn_place manner moment given.NoMemory = refl
 
-seen_in : (dry : Bool) (front moment : ℕ) → kept_place (seen_turn dry front moment) ≡ []
-seen_in true front moment = refl
-seen_in false front moment = refl
+pub turn_rests : (manner : Manner) (moment : ℕ) (gave : Given0) → turn_basis (turn_of_given manner moment gave) ≡ basis_of gave
+turn_rests manner moment (given.Kept place reply) = by (is_dry manner)
+  where
+    by : (dry : Bool) → turn_basis (kept_turn dry place) ≡ None
+    by true = refl
+    by false = refl
+turn_rests manner moment (given.Seen front reply) = by (is_dry manner)
+  where
+    by : (dry : Bool) → turn_basis (seen_turn dry front moment) ≡ Some (Snapshot front)
+    by true = refl
+    by false = refl
+turn_rests manner moment (given.Denied front right) = refl
+turn_rests manner moment (given.Unready front) = refl
+turn_rests manner moment given.NoMemory = refl
 
-pub seen_at : (dry : Bool) (front moment : ℕ) → seen_front (seen_turn dry front moment) ≡ Some front
-seen_at true front moment = refl
-seen_at false front moment = refl
+-- snapshots of as many entries are one basis
+pub same_front : (front front' : ℕ) → Some (Snapshot front) ≡ Some (Snapshot front') → front ≡ front'
+same_front front front' is = cc
 
-pub not_dry : (manner : Manner) (moment : ℕ) (given : Given0) → is_wanting (turn_of_given manner moment given) ≡ false → is_dry manner ≡ false
-not_dry Plain moment given want = refl
-not_dry (Json text) moment given want = refl
-not_dry NoJson moment given want = refl
-not_dry Dry moment (given.Kept place reply) want = absurd (false≢true (sym want))
-not_dry Dry moment (given.Seen front reply) want = absurd (false≢true (sym want))
-not_dry Dry moment given.NoMemory want = absurd (false≢true (sym want))
+-- what was given has a place or a basis, unless it is want of memory
+pub record HasPlace (gave : Given0) : Type 0 where
+  pub place : ℕ
+  pub is : place_of gave ≡ Some place
+  pub listed : places_in gave ≡ place ∷ []
+  pub no_basis : basis_of gave ≡ None
+
+pub record HasBasis (gave : Given0) : Type 0 where
+  pub basis : Basis
+  pub is : basis_of gave ≡ Some basis
+  pub no_place : place_of gave ≡ None
+  pub listed : places_in gave ≡ []
+
+pub place_or_basis : (gave : Given0) → (gave ≡ given.NoMemory → ⊥) → HasPlace gave ⊎ HasBasis gave
+place_or_basis (given.Kept place reply) some = inl (record { place = place; is = refl; listed = refl; no_basis = refl })
+place_or_basis (given.Seen front reply) some = inr (record { basis = Snapshot front; is = refl; no_place = refl; listed = refl })
+place_or_basis (given.Denied front right) some = inr (record { basis = Lack front right; is = refl; no_place = refl; listed = refl })
+place_or_basis (given.Unready front) some = inr (record { basis = Failure front; is = refl; no_place = refl; listed = refl })
+place_or_basis given.NoMemory some = absurd (some refl)
+
+-- where two answers rest on the same, their places are one, and so are those after them
+same_place : (gave gave' : Given0) (more more' : List ℕ) → basis_of gave ≡ basis_of gave' → places_in gave ++ more ≡ places_in gave' ++ more'
+    → HasPlace gave ⊎ HasBasis gave → HasPlace gave' ⊎ HasBasis gave' → (place_of gave ≡ place_of gave') × (more ≡ more')
+same_place gave gave' more more' rests places (inl at) (inl at') =
+    let is : at.place ∷ more ≡ at'.place ∷ more' = ap (λ l. l ++ more) (sym at.listed) ∙ places ∙ ap (λ l. l ++ more') at'.listed in
+    (at.is ∙ ap Some (head_is is) ∙ sym at'.is, tail_is is)
+same_place gave gave' more more' rests places (inr on) (inr on') =
+    (on.no_place ∙ sym on'.no_place, ap (λ l. l ++ more) (sym on.listed) ∙ places ∙ ap (λ l. l ++ more') on'.listed)
+same_place gave gave' more more' rests places (inl at) (inr on') = absurd (none-some on'.basis (sym at.no_basis ∙ rests ∙ on'.is))
+same_place gave gave' more more' rests places (inr on) (inl at') = absurd (none-some on.basis (sym at'.no_basis ∙ sym rests ∙ on.is))
+
+-- a turn that isn't of want of memory is of something given
+pub given_some : (manner : Manner) (moment : ℕ) (gave : Given0) → is_wanting (turn_of_given manner moment gave) ≡ false → gave ≡ given.NoMemory → ⊥
+given_some manner moment gave want is = false≢true (sym want ∙ ap (λ g. is_wanting (turn_of_given manner moment g)) is)
+
+-- and memory wasn't wanting for its JSON
+pub not_dry : (manner : Manner) (command : Command) (moment : ℕ) (gave : Given0) → MayBeWritten command gave manner → is_wanting (turn_of_given manner moment gave) ≡ false → is_dry manner ≡ false
+not_dry Plain command moment gave written want = refl
+not_dry (Json text) command moment gave written want = refl
+not_dry NoJson command moment gave written want = refl
+not_dry Dry command moment (given.Kept place reply) written want = absurd (false≢true (sym want))
+not_dry Dry command moment (given.Seen front reply) written want = absurd (false≢true (sym want))
+not_dry Dry command moment (given.Denied front right) written want = absurd (false≢true written.1)
+not_dry Dry command moment (given.Unready front) written want = absurd (false≢true written.1)
+not_dry Dry command moment given.NoMemory written want = absurd (false≢true (sym want))
 
 read_once : Once → (configuring : Bool) (reading : Reading) (line : List ℕ) (one other : Option Item × Reading) → CommandLine configuring reading line one → CommandLine configuring reading line other → one ≡ other
 read_once once configuring reading line one other first second =
@@ -440,7 +501,7 @@ module _ {D : Type 0} (follows : Following D) (once : Once) (limit : ℕ) (bytes
       text' : other.held ≡ held_after (Some []) (flat_map text_written all_of')
       text' = all_text second.how second.session.asked second.session.final (record { coming = Some coming; held = Some []; faults = second.faults; turns = [] }) other second.ended second.no_fault second.session.texts
 
--- two doors that name the same, events at the same places, and snapshots of as many entries
+-- two doors that name the same, events at the same places, and answers without events that rest on the same
 record AtPlaces {D : Type 0} (names : Naming D) (d e : D) (xs ys : List Exchange) : Type 0 where
   pub places : flat_map kept_place (map turn_taken xs) ≡ flat_map kept_place (map turn_taken ys)
   pub seen : SeeAlike (map turn_taken xs) (map turn_taken ys)
@@ -458,53 +519,37 @@ asked_is once moment moment' command command' given given' manner manner' when i
     ap (λ m. Asked m command given manner) when ∙ ap (λ x. Asked moment' x given manner) which ∙ ap (λ g. Asked moment' command' g manner) same ∙ ap (Asked moment' command' given') how
 
 module _ {D : Type 0} (names : Naming D) (d e : D) (agree : Agree names d e) (once : Once) where
-  -- the same item at the same moment came to the same, where the place and the front are
+  -- the same item at the same moment came to the same, where the place and the basis are
   asked_same : (moment moment' : ℕ) (command command' : Command) (given given' : Given0) (manner manner' : Manner) → asked_item manner command ≡ asked_item manner' command' → moment ≡ moment'
       → MayBeWritten command given manner → MayBeWritten command' given' manner' → is_wanting (turn_of_given manner moment given) ≡ false → is_wanting (turn_of_given manner' moment' given') ≡ false
-      → names d command moment given → names e command' moment' given' → place_of given ≡ place_of given' → front_of given ≡ front_of given'
+      → names d command moment given → names e command' moment' given' → place_of given ≡ place_of given' → basis_of given ≡ basis_of given'
       → Asked moment command given manner ≡ Asked moment' command' given' manner'
-  asked_same moment moment' command command' given given' manner manner' item when w w' want want' named named' place front =
+  asked_same moment moment' command command' given given' manner manner' item when w w' want want' named named' place basis =
       let which : command ≡ command' = command_once manner manner' command command' given given' item w w' in
       let there : names e command moment given' =
       subst (λ m. names e command m given') (sym when) (subst (λ x. names e x moment' given') (sym which) named') in
-      asked_is once moment moment' command command' given given' manner manner' when item (agree command moment given given' named there place front) w w' (not_dry manner moment given want) (not_dry manner' moment' given' want')
+      asked_is once moment moment' command command' given given' manner manner' when item (agree command moment given given' named there place basis) w w' (not_dry manner command moment given w want) (not_dry manner' command' moment' given' w' want')
 
   peels_places : Peels (AtPlaces names d e)
-  peels_places (Asked moment command (given.Kept place reply) manner) (Asked moment' command' (given.Kept place' reply') manner') xs ys item when want want' at =
-      let is : place ∷ flat_map kept_place (map turn_taken xs) ≡ place' ∷ flat_map kept_place (map turn_taken ys) =
-      ap (λ l. l ++ flat_map kept_place (map turn_taken xs)) (sym (kept_in (is_dry manner) place)) ∙ at.places ∙ ap (λ l. l ++ flat_map kept_place (map turn_taken ys)) (kept_in (is_dry manner') place') in (
-        asked_same moment moment' command command' (given.Kept place reply) (given.Kept place' reply') manner manner' item when at.written.0 at.written'.0 want want' at.named.0 at.named'.0 (ap Some (head_is is)) refl,
-        record { places = tail_is is; seen = λ number. at.seen (suc number); named = at.named.1; named' = at.named'.1; written = at.written.1; written' = at.written'.1 },
+  peels_places (Asked moment command given manner) (Asked moment' command' given' manner') xs ys item when want want' at =
+      let basis : basis_of given ≡ basis_of given' = sym (turn_rests manner moment given) ∙ at.seen 0 ∙ turn_rests manner' moment' given' in
+      let more : List ℕ = flat_map kept_place (map turn_taken xs) in
+      let more' : List ℕ = flat_map kept_place (map turn_taken ys) in
+      let places : (place_of given ≡ place_of given') × (more ≡ more') =
+      same_place given given' more more' basis
+      (ap (λ l. l ++ more) (sym (turn_place manner moment given)) ∙ at.places ∙ ap (λ l. l ++ more') (turn_place manner' moment' given'))
+      (place_or_basis given (given_some manner moment given want)) (place_or_basis given' (given_some manner' moment' given' want')) in (
+        asked_same moment moment' command command' given given' manner manner' item when at.written.0 at.written'.0 want want' at.named.0 at.named'.0 places.0 basis,
+        record { places = places.1; seen = λ number. at.seen (suc number); named = at.named.1; named' = at.named'.1; written = at.written.1; written' = at.written'.1 },
       )
-  peels_places (Asked moment command (given.Seen front reply) manner) (Asked moment' command' (given.Seen front' reply') manner') xs ys item when want want' at = (
-    asked_same moment moment' command command' (given.Seen front reply) (given.Seen front' reply') manner manner' item when at.written.0 at.written'.0 want want' at.named.0 at.named'.0 refl
-        (sym (seen_at (is_dry manner) front moment) ∙ at.seen 0 ∙ seen_at (is_dry manner') front' moment'),
-    record {
-      places = ap (λ l. l ++ flat_map kept_place (map turn_taken xs)) (sym (seen_in (is_dry manner) front moment)) ∙ at.places ∙ ap (λ l. l ++ flat_map kept_place (map turn_taken ys)) (seen_in (is_dry manner') front' moment');
-      seen = λ number. at.seen (suc number);
-      named = at.named.1;
-      named' = at.named'.1;
-      written = at.written.1;
-      written' = at.written'.1;
-    },
-  )
-  peels_places (Asked moment command (given.Kept place reply) manner) (Asked moment' command' (given.Seen front' reply') manner') xs ys item when want want' at =
-      absurd (none-some front' (sym (kept_front (is_dry manner) place) ∙ at.seen 0 ∙ seen_at (is_dry manner') front' moment'))
-  peels_places (Asked moment command (given.Seen front reply) manner) (Asked moment' command' (given.Kept place' reply') manner') xs ys item when want want' at =
-      absurd (none-some front (sym (kept_front (is_dry manner') place') ∙ sym (at.seen 0) ∙ seen_at (is_dry manner) front moment))
-  peels_places (Asked moment command given.NoMemory manner) y xs ys item when want want' at = absurd (false≢true (sym want))
-  peels_places (Asked moment command (given.Kept place reply) manner) (Asked moment' command' given.NoMemory manner') xs ys item when want want' at = absurd (false≢true (sym want'))
-  peels_places (Asked moment command (given.Seen front reply) manner) (Asked moment' command' given.NoMemory manner') xs ys item when want want' at = absurd (false≢true (sym want'))
   peels_places (Refused moment fault) (Refused moment' fault') xs ys item when want want' at = (
     ap (λ m. Refused m fault) when ∙ ap (Refused moment') (fault_is fault fault' item),
     record { places = at.places; seen = λ number. at.seen (suc number); named = at.named.1; named' = at.named'.1; written = at.written.1; written' = at.written'.1 },
   )
-  peels_places (Asked moment command (given.Kept place reply) manner) (Refused moment' fault') xs ys item when want want' at = absurd (item_wrong manner command fault' item)
-  peels_places (Asked moment command (given.Seen front reply) manner) (Refused moment' fault') xs ys item when want want' at = absurd (item_wrong manner command fault' item)
+  peels_places (Asked moment command given manner) (Refused moment' fault') xs ys item when want want' at = absurd (item_wrong manner command fault' item)
   peels_places (Refused moment fault) (Asked moment' command' given' manner') xs ys item when want want' at = absurd (item_wrong manner' command' fault (sym item))
   peels_places (Wanted moment) y xs ys item when want want' at = absurd (false≢true (sym want))
-  peels_places (Asked moment command (given.Kept place reply) manner) (Wanted moment') xs ys item when want want' at = absurd (false≢true (sym want'))
-  peels_places (Asked moment command (given.Seen front reply) manner) (Wanted moment') xs ys item when want want' at = absurd (false≢true (sym want'))
+  peels_places (Asked moment command given manner) (Wanted moment') xs ys item when want want' at = absurd (false≢true (sym want'))
   peels_places (Refused moment fault) (Wanted moment') xs ys item when want want' at = absurd (false≢true (sym want'))
 
 -- two doors that stood alike, and went on by what they were asked
@@ -515,16 +560,12 @@ record FromOne {D : Type 0} (follows : Following D) (e e' : D) (xs ys : List Exc
   pub written : AllByRecursion IsWrittenIn xs
   pub written' : AllByRecursion IsWrittenIn ys
 
--- a turn that isn't of want of memory is of something given
-pub given_some : (manner : Manner) (moment : ℕ) (gave : Given0) → is_wanting (turn_of_given manner moment gave) ≡ false → gave ≡ given.NoMemory → ⊥
-given_some manner moment gave want is = false≢true (sym want ∙ ap (λ g. is_wanting (turn_of_given manner moment g)) is)
-
 peels_one : {D : Type 0} (follows : Following D) (e e' : D) → IsDetermined follows → Once → Peels (FromOne follows e e')
 peels_one follows e e' determined once (Asked moment command given manner) (Asked moment' command' given' manner') xs ys item when want want' from =
     let which : command ≡ command' = command_once manner manner' command command' given given' item from.written.0 from.written'.0 in
     let did : follows from.start command moment given' from.went'.0 = subst (λ m. follows from.start command m given' from.went'.0) (sym when) (subst (λ x. follows from.start x moment' given' from.went'.0) (sym which) from.went'.1) in
     let same : (given ≡ given') × (from.went.0 ≡ from.went'.0) = determined from.start from.went.0 from.went'.0 command moment given given' from.went.1 did (given_some manner moment given want) (given_some manner' moment' given' want') in (
-      asked_is once moment moment' command command' given given' manner manner' when item same.0 from.written.0 from.written'.0 (not_dry manner moment given want) (not_dry manner' moment' given' want'),
+      asked_is once moment moment' command command' given given' manner manner' when item same.0 from.written.0 from.written'.0 (not_dry manner command moment given from.written.0 want) (not_dry manner' command' moment' given' from.written'.0 want'),
       record { start = from.went'.0; went = subst (λ x. GoesBy follows xs x e) same.1 from.went.2; went' = from.went'.2; written = from.written.1; written' = from.written'.1 },
     )
 peels_one follows e e' determined once (Refused moment fault) (Refused moment' fault') xs ys item when want want' from =
@@ -535,7 +576,7 @@ peels_one follows e e' determined once (Wanted moment) y xs ys item when want wa
 peels_one follows e e' determined once (Asked moment command given manner) (Wanted moment') xs ys item when want want' from = absurd (false≢true (sym want'))
 peels_one follows e e' determined once (Refused moment fault) (Wanted moment') xs ys item when want want' from = absurd (false≢true (sym want'))
 
--- two sessions at the same places, and over snapshots of as many entries, of doors that name the same
+-- two sessions at the same places, with answers without events that rest on the same, of doors that name the same
 pub one_text : {D : Type 0} (names : Naming D) (follows : Following D) (named : (d e : D) (command : Command) (moment : ℕ) (given : Given0) → follows d command moment given e → names e command moment given)
     (keeps : (d e : D) (command : Command) (moment : ℕ) (given : Given0) → follows d command moment given e → (asked : Command) (when : ℕ) (was : Given0) → names d asked when was → names e asked when was) → Once →
     (limit : ℕ) (bytes : List ℕ) (coming : ℕ → ℕ) (d e d' e' : D) (one other : SessionView) → Undisturbed follows limit bytes coming d e one → Undisturbed follows limit bytes coming d' e' other → Agree names e e' →
@@ -543,7 +584,7 @@ pub one_text : {D : Type 0} (names : Naming D) (follows : Following D) (named : 
 one_text names follows named keeps once limit bytes coming d e d' e' one other first second agree places seen =
     outcome_same follows once limit bytes coming d e d' e' one other first second (all_same follows once limit bytes coming d e d' e' one other first second (AtPlaces names e e') (peels_places names e e' agree once) (record {
       places = ap (flat_map kept_place) (sym first.session.turns.turned) ∙ places ∙ ap (flat_map kept_place) second.session.turns.turned;
-      seen = λ number. ap (λ turns. front_at turns number) (sym first.session.turns.turned) ∙ seen number ∙ ap (λ turns. front_at turns number) second.session.turns.turned;
+      seen = λ number. ap (λ turns. basis_at turns number) (sym first.session.turns.turned) ∙ seen number ∙ ap (λ turns. basis_at turns number) second.session.turns.turned;
       named = all_named names follows named keeps (first.session.asked ++ first.session.final) d e first.session.turns.asked;
       named' = all_named names follows named keeps (second.session.asked ++ second.session.final) d' e' second.session.turns.asked;
       written = first.session.turns.written;

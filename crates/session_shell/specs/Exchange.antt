@@ -1,13 +1,14 @@
 -- What a session's items came to, one by one. The rules are this project's own.
 use Rattle.std.specs.Prelude.{ℕ, List, Bool, true, false, if◌then◌else◌, Option, None, Some}
+use Rattle.access_rules.specs.declared.right.Right.{Right}
 use Rattle.commands.specs.declared.command.Command.{Command}
 use Rattle.config_core.specs.declared.reply.Reply.{Reply}
 use Rattle.config_core.specs.declared.reply.Reply.TheVariants.{Done, LoggedOut, Text, Entered, Left}
-use Rattle.config_core.specs.declared.reply.Reply.TheVariants.{Loaded, Checked, Committed, Refused as Denied}
+use Rattle.config_core.specs.declared.reply.Reply.TheVariants.{Loaded, Checked, Committed, Refused as Declined}
 use Rattle.reply_text.specs.declared.fault.ShellFault.{ShellFault}
-use Rattle.reply_text.specs.Texts.{text_of_reply, text_of_fault, no_memory_text}
+use Rattle.reply_text.specs.Texts.{text_of_denial, text_of_fault, text_of_reply, no_memory_text, unready_text}
 use Rattle.session_shell.specs.declared.door.Given0.{Given0}
-use Rattle.session_shell.specs.declared.door.Given0.TheVariants.{Kept, Seen, NoMemory}
+use Rattle.session_shell.specs.declared.door.Given0.TheVariants.{Kept, Seen, Denied, Unready, NoMemory}
 use Rattle.session_shell.specs.declared.json_show.Manner.{Manner}
 use Rattle.session_shell.specs.declared.json_show.Manner.TheVariants.{Plain, Json, Dry, NoJson}
 use Rattle.session_shell.specs.declared.reading.Item.{Item}
@@ -23,13 +24,24 @@ use Rattle.session_shell.specs.Json.{MayBeWritten}
 abbrev pub place_of : Given0 → Option ℕ
 place_of (Kept place reply) = Some place
 place_of (Seen front reply) = None
+place_of (Denied front right) = None
+place_of (Unready front) = None
 place_of NoMemory = None
 
--- how many entries the snapshot has from which it was read
-abbrev pub front_of : Given0 → Option ℕ
-front_of (Kept place reply) = None
-front_of (Seen front reply) = Some front
-front_of NoMemory = None
+-- on what an answer rests where no event was made, each with how many entries the list of commits had: on a snapshot of the list,
+-- on the right that is lacking, or on the fault of a disk
+pub data Basis : Type 0 where
+  Snapshot : (front : ℕ) → Basis
+  Lack : (front : ℕ) (right : Right) → Basis
+  Failure : (front : ℕ) → Basis
+
+-- that of what was given
+abbrev pub basis_of : Given0 → Option Basis
+basis_of (Kept place reply) = None
+basis_of (Seen front reply) = Some (Snapshot front)
+basis_of (Denied front right) = Some (Lack front right)
+basis_of (Unready front) = Some (Failure front)
+basis_of NoMemory = None
 
 -- an item with the clock's answer that it took: the command, what the door gave for it, and how that is written; or the fault for
 -- which it was refused; or want of memory, before anything was asked
@@ -80,6 +92,8 @@ seen_turn dry front moment = if dry then turn.SeenDry front moment else turn.See
 abbrev pub turn_of_given : Manner → ℕ → Given0 → Turn
 turn_of_given manner moment (Kept place reply) = kept_turn (is_dry manner) place
 turn_of_given manner moment (Seen front reply) = seen_turn (is_dry manner) front moment
+turn_of_given manner moment (Denied front right) = turn.Denied front right moment
+turn_of_given manner moment (Unready front) = turn.Unready front moment
 turn_of_given manner moment NoMemory = turn.NoMemory
 
 -- the turn that stands for an item
@@ -92,6 +106,8 @@ turn_taken (Wanted moment) = turn.NoMemory
 abbrev pub text_of_given : Given0 → List ℕ
 text_of_given (Kept place reply) = text_of_reply reply
 text_of_given (Seen front reply) = text_of_reply reply
+text_of_given (Denied front right) = text_of_denial right
+text_of_given (Unready front) = unready_text
 text_of_given NoMemory = no_memory_text
 
 -- the same, by how it is written
@@ -117,12 +133,14 @@ after_reply reading Left = Operational
 after_reply reading Loaded = reading
 after_reply reading Checked = reading
 after_reply reading (Committed minutes quit) = if quit then Operational else reading
-after_reply reading (Denied refusal) = reading
+after_reply reading (Declined refusal) = reading
 
--- how a session reads on after what was given; what is read from a snapshot moves nobody
+-- how a session reads on after what was given; where no event was made nobody moves
 abbrev pub after_given : Reading → Given0 → Reading
 after_given reading (Kept place reply) = after_reply reading reply
 after_given reading (Seen front reply) = reading
+after_given reading (Denied front right) = reading
+after_given reading (Unready front) = reading
 after_given reading NoMemory = reading
 
 -- how a session reads on after an item

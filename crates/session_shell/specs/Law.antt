@@ -6,10 +6,10 @@ use Rattle.commands.specs.declared.command.Command.{Command}
 use Rattle.session_shell.specs.declared.turn.How.{How}
 use Rattle.session_shell.specs.declared.turn.How.TheVariants.{Clean, InputFull}
 use Rattle.session_shell.specs.declared.turn.Turn.{Turn}
-use Rattle.session_shell.specs.declared.turn.Turn.TheVariants.{Kept, KeptDry, Seen, SeenDry, Local, NoMemory}
+use Rattle.session_shell.specs.declared.turn.Turn.TheVariants.{Kept, KeptDry, Seen, SeenDry, Denied, Unready, Local, NoMemory}
 use Rattle.session_shell.specs.declared.door.Given0.{Given0}
 use Rattle.session_shell.specs.declared.door.Given0.TheVariants.{NoMemory as Wanting}
-use Rattle.session_shell.specs.Exchange.{Exchange, Asked, Refused, Wanted, front_of, place_of}
+use Rattle.session_shell.specs.Exchange.{Basis, Exchange, Asked, Failure, Lack, Refused, Snapshot, Wanted, basis_of, place_of}
 use Rattle.session_shell.specs.Shows.{SeesShow}
 use Rattle.session_shell.specs.Transcript.{Following, IsTranscript, Naming, SessionView, side}
 
@@ -25,11 +25,11 @@ IsShown (Asked moment command given manner) = SeesShow command given
 IsShown (Refused moment fault) = Unit {0}
 IsShown (Wanted moment) = Unit {0}
 
--- two doors name the same for a command, a moment and a place, and for a snapshot of as many entries
+-- two doors name the same for a command, a moment and a place, and on the same basis
 abbrev pub Agree : {D : Type 0} → Naming D → D → D → Type 0
 Agree names d e =
     (command : Command) (moment : ℕ) (given other : Given0) → names d command moment given
-    → names e command moment other → place_of given ≡ place_of other → front_of given ≡ front_of other → given ≡ other
+    → names e command moment other → place_of given ≡ place_of other → basis_of given ≡ basis_of other → given ≡ other
 
 -- a door that is asked one command at one moment has one way to go on, where memory doesn't run out
 abbrev pub IsDetermined : {D : Type 0} → Following D → Type 0
@@ -44,27 +44,32 @@ kept_place (Kept place) = place ∷ []
 kept_place (KeptDry place) = place ∷ []
 kept_place (Seen front moment) = []
 kept_place (SeenDry front moment) = []
+kept_place (Denied front right moment) = []
+kept_place (Unready front moment) = []
 kept_place (Local fault) = []
 kept_place NoMemory = []
 
--- how many entries the snapshot has that a turn was answered from
-abbrev pub seen_front : Turn → Option ℕ
-seen_front (Kept place) = None
-seen_front (KeptDry place) = None
-seen_front (Seen front moment) = Some front
-seen_front (SeenDry front moment) = Some front
-seen_front (Local fault) = None
-seen_front NoMemory = None
+-- on what a turn rests that was answered without an event
+abbrev pub turn_basis : Turn → Option Basis
+turn_basis (Kept place) = None
+turn_basis (KeptDry place) = None
+turn_basis (Seen front moment) = Some (Snapshot front)
+turn_basis (SeenDry front moment) = Some (Snapshot front)
+turn_basis (Denied front right moment) = Some (Lack front right)
+turn_basis (Unready front moment) = Some (Failure front)
+turn_basis (Local fault) = None
+turn_basis NoMemory = None
 
 -- the same, of the turn with that number, counted from 0
-abbrev pub front_at : List Turn → ℕ → Option ℕ
-front_at [] number = None
-front_at (turn ∷ turns) zero = seen_front turn
-front_at (turn ∷ turns) (suc number) = front_at turns number
+abbrev pub basis_at : List Turn → ℕ → Option Basis
+basis_at [] number = None
+basis_at (turn ∷ turns) zero = turn_basis turn
+basis_at (turn ∷ turns) (suc number) = basis_at turns number
 
--- the same ones of two sessions' turns were answered from snapshots, and these have as many entries
+-- the same ones of two sessions' turns were answered without an event, and these rest on the same: on snapshots of as many entries,
+-- on the same right that is lacking, or on the fault of a disk
 abbrev pub SeeAlike : List Turn → List Turn → Type 0
-SeeAlike one other = (number : ℕ) → front_at one number ≡ front_at other number
+SeeAlike one other = (number : ℕ) → basis_at one number ≡ basis_at other number
 
 -- memory ran out for an item, or for the JSON of what was given for it
 abbrev pub is_wanting : Turn → Bool
@@ -72,6 +77,8 @@ is_wanting (Kept place) = false
 is_wanting (KeptDry place) = true
 is_wanting (Seen front moment) = false
 is_wanting (SeenDry front moment) = true
+is_wanting (Denied front right moment) = false
+is_wanting (Unready front moment) = false
 is_wanting (Local fault) = false
 is_wanting NoMemory = true
 

@@ -10,7 +10,7 @@ use Rattle.config_core.specs.declared.reply.Reply.{Reply}
 use Rattle.config_core.specs.declared.reply.Reply.TheVariants.{Text}
 use Rattle.curly_print.specs.Printed.{printed}
 use Rattle.session_shell.specs.declared.door.Given0.{Given0}
-use Rattle.session_shell.specs.declared.door.Given0.TheVariants.{Kept, Seen, NoMemory}
+use Rattle.session_shell.specs.declared.door.Given0.TheVariants.{Kept, Seen, Denied, Unready, NoMemory}
 
 -- the command shows the active configuration or the commits
 abbrev pub IsActiveShow : Command → Type 0
@@ -22,6 +22,8 @@ IsActiveShow command = ⊥
 abbrev pub SeesShow : Command → Given0 → Type 0
 SeesShow command (Kept place reply) = Unit {0}
 SeesShow command (Seen front reply) = IsActiveShow command
+SeesShow command (Denied front right) = Unit {0}
+SeesShow command (Unready front) = Unit {0}
 SeesShow command NoMemory = Unit {0}
 
 -- the show of the whole active configuration in curly form
@@ -37,6 +39,8 @@ text_in reply = None
 abbrev pub shown_text : Given0 → Option (List ℕ)
 shown_text (Kept place reply) = text_in reply
 shown_text (Seen front reply) = text_in reply
+shown_text (Denied front right) = None
+shown_text (Unready front) = None
 shown_text NoMemory = None
 
 -- a text is that of a whole configuration

@@ -13,7 +13,7 @@ use crate::turn::{How, Turn};
 use cfg_base::Moment;
 use config_core::Reply;
 use io_edge::{Line, PutFailed, Sink, put_all};
-use reply_text::{put_no_memory, put_reply};
+use reply_text::{put_denied, put_no_memory, put_reply, put_unready};
 
 /// Whether memory for JSON was wanting.
 fn is_dry(manner: &Manner) -> bool
@@ -49,6 +49,15 @@ pub(crate) fn turn_of(moment: Moment, given: &Given0, manner: &Manner) -> Turn
     match given {
         Given0::Kept { place, reply: _ } => kept_turn(is_dry(manner), *place),
         Given0::Seen { front, reply: _ } => seen_turn(is_dry(manner), *front, moment),
+        Given0::Denied { front, right } => Turn::Denied {
+            front: *front,
+            right: *right,
+            moment,
+        },
+        Given0::Unready { front } => Turn::Unready {
+            front: *front,
+            moment,
+        },
         Given0::NoMemory => Turn::NoMemory,
     }
 }
@@ -82,6 +91,7 @@ fn follow(reading: &mut Reading, given: &Given0)
     match given {
         Given0::Kept { place: _, reply } => follow_reply(reading, reply),
         Given0::Seen { .. } | Given0::NoMemory => {}
+        Given0::Denied { .. } | Given0::Unready { .. } => {}
     }
 }
 
@@ -92,6 +102,8 @@ fn put_own<K: Sink>(sink: &mut K, given: &Given0) -> Result<(), PutFailed>
 {
     match given {
         Given0::Kept { reply, .. } | Given0::Seen { reply, .. } => put_reply(sink, reply),
+        Given0::Denied { front: _, right } => put_denied(sink, *right),
+        Given0::Unready { front: _ } => put_unready(sink),
         Given0::NoMemory => put_no_memory(sink),
     }
 }

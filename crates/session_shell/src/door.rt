@@ -6,6 +6,7 @@ ghost use Rattle.commands.specs.declared.command.Command.{Command};
 ghost use Rattle.session_shell.specs.declared.door.Given0.{Given0};
 ghost use Rattle.session_shell.specs.Shows.{PrintsWhole, SeesShow};
 
+use access_rules::Right;
 use cfg_base::Moment;
 use commands::Command;
 use config_core::Reply;
@@ -18,13 +19,17 @@ pub enum Given0 {
     Kept { place: u64, reply: Reply },
     /// No event was made: the reply was read from a snapshot that has that many entries of the list of commits.
     Seen { front: u64, reply: Reply },
+    /// No event was made: the caller's user lacks that right, by the first so many entries of the list of commits.
+    Denied { front: u64, right: Right },
+    /// No event was made: a disk failed before the command was asked, and the list of commits has that many entries.
+    Unready { front: u64 },
     /// Memory ran out.
     NoMemory,
 }
 
 /// What a session asks its commands of: the machine, as one caller sees it.
 pub trait Door {
-    // what belongs to a command at a moment: the event at its place, or a snapshot, with its reply
+    // what belongs to a command at a moment: the event at its place, or a snapshot, with its reply; or why there is none
     ghost names: { Self → Command → ℕ → Given0 → Type 0 };
 
     // how the door may stand after one command at a moment, for which that was given

@@ -54,7 +54,7 @@ fn shown_text(given: &Given0) -> Option<&Bytes>
 {
     match given {
         Given0::Kept { place: _, reply } | Given0::Seen { front: _, reply } => text_in(reply),
-        Given0::NoMemory => None,
+        Given0::Denied { .. } | Given0::Unready { .. } | Given0::NoMemory => None,
     }
 }
 

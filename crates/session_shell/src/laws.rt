@@ -22,9 +22,9 @@ pub fn replies_are_named<D: Door>()
 {}
 
 /// Two sessions over the same bytes and the same clock that nothing disturbs have the same turns and the same text, where their
-/// events stand at the same places, the same turns were answered from snapshots of as many entries, and their doors name the
-/// same. Where other callers ask between, places differ. Over one door that leaves no choice nothing more is asked, and it ends
-/// alike.
+/// events stand at the same places, the same turns were answered without an event and rest on the same (snapshots of as many
+/// entries, rights that are lacking, faults of disks), and their doors name the same. Where other callers ask between, places
+/// differ. Over one door that leaves no choice nothing more is asked, and it ends alike.
 pub fn sessions_have_one_text<D: Door>()
     ensures text { (limit : ℕ) (bytes : List ℕ) (coming : ℕ → ℕ) (d e d' e' : D) (one other : SessionView)
         → Undisturbed D.follows limit bytes coming d e one → Undisturbed D.follows limit bytes coming d' e' other

@@ -1,5 +1,6 @@
 ghost use Rattle.std.specs.Prelude.{◌≡◌, [], IfSome};
 
+use access_rules::Right;
 use cfg_base::Moment;
 use reply_text::ShellFault;
 use std::alloc::Global;
@@ -14,9 +15,28 @@ pub enum Turn {
     /// The event at that place is a show that was answered with a text, and memory for its JSON was wanting.
     KeptDry(u64),
     /// What a snapshot of that many entries of the list of commits says, at that answer of the session's clock.
-    Seen { front: u64, moment: Moment },
+    Seen {
+        front: u64,
+        moment: Moment,
+    },
     /// The same, of a show that was answered with a text, and memory for its JSON was wanting.
-    SeenDry { front: u64, moment: Moment },
+    SeenDry {
+        front: u64,
+        moment: Moment,
+    },
+    /// The command was denied at that answer of the session's clock: its user lacks that right, by the first so many entries of the
+    /// list of commits.
+    Denied {
+        front: u64,
+        right: Right,
+        moment: Moment,
+    },
+    /// A disk failed before the command was asked, at that answer of the session's clock; the list of commits has that many
+    /// entries.
+    Unready {
+        front: u64,
+        moment: Moment,
+    },
     /// The line, or the text of a load, was refused.
     Local(ShellFault),
     /// Memory ran out.
