@@ -12,7 +12,7 @@ use Rattle.config_db.specs.declared.answer.Answered.TheVariants.{Kept as Done, N
 use Rattle.config_db.specs.View.{DatabaseView, opened}
 use Rattle.session_history.specs.Events.{IsLegal}
 use Rattle.session_shell.specs.declared.door.Given0.{Given0}
-use Rattle.session_shell.specs.declared.door.Given0.TheVariants.{Kept as KeptAt, Seen, NoMemory}
+use Rattle.session_shell.specs.declared.door.Given0.TheVariants.{Kept as KeptAt, Seen, Denied, Unready, NoMemory}
 use Rattle.session_shell.specs.Shows.{IsActiveShow, PrintsWhole}
 use Rattle.session_threads.specs.Adding.{given_of}
 use Rattle.session_threads.specs.Gates.{FollowsIn, GateView, GivesShow, GivesView, Learns, LooksAt, LooksIn, ReadsLast, ReadsOn}
@@ -49,6 +49,8 @@ gives_read command answer front shown (Seen number reply) reader read same count
   is_front = ap (λ (k : Kept). k.count) same ∙ sym count ∙ sym gives.0;
   shows = subst (λ k. ShowsKept k command reply) (sym same) gives.1;
 }
+gives_read command answer front shown (Denied number right) reader read same count gives = absurd gives
+gives_read command answer front shown (Unready number) reader read same count gives = absurd gives
 gives_read command answer front shown NoMemory reader read same count gives = tt
 
 module _ (command : Command) (answer : ℕ) (old new : ReaderView) (later : IsPrefix old.list new.list) (same : new.told ≡ old.told)
@@ -103,6 +105,8 @@ FollowsIn-looked d e command answer (Seen front reply) looked = record {
   comes = record { same = looked.same; is_show = looked.looks.is_show; answers = looked.looks.gives };
   prints = looked.looks.prints;
 }
+FollowsIn-looked d e command answer (Denied front right) looked = absurd looked.looks.gives
+FollowsIn-looked d e command answer (Unready front) looked = absurd looked.looks.gives
 FollowsIn-looked d e command answer NoMemory looked = record {
   goes = subst (WentOn d.pass) (sym looked.same) (WentOn-same d.pass looked.looks.own);
   reads = looked.reads;

@@ -5,7 +5,7 @@ use Rattle.config_core.specs.State.{State}
 use Rattle.session_history.specs.declared.history.Happened.{Happened}
 use Rattle.session_history.proofs.KeptLemmas.{WasKept-append}
 use Rattle.session_shell.specs.declared.door.Given0.{Given0}
-use Rattle.session_shell.specs.declared.door.Given0.TheVariants.{Kept as KeptAt, Seen, NoMemory}
+use Rattle.session_shell.specs.declared.door.Given0.TheVariants.{Kept as KeptAt, Seen, Denied, Unready, NoMemory}
 use Rattle.session_shell.specs.declared.turn.How.{How}
 use Rattle.session_shell.specs.declared.turn.Turn.{Turn}
 use Rattle.session_shell.specs.Exchange.{Exchange, Asked as AskedOf, Refused, Wanted}
@@ -40,6 +40,8 @@ module _ (opening : State) (caller : ℕ) (final more : List Happened) where
     shows = follows.shows;
     not_due = follows.not_due;
   }
+  Follows-later d command answer (Denied front right) e follows = absurd follows
+  Follows-later d command answer (Unready front) e follows = absurd follows
   Follows-later d command answer NoMemory e follows = follows
 
   goes_later : (exchanges : List Exchange) (d e : Known) → GoesBy (FollowsAsked opening caller final) exchanges d e

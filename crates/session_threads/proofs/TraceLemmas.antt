@@ -12,7 +12,7 @@ use Rattle.config_db.specs.View.{DatabaseView, opened}
 use Rattle.session_history.specs.declared.history.Happened.{Happened}
 use Rattle.session_history.specs.Kept.{WasKept}
 use Rattle.session_shell.specs.declared.door.Given0.{Given0}
-use Rattle.session_shell.specs.declared.door.Given0.TheVariants.{Kept as KeptAt, Seen, NoMemory}
+use Rattle.session_shell.specs.declared.door.Given0.TheVariants.{Kept as KeptAt, Seen, Denied, Unready, NoMemory}
 use Rattle.session_shell.specs.declared.turn.How.{How}
 use Rattle.session_shell.specs.declared.turn.Turn.{Turn}
 use Rattle.session_shell.specs.Exchange.{Exchange, Asked as AskedOf, Refused, Wanted}
@@ -188,6 +188,8 @@ module _ (never_fall : (one two : List Kept) (view later : Kept) → AreViews tw
             known = inl (IsPrefix-same e.reader.list);
           },
         )
+    one_known d e command answer (Denied shown right) front fixed is_caller within reaches goes = absurd goes.comes
+    one_known d e command answer (Unready shown) front fixed is_caller within reaches goes = absurd goes.comes
     one_known d e command answer NoMemory front fixed is_caller within reaches goes = (
       front,
       record {

@@ -15,7 +15,7 @@ use Rattle.session_history.specs.declared.history.Happened.{Happened}
 use Rattle.session_history.specs.Events.{IsLegal, Leads}
 use Rattle.session_history.specs.Kept.{WasKept}
 use Rattle.session_shell.specs.declared.door.Given0.{Given0}
-use Rattle.session_shell.specs.declared.door.Given0.TheVariants.{Kept as KeptAt, Seen, NoMemory}
+use Rattle.session_shell.specs.declared.door.Given0.TheVariants.{Kept as KeptAt, Seen, Denied, Unready, NoMemory}
 use Rattle.session_shell.specs.Shows.{IsActiveShow, PrintsWhole}
 use Rattle.session_threads.specs.Adding.{given_of}
 use Rattle.session_threads.specs.History.{FollowsTurn, HasEvent, ShowsKept}
@@ -70,6 +70,8 @@ pub record AnswersShow (command : Command) (answer front : ℕ) (reply : Reply) 
 abbrev pub GivesView : Command → ℕ → Kept → Given0 → Type 0
 GivesView command front view (KeptAt place reply) = ⊥
 GivesView command front view (Seen shown reply) = (shown ≡ front) × ShowsKept view command reply
+GivesView command front view (Denied shown right) = ⊥
+GivesView command front view (Unready shown) = ⊥
 GivesView command front view NoMemory = Unit {0}
 
 -- what a reader gave for a show: an answer, want of memory, or none, since a deadline has come
@@ -77,6 +79,8 @@ abbrev pub GivesShow : Command → ℕ → Option Given0 → ReaderView → Type
 GivesShow command answer None reader = ReadsLast answer true reader
 GivesShow command answer (Some (KeptAt place reply)) reader = ⊥
 GivesShow command answer (Some (Seen front reply)) reader = AnswersShow command answer front reply reader
+GivesShow command answer (Some (Denied front right)) reader = ⊥
+GivesShow command answer (Some (Unready front)) reader = ⊥
 GivesShow command answer (Some NoMemory) reader = Unit {0}
 
 -- a reader was asked for a show
@@ -155,6 +159,8 @@ WantingIn d command answer e =
 abbrev pub ComesIn : GateView → Command → ℕ → Given0 → GateView → Type 0
 ComesIn d command answer (KeptAt place reply) e = KeptIn d command answer place reply e
 ComesIn d command answer (Seen front reply) e = SeenIn d command answer front reply e
+ComesIn d command answer (Denied front right) e = ⊥
+ComesIn d command answer (Unready front) e = ⊥
 ComesIn d command answer NoMemory e = WantingIn d command answer e
 
 -- how a pass and its reader follow after one ask of their caller
@@ -180,4 +186,6 @@ NamesIn d command answer (KeptAt place reply) =
     (first : DatabaseView) → d.pass.fixed ≡ Some first
     → HasEvent (opened first) d.pass.caller d.pass.seen command answer (Done place reply)
 NamesIn d command answer (Seen front reply) = HasShown command front reply d.reader
+NamesIn d command answer (Denied front right) = ⊥
+NamesIn d command answer (Unready front) = ⊥
 NamesIn d command answer NoMemory = Unit {0}

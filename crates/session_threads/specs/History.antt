@@ -15,7 +15,7 @@ use Rattle.session_history.specs.declared.history.Happened.{Happened}
 use Rattle.session_history.specs.Events.{IsAskedAt, Leads, is_command, places_of, IsEventOf, NoCommand}
 use Rattle.session_history.specs.Kept.{WasKept}
 use Rattle.session_shell.specs.declared.door.Given0.{Given0}
-use Rattle.session_shell.specs.declared.door.Given0.TheVariants.{Kept as KeptAt, Seen, NoMemory}
+use Rattle.session_shell.specs.declared.door.Given0.TheVariants.{Kept as KeptAt, Seen, Denied, Unready, NoMemory}
 use Rattle.session_shell.specs.declared.turn.How.{How}
 use Rattle.session_shell.specs.declared.turn.Turn.{Turn}
 use Rattle.session_shell.specs.Shows.{IsActiveShow}
@@ -121,11 +121,14 @@ pub record FollowsWanting (opening : State) (caller : ℕ) (d : Known) (command 
   pub turn : FollowsTurn opening caller d.events command answer Wanting e.events
   pub front : e.front ≡ d.front
 
--- what a caller knows of a run after one ask, where all the run's events are these
+-- what a caller knows of a run after one ask, where all the run's events are these; no command is denied, and none finds a disk
+-- that isn't ready
 abbrev pub FollowsAsked : State → ℕ → List Happened → Known → Command → ℕ → Given0 → Known → Type 0
 FollowsAsked opening caller final d command answer (KeptAt place reply) e =
     FollowsKept opening caller final d command answer (Done place reply) e
 FollowsAsked opening caller final d command answer (Seen front reply) e = FollowsSeen opening final d command answer front reply e
+FollowsAsked opening caller final d command answer (Denied front right) e = ⊥
+FollowsAsked opening caller final d command answer (Unready front) e = ⊥
 FollowsAsked opening caller final d command answer NoMemory e = FollowsWanting opening caller d command answer e
 
 -- what belongs to a command: its event, or a list that was kept at some moment of the run
@@ -133,6 +136,8 @@ abbrev pub Names : State → ℕ → List Happened → Known → Command → ℕ
 Names opening caller final d command answer (KeptAt place reply) =
     HasEvent opening caller d.events command answer (Done place reply)
 Names opening caller final d command answer (Seen front reply) = HasView opening final command front reply
+Names opening caller final d command answer (Denied front right) = ⊥
+Names opening caller final d command answer (Unready front) = ⊥
 Names opening caller final d command answer NoMemory = Unit {0}
 
 -- a session of a caller over a part of the events of a run, which has all events of that caller: its ends and its turns

@@ -8,7 +8,7 @@ use Rattle.config_db.specs.declared.answer.Answered.TheVariants.{Kept as Done}
 use Rattle.config_db.specs.View.{opened}
 use Rattle.session_history.proofs.EventLemmas.{IsAsked-append}
 use Rattle.session_shell.specs.declared.door.Given0.{Given0}
-use Rattle.session_shell.specs.declared.door.Given0.TheVariants.{Kept as KeptAt, Seen, NoMemory}
+use Rattle.session_shell.specs.declared.door.Given0.TheVariants.{Kept as KeptAt, Seen, Denied, Unready, NoMemory}
 use Rattle.session_shell.specs.Shows.{PrintsWhole, SeesShow}
 use Rattle.session_threads.specs.Gates.{FollowsIn, GateView, NamesIn}
 use Rattle.session_threads.specs.History.{HasEvent}
@@ -37,6 +37,8 @@ names_given d e command answer (Seen front reply) goes = record {
   is_front = goes.comes.answers.is_front;
   shows = goes.comes.answers.shows;
 }
+names_given d e command answer (Denied front right) goes = absurd goes.comes
+names_given d e command answer (Unready front) goes = absurd goes.comes
 names_given d e command answer NoMemory goes = tt
 
 pub keeps_names : (d e : GateView) (command : Command) (answer : ℕ) (given : Given0)
@@ -55,12 +57,16 @@ keeps_names d e command answer given goes asked when (Seen front reply) named = 
   is_front = named.is_front;
   shows = named.shows;
 }
+keeps_names d e command answer given goes asked when (Denied front right) named = absurd named
+keeps_names d e command answer given goes asked when (Unready front) named = absurd named
 keeps_names d e command answer given goes asked when NoMemory named = tt
 
 pub shows_given : (d e : GateView) (command : Command) (answer : ℕ) (given : Given0)
     → FollowsIn d command answer given e → SeesShow command given
 shows_given d e command answer (KeptAt place reply) goes = tt
 shows_given d e command answer (Seen front reply) goes = goes.comes.is_show
+shows_given d e command answer (Denied front right) goes = tt
+shows_given d e command answer (Unready front) goes = tt
 shows_given d e command answer NoMemory goes = tt
 
 pub prints_given : (d e : GateView) (command : Command) (answer : ℕ) (given : Given0)
