@@ -25,6 +25,15 @@ fn say_turn(out: &mut Text, turn: &Turn) {
         Turn::KeptDry(place) => say_counted(out, "turn dry event", *place),
         Turn::Seen { front, moment } => say_seen(out, "seen", *front, *moment),
         Turn::SeenDry { front, moment } => say_seen(out, "dry seen", *front, *moment),
+        Turn::Denied {
+            front,
+            right,
+            moment,
+        } => {
+            say_seen(out, "denied", *front, *moment);
+            say_bytes(out, "lacking", right.word());
+        }
+        Turn::Unready { front, moment } => say_seen(out, "unready", *front, *moment),
         Turn::Local(ShellFault::Syntax(place)) => {
             say_counted(out, "turn syntax error at byte", u64::from(*place));
         }

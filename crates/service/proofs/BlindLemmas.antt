@@ -16,7 +16,7 @@ use Rattle.io_edge.specs.Ends.{held_after}
 use Rattle.session_history.specs.declared.history.Happened.{Happened}
 use Rattle.session_history.specs.Events.{IsAt, Leads}
 use Rattle.session_shell.specs.declared.door.Given0.{Given0}
-use Rattle.session_shell.specs.declared.door.Given0.TheVariants.{Kept as KeptAt, Seen, NoMemory}
+use Rattle.session_shell.specs.declared.door.Given0.TheVariants.{Kept as KeptAt, Seen, Denied, Unready, NoMemory}
 use Rattle.session_shell.specs.declared.json_show.Manner.{Manner}
 use Rattle.session_shell.specs.declared.json_show.Manner.TheVariants.{Plain, Json, Dry, NoJson}
 use Rattle.session_shell.specs.declared.reading.Item.{Item}
@@ -25,19 +25,20 @@ use Rattle.session_shell.specs.declared.reading.Reading.{Reading}
 use Rattle.session_shell.specs.declared.reading.Reading.TheVariants.{Operational, Configuring, Collecting, Spoilt, Out}
 use Rattle.session_shell.specs.declared.turn.How.{How}
 use Rattle.session_shell.specs.declared.turn.How.TheVariants.{Clean, InputFull}
-use Rattle.session_shell.specs.Exchange.{Exchange, Asked, Refused, Wanted, IsWrittenIn, is_dry, asked_item, reading_after, item_asked, moment_in, seen_turn, text_written, turn_taken}
+use Rattle.session_shell.specs.Exchange.{Exchange, Asked, Refused, Snapshot, Wanted, IsWrittenIn, is_dry, asked_item, reading_after, item_asked, moment_in, seen_turn, text_written, turn_taken}
 use Rattle.session_shell.specs.Items.{Continues, ReadsThrough}
 use Rattle.session_shell.specs.Json.{MayBeWritten}
 use Rattle.session_shell.specs.Law.{SeeAlike, is_wanting}
 use Rattle.session_shell.specs.Transcript.{GoesBy, LogsOut, SessionView, Texts, WroteTexts}
-use Rattle.session_shell.proofs.LawLemmas.{AllWere, Once, Peels, asked_is, command_once, fault_is, item_wrong, kept_front, not_dry, seen_at}
-use Rattle.session_threads.proofs.ListLemmas.{some_is}
+use Rattle.session_shell.proofs.LawLemmas.{AllWere, Once, Peels, asked_is, command_once, fault_is, item_wrong, not_dry, same_front, turn_rests}
 use Rattle.service.proofs.AloneLemmas.{FollowsPlain, turns_once}
 
 -- what was given, but for what a view said
 abbrev pub blind_given : Given0 → Given0
 blind_given (KeptAt place reply) = KeptAt place reply
 blind_given (Seen front reply) = Seen front SaysDone
+blind_given (Denied front right) = Denied front right
+blind_given (Unready front) = Unready front
 blind_given NoMemory = NoMemory
 
 -- how it is written: what a view didn't say has no JSON
@@ -50,6 +51,8 @@ unsaid NoJson = NoJson
 abbrev pub blind_manner : Given0 → Manner → Manner
 blind_manner (KeptAt place reply) manner = manner
 blind_manner (Seen front reply) manner = unsaid manner
+blind_manner (Denied front right) manner = manner
+blind_manner (Unready front) manner = manner
 blind_manner NoMemory manner = manner
 
 -- an item, but for what a view said of it
@@ -62,6 +65,8 @@ blind (Wanted moment) = Wanted moment
 abbrev pub FollowsBlind : State → ℕ → List Happened → Command → ℕ → Given0 → List Happened → Type 0
 FollowsBlind opening caller events command answer (KeptAt place reply) events' = FollowsPlain opening caller events command answer (DoneAt place reply) events'
 FollowsBlind opening caller events command answer (Seen front reply) events' = (events' ≡ events) × (reply ≡ SaysDone)
+FollowsBlind opening caller events command answer (Denied front right) events' = ⊥
+FollowsBlind opening caller events command answer (Unready front) events' = ⊥
 FollowsBlind opening caller events command answer NoMemory events' = FollowsPlain opening caller events command answer Wanting events'
 
 unsaid_item : (manner : Manner) (command : Command) → asked_item (unsaid manner) command ≡ asked_item manner command
@@ -80,6 +85,8 @@ unsaid_dry NoJson = refl
 pub blind_item : (exchange : Exchange) → item_asked (blind exchange) ≡ item_asked exchange
 blind_item (Asked moment command (KeptAt place reply) manner) = refl
 blind_item (Asked moment command (Seen front reply) manner) = unsaid_item manner command
+blind_item (Asked moment command (Denied front right) manner) = refl
+blind_item (Asked moment command (Unready front) manner) = refl
 blind_item (Asked moment command NoMemory manner) = refl
 blind_item (Refused moment fault) = refl
 blind_item (Wanted moment) = refl
@@ -87,6 +94,8 @@ blind_item (Wanted moment) = refl
 blind_after : (reading : Reading) (exchange : Exchange) → reading_after reading (blind exchange) ≡ reading_after reading exchange
 blind_after reading (Asked moment command (KeptAt place reply) manner) = refl
 blind_after reading (Asked moment command (Seen front reply) manner) = refl
+blind_after reading (Asked moment command (Denied front right) manner) = refl
+blind_after reading (Asked moment command (Unready front) manner) = refl
 blind_after reading (Asked moment command NoMemory manner) = refl
 blind_after reading (Refused moment fault) = refl
 blind_after reading (Wanted moment) = refl
@@ -94,6 +103,8 @@ blind_after reading (Wanted moment) = refl
 blind_turn : (exchange : Exchange) → turn_taken (blind exchange) ≡ turn_taken exchange
 blind_turn (Asked moment command (KeptAt place reply) manner) = refl
 blind_turn (Asked moment command (Seen front reply) manner) = ap (λ dry. seen_turn dry front moment) (unsaid_dry manner)
+blind_turn (Asked moment command (Denied front right) manner) = refl
+blind_turn (Asked moment command (Unready front) manner) = refl
 blind_turn (Asked moment command NoMemory manner) = refl
 blind_turn (Refused moment fault) = refl
 blind_turn (Wanted moment) = refl
@@ -113,6 +124,8 @@ unsaid_written command front moment reply NoJson written want = (written.0, refl
 blind_written : (exchange : Exchange) → IsWrittenIn exchange → is_wanting (turn_taken exchange) ≡ false → IsWrittenIn (blind exchange)
 blind_written (Asked moment command (KeptAt place reply) manner) written want = written
 blind_written (Asked moment command (Seen front reply) manner) written want = unsaid_written command front moment reply manner written want
+blind_written (Asked moment command (Denied front right) manner) written want = written
+blind_written (Asked moment command (Unready front) manner) written want = written
 blind_written (Asked moment command NoMemory manner) written want = written
 blind_written (Refused moment fault) written want = tt
 blind_written (Wanted moment) written want = tt
@@ -193,21 +206,30 @@ module _ (once : Once) (opening : State) (caller : ℕ) (e e' : List Happened)
       subst (λ m. FollowsPlain opening caller from.start command m (DoneAt place' reply') from.went'.0) (sym when) (subst (λ c. FollowsPlain opening caller from.start c moment' (DoneAt place' reply') from.went'.0) (sym which) from.went'.1) in
       let same : (place ≡ place') × (reply ≡ reply') × (from.went.0 ≡ from.went'.0) = turns_once opening caller leads_once at_once from.start from.went.0 from.went'.0 command moment place place' reply reply' from.went.1 did in (
         asked_is once moment moment' command command' (KeptAt place reply) (KeptAt place' reply') manner manner' when item (ap (λ p. KeptAt p reply) same.0 ∙ ap (KeptAt place') same.1) from.written.0 from.written'.0
-            (not_dry manner moment (KeptAt place reply) want) (not_dry manner' moment' (KeptAt place' reply') want'),
+            (not_dry manner command moment (KeptAt place reply) from.written.0 want)
+            (not_dry manner' command' moment' (KeptAt place' reply') from.written'.0 want'),
         record { start = from.went'.0; went = subst (λ x. GoesBy (FollowsBlind opening caller) xs x e) same.2 from.went.2; went' = from.went'.2; seen = λ number. from.seen (suc number); written = from.written.1; written' = from.written'.1 },
       )
   blind_peels (Asked moment command (Seen front reply) manner) (Asked moment' command' (Seen front' reply') manner') xs ys item when want want' from =
-      let fronts : front ≡ front' = some_is (sym (seen_at (is_dry manner) front moment) ∙ from.seen 0 ∙ seen_at (is_dry manner') front' moment') in
+      let fronts : front ≡ front' = same_front front front'
+      (sym (turn_rests manner moment (Seen front reply)) ∙ from.seen 0 ∙ turn_rests manner' moment' (Seen front' reply')) in
       let same : from.went.0 ≡ from.went'.0 = from.went.1.0 ∙ sym from.went'.1.0 in (
         asked_is once moment moment' command command' (Seen front reply) (Seen front' reply') manner manner' when item (ap (λ f. Seen f reply) fronts ∙ ap (Seen front') (from.went.1.1 ∙ sym from.went'.1.1)) from.written.0 from.written'.0
-            (not_dry manner moment (Seen front reply) want) (not_dry manner' moment' (Seen front' reply') want'),
+            (not_dry manner command moment (Seen front reply) from.written.0 want)
+            (not_dry manner' command' moment' (Seen front' reply') from.written'.0 want'),
         record { start = from.went'.0; went = subst (λ x. GoesBy (FollowsBlind opening caller) xs x e) same from.went.2; went' = from.went'.2; seen = λ number. from.seen (suc number); written = from.written.1; written' = from.written'.1 },
       )
   blind_peels (Asked moment command (KeptAt place reply) manner) (Asked moment' command' (Seen front' reply') manner') xs ys item when want want' from =
-      absurd (none-some front' (sym (kept_front (is_dry manner) place) ∙ from.seen 0 ∙ seen_at (is_dry manner') front' moment'))
+      absurd (none-some (Snapshot front') (sym (turn_rests manner moment (KeptAt place reply)) ∙ from.seen 0 ∙ turn_rests manner' moment' (Seen front' reply')))
   blind_peels (Asked moment command (Seen front reply) manner) (Asked moment' command' (KeptAt place' reply') manner') xs ys item when want want' from =
-      absurd (none-some front (sym (kept_front (is_dry manner') place') ∙ sym (from.seen 0) ∙ seen_at (is_dry manner) front moment))
+      absurd (none-some (Snapshot front) (sym (turn_rests manner' moment' (KeptAt place' reply')) ∙ sym (from.seen 0) ∙ turn_rests manner moment (Seen front reply)))
+  blind_peels (Asked moment command (Denied front right) manner) y xs ys item when want want' from = absurd from.went.1
+  blind_peels (Asked moment command (Unready front) manner) y xs ys item when want want' from = absurd from.went.1
   blind_peels (Asked moment command NoMemory manner) y xs ys item when want want' from = absurd (false≢true (sym want))
+  blind_peels (Asked moment command (KeptAt place reply) manner) (Asked moment' command' (Denied front' right') manner') xs ys item when want want' from = absurd from.went'.1
+  blind_peels (Asked moment command (KeptAt place reply) manner) (Asked moment' command' (Unready front') manner') xs ys item when want want' from = absurd from.went'.1
+  blind_peels (Asked moment command (Seen front reply) manner) (Asked moment' command' (Denied front' right') manner') xs ys item when want want' from = absurd from.went'.1
+  blind_peels (Asked moment command (Seen front reply) manner) (Asked moment' command' (Unready front') manner') xs ys item when want want' from = absurd from.went'.1
   blind_peels (Asked moment command (KeptAt place reply) manner) (Asked moment' command' NoMemory manner') xs ys item when want want' from = absurd (false≢true (sym want'))
   blind_peels (Asked moment command (Seen front reply) manner) (Asked moment' command' NoMemory manner') xs ys item when want want' from = absurd (false≢true (sym want'))
   blind_peels (Refused moment fault) (Refused moment' fault') xs ys item when want want' from = (

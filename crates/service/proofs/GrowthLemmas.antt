@@ -7,7 +7,7 @@ use Rattle.commit_ledger.specs.Kept.{Kept}
 use Rattle.config_core.specs.State.{State}
 use Rattle.session_history.specs.declared.history.Happened.{Happened}
 use Rattle.session_history.specs.Kept.{WasKept}
-use Rattle.session_shell.specs.declared.door.Given0.TheVariants.{Kept as KeptAt, Seen, NoMemory}
+use Rattle.session_shell.specs.declared.door.Given0.TheVariants.{Kept as KeptAt, Seen, Denied, Unready, NoMemory}
 use Rattle.session_shell.specs.declared.turn.Turn.{Turn}
 use Rattle.session_shell.specs.Exchange.{Exchange, Asked, Refused, Wanted, is_dry, kept_turn, seen_turn, turn_taken}
 use Rattle.session_shell.specs.Transcript.{EndView, GoesBy}
@@ -34,6 +34,8 @@ module _ (opening : State) (caller : ℕ) (final : List Happened) where
       ((grows.others ++ grows.own) ++ more.0, more.1 ∙ ap (λ l. l ++ more.0) grows.grown ∙ append_assoc d.events (grows.others ++ grows.own) more.0)
   more_events (Asked moment command (Seen front reply) manner ∷ exchanges) d e goes =
       let more = more_events exchanges goes.0 e goes.2 in (more.0, more.1 ∙ ap (λ l. l ++ more.0) goes.1.same)
+  more_events (Asked moment command (Denied front right) manner ∷ exchanges) d e goes = absurd goes.1
+  more_events (Asked moment command (Unready front) manner ∷ exchanges) d e goes = absurd goes.1
   more_events (Asked moment command NoMemory manner ∷ exchanges) d e goes =
       let grows = goes.1.turn.grows in
       let more = more_events exchanges goes.0 e goes.2 in
@@ -50,6 +52,8 @@ module _ (opening : State) (caller : ℕ) (final : List Happened) where
     fronts_go (Asked moment command (Seen front reply) manner ∷ exchanges) least d e reached goes =
         seen_goes (is_dry manner) least most front moment (map turn_taken exchanges)
         (omega (arith, reached, goes.1.reached), omega (arith, bound goes.1.kept goes.1.was_kept.0, goes.1.was_kept.1), fronts_go exchanges front goes.0 e (omega (arith, goes.1.is_front)) goes.2)
+    fronts_go (Asked moment command (Denied front right) manner ∷ exchanges) least d e reached goes = absurd goes.1
+    fronts_go (Asked moment command (Unready front) manner ∷ exchanges) least d e reached goes = absurd goes.1
     fronts_go (Asked moment command NoMemory manner ∷ exchanges) least d e reached goes = fronts_go exchanges least goes.0 e (omega (arith, reached, goes.1.front)) goes.2
     fronts_go (Refused moment fault ∷ exchanges) least d e reached goes = fronts_go exchanges least d e reached goes
     fronts_go (Wanted moment ∷ exchanges) least d e reached goes = fronts_go exchanges least d e reached goes

@@ -1,5 +1,6 @@
 -- Sessions over histories that one caller made alone, and what views of one run show.
-use Rattle.std.proofs.Common.{◌≡◌, ◌≢◌, ◌+◌, if◌then◌else◌, false, max, ℕ, List, [], ◌∷◌, ◌++◌, map, take, refl, sym, ap, subst, ◌∙◌, arith, Some}
+use Rattle.std.proofs.Common.{◌≡◌, ◌≢◌, ◌+◌, if◌then◌else◌, false, max, ℕ, List, [], ◌∷◌, ◌++◌, map, take, refl, sym, ap, subst, ◌∙◌, arith, Some, Bool, true}
+use Rattle.std.proofs.lemmas.Bool.{false≢true}
 use Rattle.std.proofs.lemmas.List.{length-map, map-append, take-map}
 use Rattle.std.specs.List.{AllByRecursion}
 use Rattle.commands.specs.declared.command.Command.{Command}
@@ -12,13 +13,13 @@ use Rattle.session_history.specs.declared.history.Happened.{Happened}
 use Rattle.session_history.specs.Events.{IsAskedAt, IsAt, IsLegal, Leads, is_asked_by, is_command, places_from, IsEventOf}
 use Rattle.session_history.specs.Kept.{WasKept}
 use Rattle.session_shell.specs.declared.door.Given0.{Given0}
-use Rattle.session_shell.specs.declared.door.Given0.TheVariants.{Kept as KeptAt, Seen, NoMemory}
+use Rattle.session_shell.specs.declared.door.Given0.TheVariants.{Kept as KeptAt, Seen, Denied, Unready, NoMemory}
 use Rattle.session_shell.specs.declared.reading.Reading.TheVariants.{Operational}
 use Rattle.session_shell.specs.declared.json_show.Manner.{Manner}
 use Rattle.session_shell.specs.Exchange.{Exchange, Asked, Refused, Wanted, IsWrittenIn, item_asked, asked_item, turn_taken}
-use Rattle.session_shell.specs.Law.{Agree, SeeAlike, Undisturbed, front_at, is_wanting}
+use Rattle.session_shell.specs.Law.{Agree, SeeAlike, Undisturbed, basis_at, is_wanting}
 use Rattle.session_shell.specs.Transcript.{Following, GoesBy, SessionView, TakesAnswers, TakesTurns}
-use Rattle.session_shell.proofs.LawLemmas.{AllWere, Once, all_same, asked_is, not_dry, outcome_same}
+use Rattle.session_shell.proofs.LawLemmas.{AllWere, Once, all_same, asked_is, not_dry, outcome_same, same_front}
 use Rattle.session_threads.specs.History.{FollowsAsked, FollowsTurn, HasEvent, HasView, IsTurn, Known, Names, ShowsKept, known_first, places_answered}
 use Rattle.session_threads.proofs.ListLemmas.{all_back, some_is}
 use Rattle.service.specs.Alone.{AreAlike, IsAlone, IsCalm, uncounted}
@@ -125,6 +126,8 @@ nobody caller (event ∷ others) own other = absurd (other.0 own.0)
 abbrev pub IsViewGiven : State → List Happened → Command → Given0 → Type 0
 IsViewGiven opening final command (KeptAt place reply) = Unit {0}
 IsViewGiven opening final command (Seen front reply) = HasView opening final command front reply
+IsViewGiven opening final command (Denied front right) = Unit {0}
+IsViewGiven opening final command (Unready front) = Unit {0}
 IsViewGiven opening final command NoMemory = Unit {0}
 
 abbrev pub IsViewed : State → List Happened → Exchange → Type 0
@@ -138,6 +141,8 @@ all_viewed opening caller final [] d e goes = tt
 all_viewed opening caller final (Asked moment command (KeptAt place reply) manner ∷ exchanges) d e goes = (tt, all_viewed opening caller final exchanges goes.0 e goes.2)
 all_viewed opening caller final (Asked moment command (Seen front reply) manner ∷ exchanges) d e goes =
     (plain_view opening final command front reply (record { kept = goes.1.kept; was_kept = goes.1.was_kept; shows = goes.1.shows }), all_viewed opening caller final exchanges goes.0 e goes.2)
+all_viewed opening caller final (Asked moment command (Denied front right) manner ∷ exchanges) d e goes = absurd goes.1
+all_viewed opening caller final (Asked moment command (Unready front) manner ∷ exchanges) d e goes = absurd goes.1
 all_viewed opening caller final (Asked moment command NoMemory manner ∷ exchanges) d e goes = (tt, all_viewed opening caller final exchanges goes.0 e goes.2)
 all_viewed opening caller final (Refused moment fault ∷ exchanges) d e goes = (tt, all_viewed opening caller final exchanges d e goes)
 all_viewed opening caller final (Wanted moment ∷ exchanges) d e goes = (tt, all_viewed opening caller final exchanges d e goes)
@@ -167,6 +172,8 @@ module _ (opening : State) (caller : ℕ) where
         (plain goes.0.events, follows_alone d.events command moment (DoneAt place reply) goes.0.events (alone_before exchanges goes.0 e goes.2 alone) goes.1.turn, goes_blind exchanges goes.0 e alone goes.2)
     goes_blind (Asked moment command (Seen front reply) manner ∷ exchanges) d e alone goes =
         (plain goes.0.events, (ap plain goes.1.same, refl), goes_blind exchanges goes.0 e alone goes.2)
+    goes_blind (Asked moment command (Denied front right) manner ∷ exchanges) d e alone goes = absurd goes.1
+    goes_blind (Asked moment command (Unready front) manner ∷ exchanges) d e alone goes = absurd goes.1
     goes_blind (Asked moment command NoMemory manner ∷ exchanges) d e alone goes =
         (plain goes.0.events, follows_alone d.events command moment Wanting goes.0.events (alone_before exchanges goes.0 e goes.2 alone) goes.1.turn, goes_blind exchanges goes.0 e alone goes.2)
     goes_blind (Refused moment fault ∷ exchanges) d e alone goes = goes_blind exchanges d e alone goes
@@ -257,6 +264,19 @@ cons_is is = (cc, cc)
 moments_are : (moment moment' : ℕ) (command command' : Command) (given given' : Given0) (manner manner' : Manner) → Asked moment command given manner ≡ Asked moment' command' given' manner' → (moment ≡ moment') × (command ≡ command') × (given ≡ given')
 moments_are moment moment' command command' given given' manner manner' is = (cc, cc, cc)
 
+-- a view said something
+abbrev is_viewed : Given0 → Bool
+is_viewed (Seen front reply) = true
+is_viewed given = false
+
+-- what was given by no view is all that was said of it
+said_all : (given given' : Given0) → is_viewed given ≡ false → given ≡ blind_given given' → given ≡ given'
+said_all given (KeptAt place' reply') no_view is = is
+said_all given (Seen front' reply') no_view is = absurd (false≢true (sym no_view ∙ ap is_viewed is))
+said_all given (Denied front' right') no_view is = is
+said_all given (Unready front') no_view is = is
+said_all given NoMemory no_view is = is
+
 module _ (opening : State) (kept_once : (events : List Happened) (one other : Kept) → WasKept opening events one → WasKept opening events other → one.count ≡ other.count → one ≡ other)
     (shows_once : (kept : Kept) (command : Command) (one other : Reply) → ShowsKept kept command one → ShowsKept kept command other → one ≡ other) where
   -- views of as many entries show one thing
@@ -266,16 +286,16 @@ module _ (opening : State) (kept_once : (events : List Happened) (one other : Ke
       shows_once v'.kept command reply reply' (subst (λ k. ShowsKept k command reply) same v.shows) v'.shows
 
   seen_given : (events : List Happened) (command : Command) (given given' : Given0) → blind_given given ≡ blind_given given' → IsViewGiven opening events command given → IsViewGiven opening events command given' → given ≡ given'
-  seen_given events command (KeptAt place reply) (KeptAt place' reply') is v v' = is
+  seen_given events command (KeptAt place reply) given' is v v' = said_all (KeptAt place reply) given' refl is
   seen_given events command (Seen front reply) (Seen front' reply') is v v' =
       let fronts : front ≡ front' = cc in ap (λ f. Seen f reply) fronts ∙ ap (Seen front') (view_once events command front front' reply reply' v v' fronts)
-  seen_given events command NoMemory NoMemory is v v' = refl
-  seen_given events command (KeptAt place reply) (Seen front' reply') is v v' = cc
-  seen_given events command (KeptAt place reply) NoMemory is v v' = cc
   seen_given events command (Seen front reply) (KeptAt place' reply') is v v' = cc
+  seen_given events command (Seen front reply) (Denied front' right') is v v' = cc
+  seen_given events command (Seen front reply) (Unready front') is v v' = cc
   seen_given events command (Seen front reply) NoMemory is v v' = cc
-  seen_given events command NoMemory (KeptAt place' reply') is v v' = cc
-  seen_given events command NoMemory (Seen front' reply') is v v' = cc
+  seen_given events command (Denied front right) given' is v v' = said_all (Denied front right) given' refl is
+  seen_given events command (Unready front) given' is v v' = said_all (Unready front) given' refl is
+  seen_given events command NoMemory given' is v v' = said_all NoMemory given' refl is
 
   seen_one : Once → (events : List Happened) (x y : Exchange) → blind x ≡ blind y → IsViewed opening events x → IsViewed opening events y → IsWrittenIn x → IsWrittenIn y → is_wanting (turn_taken x) ≡ false → is_wanting (turn_taken y) ≡ false → x ≡ y
   seen_one once events (Asked moment command given manner) (Asked moment' command' given' manner') is v v' w w' want want' =
@@ -283,7 +303,7 @@ module _ (opening : State) (kept_once : (events : List Happened) (one other : Ke
       let item : asked_item manner command ≡ asked_item manner' command' =
       sym (blind_item (Asked moment command given manner)) ∙ ap item_asked is ∙ blind_item (Asked moment' command' given' manner') in
       asked_is once moment moment' command command' given given' manner manner' are.0 item
-      (seen_given events command' given given' are.2 (subst (λ c. IsViewGiven opening events c given) are.1 v) v') w w' (not_dry manner moment given want) (not_dry manner' moment' given' want')
+      (seen_given events command' given given' are.2 (subst (λ c. IsViewGiven opening events c given) are.1 v) v') w w' (not_dry manner command moment given w want) (not_dry manner' command' moment' given' w' want')
   seen_one once events (Refused moment fault) (Refused moment' fault') is v v' w w' want want' = is
   seen_one once events (Wanted moment) (Wanted moment') is v v' w w' want want' = is
   seen_one once events (Asked moment command given manner) (Refused moment' fault') is v v' w w' want want' = cc
@@ -305,19 +325,27 @@ module _ (opening : State) (kept_once : (events : List Happened) (one other : Ke
   -- at a place a history names one reply, and so does a run of a view of so many entries
   pub names_agree : (caller : ℕ) (events : List Happened) (d : Known) → ((place : ℕ) (before again : State) (event same : Happened) (one other : Reply) → IsAt opening d.events place before event one → IsAt opening d.events place again same other → (event ≡ same) × (before ≡ again) × (one ≡ other)) →
       Agree (Names opening caller events) d d
-  names_agree caller events d at_once command moment (KeptAt place reply) (KeptAt place' reply') named named' is front =
+  names_agree caller events d at_once command moment (KeptAt place reply) (KeptAt place' reply') named named' is basis =
       let same : place ≡ place' = some_is is in
       ap (λ p. KeptAt p reply) same ∙ ap (KeptAt place') (at_once place' named.before named'.before named.event named'.event reply reply' (subst (λ p. IsAt opening d.events p named.before named.event reply) same named.is_at) named'.is_at).2
-  names_agree caller events d at_once command moment (Seen front reply) (Seen front' reply') named named' is fronts =
-      let same : front ≡ front' = some_is fronts in
+  names_agree caller events d at_once command moment (Seen front reply) (Seen front' reply') named named' is basis =
+      let same : front ≡ front' = same_front front front' basis in
       ap (λ f. Seen f reply) same ∙ ap (Seen front') (view_once events command front front' reply reply' named named' same)
-  names_agree caller events d at_once command moment NoMemory NoMemory named named' is front = refl
-  names_agree caller events d at_once command moment (KeptAt place reply) NoMemory named named' is front = cc
-  names_agree caller events d at_once command moment NoMemory (KeptAt place reply) named named' is front = cc
-  names_agree caller events d at_once command moment (Seen seen reply) (KeptAt place reply') named named' is front = cc
-  names_agree caller events d at_once command moment (Seen seen reply) NoMemory named named' is front = cc
-  names_agree caller events d at_once command moment (KeptAt place reply) (Seen seen reply') named named' is front = cc
-  names_agree caller events d at_once command moment NoMemory (Seen seen reply') named named' is front = cc
+  names_agree caller events d at_once command moment NoMemory NoMemory named named' is basis = refl
+  names_agree caller events d at_once command moment (KeptAt place reply) NoMemory named named' is basis = cc
+  names_agree caller events d at_once command moment NoMemory (KeptAt place reply) named named' is basis = cc
+  names_agree caller events d at_once command moment (Seen seen reply) (KeptAt place reply') named named' is basis = cc
+  names_agree caller events d at_once command moment (Seen seen reply) NoMemory named named' is basis = cc
+  names_agree caller events d at_once command moment (KeptAt place reply) (Seen seen reply') named named' is basis = cc
+  names_agree caller events d at_once command moment NoMemory (Seen seen reply') named named' is basis = cc
+  names_agree caller events d at_once command moment (Denied front right) given' named named' is basis = absurd named
+  names_agree caller events d at_once command moment (Unready front) given' named named' is basis = absurd named
+  names_agree caller events d at_once command moment (KeptAt place reply) (Denied front' right') named named' is basis = absurd named'
+  names_agree caller events d at_once command moment (KeptAt place reply) (Unready front') named named' is basis = absurd named'
+  names_agree caller events d at_once command moment (Seen front reply) (Denied front' right') named named' is basis = absurd named'
+  names_agree caller events d at_once command moment (Seen front reply) (Unready front') named named' is basis = absurd named'
+  names_agree caller events d at_once command moment NoMemory (Denied front' right') named named' is basis = absurd named'
+  names_agree caller events d at_once command moment NoMemory (Unready front') named named' is basis = absurd named'
 
   module _ (caller : ℕ) (once : Once)
       (leads_once : (events : List Happened) (one other : State) → Leads opening events one → Leads opening events other → one ≡ other)
@@ -343,7 +371,7 @@ module _ (opening : State) (kept_once : (events : List Happened) (one other : Ke
       start = [];
       went = one_blind.session.turns.asked;
       went' = other_blind.session.turns.asked;
-      seen = λ number. ap (λ turns. front_at turns number) (sym one_blind.session.turns.turned) ∙ seen number ∙ ap (λ turns. front_at turns number) other_blind.session.turns.turned;
+      seen = λ number. ap (λ turns. basis_at turns number) (sym one_blind.session.turns.turned) ∙ seen number ∙ ap (λ turns. basis_at turns number) other_blind.session.turns.turned;
       written = one_blind.session.turns.written;
       written' = other_blind.session.turns.written;
     }

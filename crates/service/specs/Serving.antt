@@ -24,7 +24,7 @@ use Rattle.session_history.specs.declared.history.History.{History}
 use Rattle.session_history.specs.Events.{Leads, StaysAccepted, IsEventOf}
 use Rattle.session_shell.specs.declared.turn.How.{How}
 use Rattle.session_shell.specs.declared.turn.Turn.{Turn}
-use Rattle.session_shell.specs.declared.turn.Turn.TheVariants.{Kept as KeptAt, KeptDry, Seen, SeenDry, Local, NoMemory}
+use Rattle.session_shell.specs.declared.turn.Turn.TheVariants.{Kept as KeptAt, KeptDry, Seen, SeenDry, Denied, Unready, Local, NoMemory}
 use Rattle.session_shell.specs.Transcript.{EndView}
 use Rattle.stored_ledger.specs.declared.why.StartWhy.{StartWhy}
 use Rattle.stored_ledger.specs.Starting.{IsFound, IsNotFound}
@@ -56,14 +56,16 @@ pub record HaveSessions {E : Type 0} (view : E → EndView) (opening : State) (l
   pub each : (k : ℕ) (result : SessionResult E) → slice_get results k ≡ Some result
       → IsResult view opening limit events (k + 1) result
 
--- the lists of commits that were shown without an event have no fewer entries from turn to turn, none less than so many, and none
--- more than so many
+-- the lists of commits by which turns were answered without an event have no fewer entries from turn to turn, none less than so
+-- many, and none more than so many
 abbrev pub FrontsGo : ℕ → ℕ → List Turn → Type 0
 FrontsGo least most [] = Unit {0}
 FrontsGo least most (KeptAt place ∷ turns) = FrontsGo least most turns
 FrontsGo least most (KeptDry place ∷ turns) = FrontsGo least most turns
 FrontsGo least most (Seen front moment ∷ turns) = (least ≤ front) × (front ≤ most) × FrontsGo front most turns
 FrontsGo least most (SeenDry front moment ∷ turns) = (least ≤ front) × (front ≤ most) × FrontsGo front most turns
+FrontsGo least most (Denied front right moment ∷ turns) = (least ≤ front) × (front ≤ most) × FrontsGo front most turns
+FrontsGo least most (Unready front moment ∷ turns) = (least ≤ front) × (front ≤ most) × FrontsGo front most turns
 FrontsGo least most (Local fault ∷ turns) = FrontsGo least most turns
 FrontsGo least most (NoMemory ∷ turns) = FrontsGo least most turns
 
