@@ -19,7 +19,7 @@ use Rattle.session_threads.specs.Gates.{FollowsIn, GateView, GivesShow, GivesVie
 use Rattle.session_threads.specs.Gates.{ReadsShow, TellsKept, TookIn, TurnsIn}
 use Rattle.session_threads.specs.History.{FollowsTurn, ShowsKept}
 use Rattle.session_threads.specs.Naming.{IsPrefix-same}
-use Rattle.session_threads.specs.Passes.{CallerPass, IsReady, KnowsOwn, WentOn}
+use Rattle.session_threads.specs.Passes.{CallerPass, IsReady, KnowsOwn, WentOn, events_seen}
 use Rattle.session_threads.proofs.ListLemmas.{some_is}
 use Rattle.session_threads.proofs.PassLemmas.{FollowsTurn-none, WentOn-same}
 use Rattle.session_threads.proofs.TraceLemmas.{ReadsOn-same, ReadsOn-then}
@@ -76,7 +76,7 @@ module _ (command : Command) (answer : ℕ) (old new : ReaderView) (later : IsPr
     }
 
 looks_at : (d : GateView) (command : Command) (answer : ℕ) (given : Option Given0) (reader : ReaderView) → KnowsOwn d.pass
-    → ((first : DatabaseView) → d.pass.fixed ≡ Some first → IsLegal (opened first) d.pass.seen) → IsActiveShow command
+    → ((first : DatabaseView) → d.pass.fixed ≡ Some first → IsLegal (opened first) (events_seen d.pass)) → IsActiveShow command
     → GivesShow command answer given reader → IfSome given (PrintsWhole command) → LooksAt d command answer given reader
 looks_at d command answer None reader own legal is gives prints = λ _. gives
 looks_at d command answer (Some given) reader own legal is gives prints =
@@ -91,7 +91,8 @@ LooksIn-read lock pass old new command answer given ready is read = record {
   same = refl;
   reads = read.reads;
   looks = looks_at (record { pass = pass; reader = old }) command answer given new ready.1.own
-      (λ first fixed. subst (λ (f : DatabaseView). IsLegal (opened f) pass.seen) (some_is (sym ready.1.fixed ∙ fixed)) ready.1.legal)
+      (λ first fixed. subst (λ (f : DatabaseView). IsLegal (opened f) (events_seen pass)) (some_is (sym ready.1.fixed ∙ fixed))
+      ready.1.legal)
       is read.gives read.prints;
 }
 
@@ -111,15 +112,17 @@ FollowsIn-looked d e command answer NoMemory looked = record {
   goes = subst (WentOn d.pass) (sym looked.same) (WentOn-same d.pass looked.looks.own);
   reads = looked.reads;
   comes = λ first fixed.
-      subst (λ (p : CallerPass). FollowsTurn (opened first) d.pass.caller d.pass.seen command answer Wanting p.seen) (sym looked.same)
-      (FollowsTurn-none (opened first) d.pass.caller answer d.pass.seen command (looked.looks.legal first fixed));
+      subst (λ (p : CallerPass). FollowsTurn (opened first) d.pass.caller (events_seen d.pass) command answer Wanting (events_seen p))
+      (sym looked.same)
+      (FollowsTurn-none (opened first) d.pass.caller answer (events_seen d.pass) command (looked.looks.legal first fixed));
   prints = looked.looks.prints;
 }
 
 turns_from : (first : DatabaseView) (d mid e : GateView) (command : Command) (answer : ℕ) (answered : Answered) → mid.pass ≡ d.pass
     → TurnsIn first mid command answer answered e → TurnsIn first d command answer answered e
 turns_from first d mid e command answer answered same turns = record {
-  turn = subst (λ (p : CallerPass). FollowsTurn (opened first) p.caller p.seen command answer answered e.pass.seen) same turns.turn;
+  turn = subst (λ (p : CallerPass). FollowsTurn (opened first) p.caller (events_seen p) command answer answered (events_seen e.pass))
+      same turns.turn;
   list = turns.list;
   tells = turns.tells;
   told = turns.told;
@@ -156,7 +159,8 @@ FollowsIn-took d mid e command answer answered given looked took is =
 pub TookIn-turn : (old new : CallerPass) (reader reader' : ReaderView) (command : Command) (answer : ℕ) (answered : Answered)
     (list : List Kept) → Learns answered list reader reader' → PrintsWhole command (given_of answered)
     → WentOn old new × ((first : DatabaseView) → old.fixed ≡ Some first
-    → FollowsTurn (opened first) old.caller old.seen command answer answered new.seen × TellsKept (opened first) new.seen list)
+    → FollowsTurn (opened first) old.caller (events_seen old) command answer answered (events_seen new)
+    × TellsKept (opened first) (events_seen new) list)
     → TookIn (record { pass = old; reader = reader }) command answer answered (record { pass = new; reader = reader' })
 TookIn-turn old new reader reader' command answer answered list learns prints took = record {
   goes = took.0;

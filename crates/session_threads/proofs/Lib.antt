@@ -2,6 +2,7 @@ mod GateLemmas
 pub mod LaterLemmas
 pub mod ListLemmas
 pub mod LogLemmas
+mod NotedLemmas
 mod PassLemmas
 mod RowLemmas
 mod SeatLemmas

@@ -1,10 +1,13 @@
 -- What one turn of the database makes of its history.
-use Rattle.std.proofs.Common.{◌≡◌, ◌≤◌, ⊎_elim, inl, inr, ℕ, ◌+◌, Bool, List, [], ◌∷◌, ◌++◌, length, take, max}
+use Rattle.std.proofs.Common.{◌≡◌, inl, inr, ℕ, ◌+◌, List, [], ◌∷◌, ◌++◌, length, take, max}
 use Rattle.std.proofs.Common.{Option, None, Some, IfSome, slice_get, refl, sym, ap, subst, ◌∙◌, append_assoc, arith}
+use Rattle.std.specs.Prelude.{cond, count_by}
 use Rattle.std.specs.List.{AllByRecursion}
 use Rattle.std.proofs.lemmas.List.{append-nil, length-append}
+use Rattle.std.proofs.lemmas.List.Sums.{sum_by-append}
 use Rattle.std.proofs.Math.Seq.{take-append_seam}
 use Rattle.active_snapshot.specs.Views.{AreViews, IsLast}
+use Rattle.disk_model.specs.Pair.{DiskPair, NoneFell}
 use Rattle.commands.specs.declared.command.Command.{Command}
 use Rattle.commit_journal.specs.Journal.{disks_of}
 use Rattle.commit_ledger.specs.Kept.{Kept as KeptList}
@@ -18,6 +21,7 @@ use Rattle.config_db.specs.declared.answer.Answered.{Answered}
 use Rattle.config_db.specs.declared.answer.Answered.TheVariants.{Kept, NoMemory}
 use Rattle.config_db.specs.declared.answer.Ticked.{Ticked}
 use Rattle.config_db.specs.Answers.{Answers, IsAnswer, IsAnswered, MakesWay, moment_at}
+use Rattle.config_db.specs.Faults.{RoseBy, is_failed_command}
 use Rattle.config_db.specs.Moves.{Extends, HasCause}
 use Rattle.config_db.specs.Shown.{Shows}
 use Rattle.config_db.specs.View.{DatabaseView, opened}
@@ -29,14 +33,17 @@ use Rattle.session_history.specs.Events.{IsAskedAt, IsAt, Leads, is_command, pla
 use Rattle.session_history.specs.Kept.{WasKept}
 use Rattle.session_history.proofs.EventLemmas.{Leads-append, at_seam, no_places, one_place, places_from-append, places_of-append}
 use Rattle.turn_lock.specs.Histories.{AddsOwn}
-use Rattle.session_threads.specs.Adding.{AddsUp}
+use Rattle.session_threads.specs.declared.noted.Note.{Note}
+use Rattle.session_threads.specs.Adding.{AddsUp, NotesAreCounted}
 use Rattle.session_threads.specs.Begun.{start_of}
 use Rattle.session_threads.specs.Gates.{TellsKept}
 use Rattle.session_threads.specs.History.{HasEvent, IsTurn, places_answered}
 use Rattle.session_threads.specs.Looks.{LooksAlone}
+use Rattle.session_threads.specs.Noted.{AreUpTo, caller_in, merged}
 use Rattle.session_threads.specs.Served.{IsUnderway}
-use Rattle.session_threads.specs.Passes.{FollowsAlone, caller_in}
+use Rattle.session_threads.specs.Passes.{FollowsAlone}
 use Rattle.session_threads.proofs.ListLemmas.{All-append, All-weaker, all_back}
+use Rattle.session_threads.proofs.NotedLemmas.{AddsOwn-merged, AreUpTo-append}
 
 -- a step of the machine is one of the event that it has become
 steps_of : (s : State) (caller moment : ℕ) (event : Event) (turned : Turned) (h : Happened)
@@ -181,36 +188,63 @@ AddsUp-begun events v w adds = record {
   counted = adds.counted;
 }
 
+-- counts that rose by so many, and then by more
+rose_on : (many more : ℕ) (p q r : DiskPair) → NoneFell q r → RoseBy many p q → RoseBy more q r → RoseBy (many + more) p r
+rose_on many more p q r on (inl full) next = inl (omega (arith, full, on.0))
+rose_on many more p q r on (inr (inl full)) next = inr (inl (omega (arith, full, on.1)))
+rose_on many more p q r on (inr (inr rose)) (inl full) = inl full
+rose_on many more p q r on (inr (inr rose)) (inr (inl full)) = inr (inl full)
+rose_on many more p q r on (inr (inr rose)) (inr (inr risen)) = inr (inr (omega (arith, rose, risen)))
+
+-- no event and no note yet
+NotesAreCounted-none : (v : DatabaseView) → NotesAreCounted [] [] (start_of v) v
+NotesAreCounted-none v = let none : count_by is_failed_command [] ≡ 0 = refl in inr (inr (omega (arith, none)))
+
+-- events and notes, and then the events of one turn
+NotesAreCounted-then : (caller moment : ℕ) (events own : List Happened) (notes : List Note) (u v w : DatabaseView)
+    → NotesAreCounted events notes u v → Extends caller moment own v w → NotesAreCounted (events ++ own) notes u w
+NotesAreCounted-then caller moment events own notes u v w first next =
+    let both : count_by is_failed_command (events ++ own) ≡ count_by is_failed_command events + count_by is_failed_command own =
+    sum_by-append (λ event. cond (is_failed_command event) 1 0) events own in
+    subst (λ many. RoseBy many (disks_of u.journal) (disks_of w.journal)) (omega (arith, both))
+    (rose_on (count_by is_failed_command events + length notes) (count_by is_failed_command own) (disks_of u.journal)
+    (disks_of v.journal) (disks_of w.journal) (next.goes.faults_a, next.goes.faults_b) first next.counted.commands)
+
 -- before the first turn
 pub IsUnderway-none : (first v : DatabaseView) → first ≡ start_of v → v.events ≡ [] → v.state ≡ opened v
-    → IsUnderway (record { first = first; database = v })
+    → IsUnderway (record { first = first; database = v; notes = [] })
 IsUnderway-none first v same fresh starts =
-    subst (λ (u : DatabaseView). IsUnderway (record { first = u; database = v })) (sym same) (record {
+    subst (λ (u : DatabaseView). IsUnderway (record { first = u; database = v; notes = [] })) (sym same) (record {
       fresh = refl;
       leads = subst (λ l. Leads (opened v) l v.state) (sym fresh) starts;
       adds = subst (λ l. AddsUp l (start_of v) v) (sym fresh) (AddsUp-begins [] v v (AddsUp-none v));
+      noted = subst (λ l. NotesAreCounted l [] (start_of v) v) (sym fresh) (NotesAreCounted-none v);
+      up_to = tt;
     })
 
-module _ (caller moment : ℕ) (own : List Happened) (first v v' : DatabaseView) (extends : Extends caller moment own v v')
-  where
-    -- after one turn more
-    pub IsUnderway-then : IsUnderway (record { first = first; database = v })
-        → IsUnderway (record { first = first; database = v' })
-    IsUnderway-then is = record {
-      fresh = is.fresh;
-      leads = subst (λ l. Leads (opened first) l v'.state) (sym extends.grown)
-          (Leads-append (opened first) v.events own v.state v'.state is.leads extends.leads);
-      adds = subst (λ l. AddsUp l first v') (sym extends.grown)
-          (AddsUp-then caller moment v.events own first v v' is.adds extends);
-    }
+module _ (caller moment : ℕ) (own : List Happened) (notes : List Note) (first v v' : DatabaseView)
+    (extends : Extends caller moment own v v') where
+  -- after one turn more
+  pub IsUnderway-then : IsUnderway (record { first = first; database = v; notes = notes })
+      → IsUnderway (record { first = first; database = v'; notes = notes })
+  IsUnderway-then is = record {
+    fresh = is.fresh;
+    leads = subst (λ l. Leads (opened first) l v'.state) (sym extends.grown)
+        (Leads-append (opened first) v.events own v.state v'.state is.leads extends.leads);
+    adds = subst (λ l. AddsUp l first v') (sym extends.grown)
+        (AddsUp-then caller moment v.events own first v v' is.adds extends);
+    noted = subst (λ l. NotesAreCounted l notes first v') (sym extends.grown)
+        (NotesAreCounted-then caller moment v.events own notes first v v' is.noted extends);
+    up_to = subst (λ l. AreUpTo (length l) notes) (sym extends.grown) (AreUpTo-append v.events own notes is.up_to);
+  }
 
-    -- the turn's events are the caller's
-    pub AddsOwn-of : AddsOwn caller_in caller v.events v'.events
-    AddsOwn-of = (
-      own,
-      extends.grown,
-      All-weaker (IsEventOf caller moment) (λ event. event.caller ≡ caller) own (λ event is. is.0) extends.made,
-    )
+  -- the turn's events are the caller's
+  pub AddsOwn-of : AreUpTo (length v.events) notes
+      → AddsOwn caller_in caller (merged 0 v.events notes) (merged 0 v'.events notes)
+  AddsOwn-of up_to =
+      subst (λ l. AddsOwn caller_in caller (merged 0 v.events notes) (merged 0 l notes)) (sym extends.grown)
+      (AddsOwn-merged caller v.events own notes up_to
+      (All-weaker (IsEventOf caller moment) (λ event. event.caller ≡ caller) own (λ event is. is.0) extends.made))
 
 -- the history after the turn of a command
 pub FollowsAlone-of : (first v v' : DatabaseView) (caller answer : ℕ) (command : Command) (answered : Answered)
@@ -238,14 +272,15 @@ FollowsAlone-of first v v' caller answer command answered leads asks = record {
 }
 
 -- a database began over the same list, for the same users
-pub opened_same : (first v : DatabaseView) → IsUnderway (record { first = first; database = v }) → opened v ≡ opened first
-opened_same first v underway = λ i. opening_of (underway.adds.same.opening i) (underway.adds.same.users i)
+pub opened_same : (first v : DatabaseView) (notes : List Note) → IsUnderway (record { first = first; database = v; notes = notes })
+    → opened v ≡ opened first
+opened_same first v notes underway = λ i. opening_of (underway.adds.same.opening i) (underway.adds.same.users i)
 
 -- what a database reports of the lists that it kept
-pub TellsKept-of : (first v : DatabaseView) → IsUnderway (record { first = first; database = v })
+pub TellsKept-of : (first v : DatabaseView) (notes : List Note) → IsUnderway (record { first = first; database = v; notes = notes })
     → AreViews v.shown.list → Shows (opened v) v.events v.state v.shown → TellsKept (opened first) v.events v.shown.list
-TellsKept-of first v underway views shows =
-    let same : opened v ≡ opened first = opened_same first v underway in
+TellsKept-of first v notes underway views shows =
+    let same : opened v ≡ opened first = opened_same first v notes underway in
     record {
       after = v.state;
       leads = underway.leads;

@@ -16,31 +16,40 @@ use Rattle.turn_lock.specs.Histories.{entries_by}
 use Rattle.turn_lock.specs.Passes.{TookTurn}
 use Rattle.turn_lock.proofs.AccountLemmas.{grows}
 use Rattle.turn_lock.proofs.EntryLemmas.{entries_by-append}
+use Rattle.session_threads.specs.declared.noted.Noted.{Noted}
 use Rattle.session_threads.specs.History.{FollowsTurn, Grows, places_answered}
 use Rattle.session_threads.specs.Looks.{LooksAlone, LooksOnce}
-use Rattle.session_threads.specs.Passes.{CallerPass, FollowsAlone, IsReady, KnowsOwn, WentOn, caller_in}
+use Rattle.session_threads.specs.Naming.{events_of-begins}
+use Rattle.session_threads.specs.Noted.{GoesByEvents, caller_in, events_of}
+use Rattle.session_threads.specs.Passes.{CallerPass, FollowsAlone, IsReady, KnowsOwn, WentOn, events_seen}
 use Rattle.session_threads.proofs.ListLemmas.{some_is}
+use Rattle.session_threads.proofs.NotedLemmas.{others-events}
 
 pub not_kept : {A : Type 0} (b : Bool) (x : A) (xs : List A) → cond b (x ∷ xs) xs ≡ [] → (b ≡ false) × (xs ≡ [])
 not_kept true x xs is = cc
 not_kept false x xs is = (refl, is)
 
--- where a history has no events of a caller, all are others'
-pub none_by : (caller : ℕ) (events : List Happened) → entries_by caller_in caller events ≡ []
-    → AllByRecursion (λ event. event.caller ≢ caller) events
-none_by caller [] none = tt
-none_by caller (event ∷ events) none =
-    let here = not_kept (eqb event.caller caller) event (entries_by caller_in caller events) none in (
-      (λ is. let both : true ≡ false = sym (eq-eqb event.caller caller is) ∙ here.0 in cc),
-      none_by caller events here.1,
+-- where a history has nothing of a caller, all is others'
+others_by : (caller : ℕ) (list : List Noted) → entries_by caller_in caller list ≡ []
+    → AllByRecursion (λ entry. caller_in entry ≢ caller) list
+others_by caller [] none = tt
+others_by caller (entry ∷ list) none =
+    let here = not_kept (eqb (caller_in entry) caller) entry (entries_by caller_in caller list) none in (
+      (λ is. let both : true ≡ false = sym (eq-eqb (caller_in entry) caller is) ∙ here.0 in cc),
+      others_by caller list here.1,
     )
 
--- two histories have the same events of a caller: those that the longer has more are others'
-pub others_behind : (caller : ℕ) (events more own : List Happened) → entries_by caller_in caller events ≡ own
-    → entries_by caller_in caller (events ++ more) ≡ own → AllByRecursion (λ event. event.caller ≢ caller) more
-others_behind caller events more own had have = none_by caller more
+-- so are its events
+pub none_by : (caller : ℕ) (list : List Noted) → entries_by caller_in caller list ≡ []
+    → AllByRecursion (λ event. event.caller ≢ caller) (events_of list)
+none_by caller list none = others-events caller list (others_by caller list none)
+
+-- two histories have the same of a caller: the events that the longer has more are others'
+pub others_behind : (caller : ℕ) (list more own : List Noted) → entries_by caller_in caller list ≡ own
+    → entries_by caller_in caller (list ++ more) ≡ own → AllByRecursion (λ event. event.caller ≢ caller) (events_of more)
+others_behind caller list more own had have = none_by caller more
     (append_cancel_left own (entries_by caller_in caller more) []
-    (ap (λ l. l ++ entries_by caller_in caller more) (sym had) ∙ sym (entries_by-append caller_in caller events more) ∙ have
+    (ap (λ l. l ++ entries_by caller_in caller more) (sym had) ∙ sym (entries_by-append caller_in caller list more) ∙ have
     ∙ sym (append-nil own)))
 
 not_both : (a b : Bool) → b ≡ false → a && b ≡ false
@@ -137,7 +146,7 @@ WentOn-then a b c first next = record {
   own = next.own;
 }
 
-module _ (says : DatabaseView → List Happened → List Happened → Type 0) (old new : CallerPass)
+module _ (says : DatabaseView → List Noted → List Noted → Type 0) (old new : CallerPass)
     (took : TookTurn caller_in says old new) where
   pub WentOn-took : WentOn old new
   WentOn-took = record {
@@ -152,9 +161,13 @@ module _ (says : DatabaseView → List Happened → List Happened → Type 0) (o
   }
 
   -- what came after the events that the pass had seen, before its turn, is others'
-  pub not_own-took : KnowsOwn old → AllByRecursion (λ event. event.caller ≢ old.caller) took.begins.0
+  pub not_own-took : KnowsOwn old → AllByRecursion (λ event. event.caller ≢ old.caller) (events_of took.begins.0)
   not_own-took own = others_behind old.caller old.seen took.begins.0 old.own own
       (ap (entries_by caller_in old.caller) took.begins.1 ∙ took.had_own)
+
+  -- the history that the deed found has the events that the pass had seen, and these
+  pub before-took : events_of took.before ≡ events_seen old ++ events_of took.begins.0
+  before-took = sym (events_of-begins old.seen took.before took.begins)
 
   pub seen-took : new.seen ≡ took.before ++ took.added
   seen-took = ap (λ (p : CallerPass). p.seen) took.is_new
@@ -166,25 +179,28 @@ module _ (says : DatabaseView → List Happened → List Happened → Type 0) (o
 pub FollowsTurn-took : (old new : CallerPass) (command : Command) (answer : ℕ) (answered : Answered)
     (More : DatabaseView → List Happened → Type 0) → KnowsOwn old
     → TookTurn caller_in (λ first before after.
-    FollowsAlone first old.caller before command answer answered after × More first after) old new
+    GoesByEvents (λ were are. FollowsAlone first old.caller were command answer answered are × More first are) before after) old new
     → WentOn old new × ((first : DatabaseView) → old.fixed ≡ Some first
-    → FollowsTurn (opened first) old.caller old.seen command answer answered new.seen × More first new.seen)
+    → FollowsTurn (opened first) old.caller (events_seen old) command answer answered (events_seen new) × More first (events_seen new))
 FollowsTurn-took old new command answer answered More own took =
-    let says : DatabaseView → List Happened → List Happened → Type 0 =
-    λ first before after. FollowsAlone first old.caller before command answer answered after × More first after in
-    let behind : FollowsTurn (opened took.fixed) old.caller old.seen command answer answered (took.before ++ took.added) =
-    Follows-behind (opened took.fixed) old.caller answer old.seen took.begins.0 took.before (took.before ++ took.added)
-    (sym took.begins.1) (not_own-took says old new took own) command answered took.said.0.follows took.said.0.alone in (
+    let says : DatabaseView → List Noted → List Noted → Type 0 =
+    λ first before after.
+    GoesByEvents (λ were are. FollowsAlone first old.caller were command answer answered are × More first are) before after in
+    let after : List Happened = events_of (took.before ++ took.added) in
+    let behind : FollowsTurn (opened took.fixed) old.caller (events_seen old) command answer answered after =
+    Follows-behind (opened took.fixed) old.caller answer (events_seen old) (events_of took.begins.0) (events_of took.before) after
+    (before-took says old new took) (not_own-took says old new took own) command answered took.said.said.0.follows
+    took.said.said.0.alone in (
       WentOn-took says old new took,
       λ first fixed.
-          subst (λ f. FollowsTurn (opened f) old.caller old.seen command answer answered new.seen × More f new.seen)
-          (some_is (sym took.is_fixed ∙ fixed))
-          (subst (λ events'. FollowsTurn (opened took.fixed) old.caller old.seen command answer answered events'
-          × More took.fixed events') (sym (seen-took says old new took)) (behind, took.said.1)),
+          subst (λ f. FollowsTurn (opened f) old.caller (events_seen old) command answer answered (events_seen new)
+          × More f (events_seen new)) (some_is (sym took.is_fixed ∙ fixed))
+          (subst (λ (l : List Noted). FollowsTurn (opened took.fixed) old.caller (events_seen old) command answer answered (events_of l)
+          × More took.fixed (events_of l)) (sym (seen-took says old new took)) (behind, took.said.said.1)),
     )
 
 pub IsReady-then : (lock : TableId) (first : DatabaseView) (old new : CallerPass) → IsReady lock first old → WentOn old new
-    → IsLegal (opened first) new.seen → IsReady lock first new
+    → IsLegal (opened first) (events_seen new) → IsReady lock first new
 IsReady-then lock first old new ready goes legal = record {
   here = goes.lock ∙ ready.here;
   fixed = goes.fixed ∙ ready.fixed;

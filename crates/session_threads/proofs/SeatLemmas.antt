@@ -1,5 +1,5 @@
 -- The session of a pass's caller, from the turns that it took.
-use Rattle.std.proofs.Common.{◌≡◌, ◌≢◌, ◌⊎◌, ◌≤◌, ℕ, List, [], ◌++◌, Option, Some, inl, inr}
+use Rattle.std.proofs.Common.{◌≡◌, ◌≢◌, ◌⊎◌, ◌≤◌, ℕ, List, [], ◌++◌, Some, inl, inr}
 use Rattle.std.proofs.Common.{sym, ap, subst, ◌∙◌, refl}
 use mathlib.Core.List.{IsPrefix}
 use Rattle.std.specs.List.{AllByRecursion}
@@ -8,14 +8,16 @@ use Rattle.active_snapshot.specs.States.{ReaderView}
 use Rattle.active_snapshot.specs.Views.{AreViews, IsLast}
 use Rattle.commit_ledger.specs.Kept.{Kept}
 use Rattle.config_db.specs.View.{DatabaseView, opened}
-use Rattle.session_history.specs.declared.history.Happened.{Happened}
 use Rattle.session_shell.specs.declared.turn.How.{How}
 use Rattle.session_shell.specs.declared.turn.Turn.{Turn}
 use Rattle.session_shell.specs.Transcript.{EndView, IsSession}
 use Rattle.turn_lock.specs.Histories.{entries_by}
 use Rattle.turn_lock.specs.Passes.{TookTurn}
+use Rattle.session_threads.specs.declared.noted.Noted.{Noted}
 use Rattle.session_threads.specs.Gates.{FollowsIn, GateView, StartsReading, TellsKept}
-use Rattle.session_threads.specs.Passes.{CallerPass, KnowsOwn, Waited, caller_in}
+use Rattle.session_threads.specs.Naming.{events_of-begins}
+use Rattle.session_threads.specs.Noted.{caller_in, events_of}
+use Rattle.session_threads.specs.Passes.{CallerPass, KnowsOwn, Waited, events_seen}
 use Rattle.session_threads.specs.Results.{SessionResult}
 use Rattle.session_threads.specs.Sessions.{HasLeft, HasRun, IsWithin, RunsOne, RunsOver, ServesOne, StaysOut}
 use Rattle.session_threads.proofs.ListLemmas.{some_is}
@@ -27,9 +29,9 @@ pub Waited-same : (pass : CallerPass) → KnowsOwn pass → Waited pass pass
 Waited-same pass own = record { goes = WentOn-same pass own; same_own = refl }
 
 module _ (list : List Kept) (old new : CallerPass)
-    (took : TookTurn caller_in (λ first before after. (after ≡ before) × TellsKept (opened first) after list) old new) where
-  abbrev says : DatabaseView → List Happened → List Happened → Type 0
-  says first before after = (after ≡ before) × TellsKept (opened first) after list
+    (took : TookTurn caller_in (λ first before after. (after ≡ before) × TellsKept (opened first) (events_of after) list) old new) where
+  abbrev says : DatabaseView → List Noted → List Noted → Type 0
+  says first before after = (after ≡ before) × TellsKept (opened first) (events_of after) list
 
   none_added : took.added ≡ []
   none_added = append_cancel_left took.before took.added [] (took.said.0 ∙ sym (append-nil took.before))
@@ -46,8 +48,9 @@ module _ (list : List Kept) (old new : CallerPass)
       → IsWithin first new reader
   IsWithin-took reader within first fixed = record {
     list = list;
-    tells = subst (λ l. TellsKept (opened first) l list) (sym (seen-took says old new took))
-        (subst (λ f. TellsKept (opened f) (took.before ++ took.added) list) (some_is (sym took.is_fixed ∙ fixed)) took.said.1);
+    tells = subst (λ (l : List Noted). TellsKept (opened first) (events_of l) list) (sym (seen-took says old new took))
+        (subst (λ f. TellsKept (opened f) (events_of (took.before ++ took.added)) list) (some_is (sym took.is_fixed ∙ fixed))
+        took.said.1);
     within = within;
   }
 
@@ -79,7 +82,7 @@ module _ {E : Type 0} (view : E → EndView) where
       later : IsPrefix mid.pass.seen new.seen
       later = gone.waited.goes.later
 
-      none_later : AllByRecursion (λ event. event.caller ≢ old.pass.caller) later.0
+      none_later : AllByRecursion (λ event. event.caller ≢ old.pass.caller) (events_of later.0)
       none_later = others_behind old.pass.caller mid.pass.seen later.0 mid.pass.own
           (subst (λ c. entries_by caller_in c mid.pass.seen ≡ mid.pass.own) runs.goes.caller runs.goes.own)
           (ap (entries_by caller_in old.pass.caller) later.1
@@ -89,12 +92,12 @@ module _ {E : Type 0} (view : E → EndView) where
       has_run : RunsOver view limit old mid result
           → HasRun view limit first old.pass new result
       has_run ran =
-          let known = IsSession-known never_fall first new.seen gone.within.list gone.within.tells limit result.how result.turns
+          let known = IsSession-known never_fall first (events_seen new) gone.within.list gone.within.tells limit result.how result.turns
           (view result.old) (view result.new) old mid fixed (WentOn-same old.pass own) starts gone.within.within ran in
           record {
-            after = record { events = mid.pass.seen; front = known.0 };
-            later = later.0;
-            begins = sym later.1;
+            after = record { events = events_seen mid.pass; front = known.0 };
+            later = events_of later.0;
+            begins = sym (events_of-begins mid.pass.seen new.seen later);
             none_later = none_later;
             session = known.1;
           }

@@ -32,6 +32,7 @@ use Rattle.turn_lock.proofs.pass.Pass.TheSendSync as pass
 use Rattle.turn_lock.specs.contracts.lock.Turns as Turns
 use Rattle.turn_lock.specs.contracts.pass.Pass as Pass
 use Rattle.session_threads.specs.contracts.begun.Begun as Begun
+use Rattle.session_threads.specs.contracts.noted.Noted as Noted
 use Rattle.session_threads.specs.contracts.seat.Seat as Seat
 use Rattle.session_threads.specs.contracts.served.Served as Served
 use Rattle.session_threads.specs.contracts.served.Served.TheInside as ServedInside
@@ -65,7 +66,7 @@ module _ (D : RattleType) (d : disk.Ghosts D.Denot) where
 
   -- the passes of a lock over a database
   abbrev pub pass_row : RattleType
-  pass_row = Pass.the_row Happened.the_row (Begun.the_row D d)
+  pass_row = Pass.the_row Noted.the_row (Begun.the_row D d)
 
   pub pass_send : IsSend pass_row
   pass_send = search (sendable, pass.the_send) depth 150 fits 40000
@@ -99,12 +100,15 @@ module _ (D J : RattleType) (d : disk.Ghosts D.Denot) (j : naming.Ghosts J.Denot
       let databases : IsSend (Database.the_row D J d j) = database_send sent name shared in
       view_send (ServedInside.the_row D J d j) _ _ _ _ (declared_send (ServedInside.the_type D J d j) (
         search sendable depth 20,
-        (search (sendable, begun_send) depth 20, (search sendable depth 20, (search (sendable, waker_send) depth 20, tt))),
+        (
+          search (sendable, begun_send) depth 20,
+          (search (sendable, crosses) depth 20, (search sendable depth 20, (search (sendable, waker_send) depth 20, tt))),
+        ),
       ))
 
   -- the lock over a database
   abbrev pub lock_row : RattleType
-  lock_row = Turns.the_row (Served.the_row D J d j) Happened.the_row (Begun.the_row D d) (book.ghosts D J d book.no_dict j book.no_dict)
+  lock_row = Turns.the_row (Served.the_row D J d j) Noted.the_row (Begun.the_row D d) (book.ghosts D J d book.no_dict j book.no_dict)
 
   -- threads may share it
   pub lock_sync : IsSend D → IsSend J → IsSync J → IsSync lock_row

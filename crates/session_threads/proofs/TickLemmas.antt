@@ -8,11 +8,13 @@ use Rattle.config_db.specs.View.{DatabaseView, opened}
 use Rattle.io_edge.specs.Ends.{TakesAnswer}
 use Rattle.session_history.specs.declared.history.Happened.{Happened}
 use Rattle.turn_lock.specs.Passes.{TookTurn}
+use Rattle.session_threads.specs.declared.noted.Noted.{Noted}
 use Rattle.session_threads.specs.Looks.{AreLooks, Looks, LooksAlone, LooksOnce, TakesLook, TickerView}
-use Rattle.session_threads.specs.Passes.{CallerPass, KnowsOwn, WentOn, caller_in}
+use Rattle.session_threads.specs.Noted.{GoesByEvents, caller_in, events_of}
+use Rattle.session_threads.specs.Passes.{CallerPass, KnowsOwn, WentOn, events_seen}
 use Rattle.session_threads.specs.Ticks.{IsTickersPass, IsLook, IsRound, Ticks, TicksOn}
 use Rattle.session_threads.proofs.ListLemmas.{some_is}
-use Rattle.session_threads.proofs.PassLemmas.{LooksOnce-behind, WentOn-same, WentOn-then, WentOn-took, not_own-took, seen-took}
+use Rattle.session_threads.proofs.PassLemmas.{LooksOnce-behind, WentOn-same, WentOn-then, WentOn-took, before-took, not_own-took, seen-took}
 
 -- one more answer
 Takes-then : {A : Type 0} (before mid now : Option (ℕ → A)) (answers : List A) (answer : A) → TakesLook before answers mid
@@ -45,28 +47,30 @@ round_of false opening old new events events' look = inl look
 pub Ticks-look : (lock : TableId) (first : DatabaseView) (old new : CallerPass) (ticker ticker' : TickerView) (answer : ℕ)
     (goes_on : Bool) → IsTickersPass lock first old → TakesAnswer ticker.due ticker'.due true
     → TakesAnswer ticker.coming ticker'.coming answer
-    → TookTurn caller_in (λ fixed before after. LooksAlone (opened fixed) answer before after) old new
+    → TookTurn caller_in (λ fixed before after. GoesByEvents (LooksAlone (opened fixed) answer) before after) old new
     → Ticks goes_on first old new ticker ticker'
 Ticks-look lock first old new ticker ticker' answer goes_on is beat clock took =
-    let says : DatabaseView → List Happened → List Happened → Type 0 =
-    λ fixed before after. LooksAlone (opened fixed) answer before after in
-    let others : AllByRecursion (λ event. event.caller ≢ 0) took.begins.0 =
-    subst (λ c. AllByRecursion (λ event. event.caller ≢ c) took.begins.0) is.nobodys (not_own-took says old new took is.own) in
-    let looked : LooksAlone (opened first) answer took.before (took.before ++ took.added) =
-    subst (λ f. LooksAlone (opened f) answer took.before (took.before ++ took.added))
-    (some_is (sym took.is_fixed ∙ is.fixed)) took.said in
-    let once : LooksOnce (opened first) answer old.seen new.seen =
-    subst (λ l. LooksOnce (opened first) answer old.seen l) (sym (seen-took says old new took))
-    (LooksOnce-behind (opened first) answer old.seen took.begins.0 took.before (took.before ++ took.added)
-    (sym took.begins.1) others looked) in
+    let says : DatabaseView → List Noted → List Noted → Type 0 =
+    λ fixed before after. GoesByEvents (LooksAlone (opened fixed) answer) before after in
+    let others : AllByRecursion (λ event. event.caller ≢ 0) (events_of took.begins.0) =
+    subst (λ c. AllByRecursion (λ event. event.caller ≢ c) (events_of took.begins.0)) is.nobodys
+    (not_own-took says old new took is.own) in
+    let after : List Happened = events_of (took.before ++ took.added) in
+    let looked : LooksAlone (opened first) answer (events_of took.before) after =
+    subst (λ f. LooksAlone (opened f) answer (events_of took.before) after)
+    (some_is (sym took.is_fixed ∙ is.fixed)) took.said.said in
+    let once : LooksOnce (opened first) answer (events_seen old) (events_seen new) =
+    subst (λ (l : List Noted). LooksOnce (opened first) answer (events_seen old) (events_of l)) (sym (seen-took says old new took))
+    (LooksOnce-behind (opened first) answer (events_seen old) (events_of took.begins.0) (events_of took.before) after
+    (before-took says old new took) others looked) in
     record {
       goes = WentOn-took says old new took;
-      round = round_of goes_on (opened first) ticker ticker' old.seen new.seen (
+      round = round_of goes_on (opened first) ticker ticker' (events_seen old) (events_seen new) (
         answer,
         record {
           beat_told = (ticker'.due, beat, refl);
           clock_told = (ticker'.coming, clock, refl);
-          looks = (new.seen, once, refl);
+          looks = (events_seen new, once, refl);
         },
       );
     }
@@ -75,7 +79,7 @@ Ticks-look lock first old new ticker ticker' answer goes_on is beat clock took =
 pub record TicksSoFar (first : DatabaseView) (old new : CallerPass) (ticker ticker' : TickerView) : Type 0 where
   pub goes : WentOn old new
   pub answers : List ℕ
-  pub looked : AreLooks (opened first) (replicate (length answers) true) answers ticker ticker' old.seen new.seen
+  pub looked : AreLooks (opened first) (replicate (length answers) true) answers ticker ticker' (events_seen old) (events_seen new)
 
 pub TicksSoFar-none : (first : DatabaseView) (pass : CallerPass) (ticker : TickerView) → KnowsOwn pass
     → TicksSoFar first pass pass ticker ticker
@@ -88,9 +92,9 @@ TicksSoFar-none first pass ticker own = record {
 module _ (first : DatabaseView) (old mid new : CallerPass) (ticker between ticker' : TickerView)
     (far : TicksSoFar first old mid ticker between) where
   -- the looks so far, and one more
-  more_looks : (look : IsLook (opened first) between ticker' mid.seen new.seen)
+  more_looks : (look : IsLook (opened first) between ticker' (events_seen mid) (events_seen new))
       → AreLooks (opened first) (replicate (length (far.answers ++ look.0 ∷ [])) true) (far.answers ++ look.0 ∷ [])
-      ticker ticker' old.seen new.seen
+      ticker ticker' (events_seen old) (events_seen new)
   more_looks look = record {
     beat_told = subst (λ l. TakesLook ticker.due l ticker'.due) (sym (replicate-then far.answers look.0 true))
         (Takes-then ticker.due between.due ticker'.due (replicate (length far.answers) true) true
@@ -98,8 +102,8 @@ module _ (first : DatabaseView) (old mid new : CallerPass) (ticker between ticke
     clock_told = Takes-then ticker.coming between.coming ticker'.coming far.answers look.0
         far.looked.clock_told
         (subst (λ o. TakesAnswer between.coming o look.0) (sym look.1.clock_told.2) look.1.clock_told.1);
-    looks = Looks-then (opened first) far.answers look.0 old.seen mid.seen new.seen far.looked.looks
-        (subst (λ l. LooksOnce (opened first) look.0 mid.seen l) (sym look.1.looks.2) look.1.looks.1);
+    looks = Looks-then (opened first) far.answers look.0 (events_seen old) (events_seen mid) (events_seen new) far.looked.looks
+        (subst (λ l. LooksOnce (opened first) look.0 (events_seen mid) l) (sym look.1.looks.2) look.1.looks.1);
   }
 
   pub TicksSoFar-then : Ticks true first mid new between ticker' → TicksSoFar first old new ticker ticker'
@@ -110,7 +114,7 @@ module _ (first : DatabaseView) (old mid new : CallerPass) (ticker between ticke
   }
 
   -- the last round
-  TicksOn-by : WentOn old new → IsRound (opened first) false between ticker' mid.seen new.seen
+  TicksOn-by : WentOn old new → IsRound (opened first) false between ticker' (events_seen mid) (events_seen new)
       → TicksOn first old new ticker ticker'
   TicksOn-by goes (inl look) = record {
     goes = goes;
@@ -132,7 +136,7 @@ module _ (first : DatabaseView) (old mid new : CallerPass) (ticker between ticke
             far.looked.beat_told
             (subst (λ o. TakesAnswer between.due o false) (sym none.beat_told.2) none.beat_told.1);
         clock_told = subst (λ o. TakesLook ticker.coming far.answers o) (sym none.clock_told) far.looked.clock_told;
-        looks = subst (λ l. Looks (opened first) far.answers old.seen l) (sym none.looks) far.looked.looks;
+        looks = subst (λ l. Looks (opened first) far.answers (events_seen old) l) (sym none.looks) far.looked.looks;
       };
     };
   }

@@ -1,5 +1,5 @@
 -- A door's trace over a pass and its reader, as one over what its caller knows, where all that the reader has was kept.
-use Rattle.std.proofs.Common.{◌≡◌, ◌⊎◌, ◌<◌, ◌≤◌, ℕ, Bool, true, false, List, [], ◌∷◌, ◌++◌, Option, Some, max}
+use Rattle.std.proofs.Common.{◌≡◌, ◌⊎◌, ◌<◌, ◌≤◌, ℕ, Bool, true, false, List, [], ◌∷◌, ◌++◌, Some, max}
 use Rattle.std.proofs.Common.{inl, inr, ⊎_elim, refl, sym, ap, subst, ◌∙◌, arith}
 use mathlib.Core.List.{IsPrefix}
 use Rattle.std.proofs.lemmas.Bool.{cases_lt}
@@ -19,7 +19,7 @@ use Rattle.session_shell.specs.Exchange.{Exchange, Asked as AskedOf, Refused, Wa
 use Rattle.session_shell.specs.Transcript.{EndView, GoesBy, IsSession}
 use Rattle.session_threads.specs.Gates.{FollowsIn, GateView, MissedIn, ReadsLast, ReadsOn, StartsReading, TellsKept}
 use Rattle.session_threads.specs.History.{FollowsAsked, FollowsTurn, HasMissed, Known, known_first}
-use Rattle.session_threads.specs.Passes.{CallerPass, WentOn}
+use Rattle.session_threads.specs.Passes.{CallerPass, WentOn, events_seen}
 use Rattle.session_threads.specs.Naming.{IsPrefix-same, IsPrefix-then}
 use Rattle.session_threads.proofs.ListLemmas.{All-last}
 use Rattle.session_threads.proofs.PassLemmas.{WentOn-then}
@@ -144,7 +144,7 @@ module _ (never_fall : (one two : List Kept) (view later : Kept) → AreViews tw
     Knows = FollowsAsked (opened first) caller final
 
     abbrev known : GateView → ℕ → Known
-    known d front = record { events = d.pass.seen; front = front }
+    known d front = record { events = events_seen d.pass; front = front }
 
     -- one ask
     one_known : (d e : GateView) (command : Command) (answer : ℕ) (given : Given0) (front : ℕ) → d.pass.fixed ≡ Some first
@@ -154,8 +154,9 @@ module _ (never_fall : (one two : List Kept) (view later : Kept) → AreViews tw
         let turns = goes.comes.turns first fixed in (
           max front turns.tells.after.kept.count,
           record {
-            turn = subst (λ c. FollowsTurn (opened first) c d.pass.seen command answer (Done place reply) e.pass.seen) is_caller
-                turns.turn;
+            turn = subst
+                (λ c. FollowsTurn (opened first) c (events_seen d.pass) command answer (Done place reply) (events_seen e.pass))
+                is_caller turns.turn;
             after = turns.tells.after;
             leads = turns.tells.leads;
             front = refl;
@@ -168,7 +169,7 @@ module _ (never_fall : (one two : List Kept) (view later : Kept) → AreViews tw
         let read = goes.comes.answers.read in (
           shown,
           record {
-            same = ap (λ (p : CallerPass). p.seen) goes.comes.same;
+            same = ap events_seen goes.comes.same;
             reached = omega (
               arith,
               read_reaches front answer false d.reader e.reader goes.reads within read reaches,
@@ -193,7 +194,7 @@ module _ (never_fall : (one two : List Kept) (view later : Kept) → AreViews tw
     one_known d e command answer NoMemory front fixed is_caller within reaches goes = (
       front,
       record {
-        turn = subst (λ c. FollowsTurn (opened first) c d.pass.seen command answer Wanting e.pass.seen) is_caller
+        turn = subst (λ c. FollowsTurn (opened first) c (events_seen d.pass) command answer Wanting (events_seen e.pass)) is_caller
             (goes.comes first fixed);
         front = refl;
       },
@@ -224,7 +225,7 @@ module _ (never_fall : (one two : List Kept) (view later : Kept) → AreViews tw
       → d.pass.fixed ≡ Some first → WentOn d.pass d.pass → StartsReading first d.reader → IsPrefix e.reader.list list
       → IsSession FollowsIn limit how turns old new d e
       → (front : ℕ) × IsSession (FollowsAsked (opened first) d.pass.caller final) limit how turns old new
-      (known_first (opened first) d.pass.seen) (record { events = e.pass.seen; front = front })
+      (known_first (opened first) (events_seen d.pass)) (record { events = events_seen e.pass; front = front })
   IsSession-known limit how turns old new d e fixed same starts within s =
       let t = s.transcript in
       let went = goes_known d.pass.caller d.pass fixed refl (t.asked ++ t.final) d e first.opening.count same within

@@ -1,5 +1,5 @@
 -- What all sessions of a run come to, once the lock is closed.
-use Rattle.std.proofs.Common.{◌≡◌, ◌≢◌, ◌⊎◌, ◌+◌, ◌<◌, ◌≤◌, ℕ, Bool, zero, suc, List, [], ◌∷◌, ◌++◌, length}
+use Rattle.std.proofs.Common.{◌≡◌, ◌≢◌, ◌⊎◌, ◌+◌, ◌<◌, ◌≤◌, ℕ, zero, suc, List, [], ◌∷◌, ◌++◌, length}
 use Rattle.std.proofs.Common.{map, take, drop, All, Contains, Option, None, Some}
 use Rattle.std.proofs.Common.{true, false, inl, inr, ⊎_elim, eqb, eq-eqb, refl, sym, ap, subst, ◌∙◌, append_assoc, arith}
 use mathlib.Core.List.{IsPrefix}
@@ -20,20 +20,24 @@ use Rattle.turn_lock.specs.declared.view.Ended.{Ended}
 use Rattle.turn_lock.specs.Histories.{entries_by}
 use Rattle.turn_lock.specs.Passes.{IsClosed, ended_of, first_pass}
 use Rattle.session_threads.specs.declared.seat.Seat.{Seat}
+use Rattle.session_threads.specs.declared.noted.Noted.{Noted}
 use Rattle.session_threads.specs.Adding.{AddsUp}
 use Rattle.session_threads.specs.Begun.{start_of}
 use Rattle.session_threads.specs.History.{FollowsAsked, HasSession, known_first}
 use Rattle.session_threads.specs.Looks.{HasLooked, HasTicked, TickerView}
+use Rattle.session_threads.specs.Naming.{events_of-begins}
+use Rattle.session_threads.specs.Noted.{caller_in, events_of, merged}
 use Rattle.session_threads.specs.Results.{IsResult, IsUnbegun, SessionResult, status_of_all, users_of_ends}
 use Rattle.session_threads.specs.Rows.{AreLeft, IsSeatOf, NoneServed, Pairs, PairsFrom, SitsIn, pass_for, taken, with_all_ended}
 use Rattle.session_threads.specs.Served.{AreServed, EachFrom, HasReaders, IsUnderway, ServedView}
 use Rattle.session_threads.specs.Passes.{CallerPass, IsReady, KnowsOwn}
 use Rattle.session_threads.specs.Sessions.{HasRun, IsSeated, ServesOne, ServesSeat, StaysOut}
-use Rattle.session_threads.specs.Passes.{WentOn, caller_in}
+use Rattle.session_threads.specs.Passes.{WentOn, events_seen}
 use Rattle.session_threads.specs.Ticks.{IsTickersPass, TicksOn}
 use Rattle.session_threads.proofs.LaterLemmas.{IsSession-later}
 use Rattle.session_threads.proofs.ListLemmas.{All-append, some_is}
 use Rattle.session_threads.proofs.LogLemmas.{AddsUp-begun, AddsUp-none}
+use Rattle.session_threads.proofs.NotedLemmas.{events_of-merged, few-events}
 use Rattle.session_threads.proofs.PassLemmas.{none_by, not_kept, others_behind}
 use Rattle.session_threads.proofs.RowLemmas.{PairsFrom-length, caller-with_all_ended, ended-with_all_ended, fixed-with_all_ended}
 use Rattle.session_threads.proofs.RowLemmas.{lock-with_all_ended, own-with_all_ended, seen-with_all_ended, splits-with_all_ended}
@@ -53,30 +57,31 @@ at_most_or_more (suc a) (suc b) = ⊎_elim (λ (few : a ≤ b). inl (omega (arit
 not_both : true ≡ false → ⊥
 not_both both = cc
 
--- where callers above a number have no events, no event is of one of them
-few_callers : (most : ℕ) (events : List Happened) → ((caller : ℕ) → most < caller → entries_by caller_in caller events ≡ [])
-    → AllByRecursion (λ event. event.caller ≤ most) events
+-- where callers above a number have nothing in a history, nothing is of one of them
+few_callers : (most : ℕ) (list : List Noted) → ((caller : ℕ) → most < caller → entries_by caller_in caller list ≡ [])
+    → AllByRecursion (λ entry. caller_in entry ≤ most) list
 few_callers most [] none = tt
-few_callers most (event ∷ events) none = (
-  ⊎_elim (λ (few : event.caller ≤ most). few) (λ (more : most < event.caller).
-      let isn't = (not_kept (eqb event.caller event.caller) event (entries_by caller_in event.caller events) (none event.caller more)).0 in
-      let both : true ≡ false = sym (eq-eqb event.caller event.caller refl) ∙ isn't in absurd (not_both both))
-      (at_most_or_more event.caller most),
-  few_callers most events
-      (λ caller more. (not_kept (eqb event.caller caller) event (entries_by caller_in caller events) (none caller more)).1),
+few_callers most (entry ∷ list) none = (
+  ⊎_elim (λ (few : caller_in entry ≤ most). few) (λ (more : most < caller_in entry).
+      let isn't = (not_kept (eqb (caller_in entry) (caller_in entry)) entry (entries_by caller_in (caller_in entry) list)
+      (none (caller_in entry) more)).0 in
+      let both : true ≡ false = sym (eq-eqb (caller_in entry) (caller_in entry) refl) ∙ isn't in absurd (not_both both))
+      (at_most_or_more (caller_in entry) most),
+  few_callers most list
+      (λ caller more. (not_kept (eqb (caller_in entry) caller) entry (entries_by caller_in caller list) (none caller more)).1),
 )
 
--- what a longer history has more than a pass has seen is others', where the pass has all its caller's events
-others_after : (pass : CallerPass) (caller : ℕ) (history : List Happened) (begins : IsPrefix pass.seen history)
+-- the events that a longer history has more than a pass has seen are others', where the pass has all that is its caller's
+others_after : (pass : CallerPass) (caller : ℕ) (history : List Noted) (begins : IsPrefix pass.seen history)
     → pass.caller ≡ caller → KnowsOwn pass → entries_by caller_in caller history ≡ pass.own
-    → AllByRecursion (λ event. event.caller ≢ caller) begins.0
+    → AllByRecursion (λ event. event.caller ≢ caller) (events_of begins.0)
 others_after pass caller history begins is own all = others_behind caller pass.seen begins.0 pass.own
     (subst (λ k. entries_by caller_in k pass.seen ≡ pass.own) is own)
     (ap (entries_by caller_in caller) begins.1 ∙ all)
 
 -- what holds of all that is kept of ended passes
-each_ended : {S K C J : Type 0} (Is : Ended Happened → Type 0) (seats : List (Seat S K C DatabaseView J))
-    → ((pass : Ended Happened) → Contains (map (λ seat. ended_of seat.pass) seats) pass → Is pass)
+each_ended : {S K C J : Type 0} (Is : Ended Noted → Type 0) (seats : List (Seat S K C DatabaseView J))
+    → ((pass : Ended Noted) → Contains (map (λ seat. ended_of seat.pass) seats) pass → Is pass)
     → AllByRecursion (λ seat. Is (ended_of seat.pass)) seats
 each_ended Is [] all = tt
 each_ended Is (seat ∷ seats) all = (
@@ -112,7 +117,7 @@ module _ (J : Type 0) {S K C : Type 0} (view : End S K C → EndView) (limit : �
     fixed = fixed;
     within = (some, few);
     own = ap (entries_by caller_in caller) fresh;
-    legal = subst (λ l. IsLegal (opened first) l) (sym fresh) (opened first, refl);
+    legal = subst (λ (l : List Noted). IsLegal (opened first) (events_of l)) (sym fresh) (opened first, refl);
   }
 
   seated_from : (number : ℕ) (ends : List (End S K C)) (seats : List (Option Taken)) → 0 < number
@@ -170,32 +175,33 @@ module _ (J : Type 0) {S K C : Type 0} (view : End S K C → EndView) (limit : �
       ap (λ (a : A). a ∷ map of_result (results_of ends seats)) (same end seat)
       ∙ ap (λ l. of_seat seat ∷ l) (seats_of_results of_result of_seat same (number + 1) ends seats pairs.1)
 
-  module _ (history : List Happened) where
+  module _ (history : List Noted) where
     -- a history has of a pass's caller what the pass has as its own, and begins with what the pass has seen
-    abbrev IsKnown : Ended Happened → Type 0
+    abbrev IsKnown : Ended Noted → Type 0
     IsKnown pass = (entries_by caller_in pass.caller history ≡ pass.own) × IsPrefix pass.seen history
 
     session_in : (caller : ℕ) (end : End S K C) (seat : Taken) → WentOn (pass_for start caller) seat.pass
         → IsKnown (ended_of seat.pass)
         → HasRun view limit first (pass_for start caller) seat.pass (result_for end seat)
         ⊎ StaysOut (pass_for start caller) seat.pass (result_for end seat)
-        → HasSession (opened first) caller limit history seat.how seat.turns (view end) (view seat.end)
-        ⊎ IsUnbegun history caller (result_for end seat)
+        → HasSession (opened first) caller limit (events_of history) seat.how seat.turns (view end) (view seat.end)
+        ⊎ IsUnbegun (events_of history) caller (result_for end seat)
     session_in caller end seat goes known (inl run) = inl (record {
       before = [];
       after = run.after;
-      later = run.later ++ known.1.0;
-      begins = sym known.1.1 ∙ ap (λ l. l ++ known.1.0) run.begins ∙ append_assoc run.after.events run.later known.1.0;
+      later = run.later ++ events_of known.1.0;
+      begins = sym (events_of-begins seat.pass.seen history known.1) ∙ ap (λ l. l ++ events_of known.1.0) run.begins
+          ∙ append_assoc run.after.events run.later (events_of known.1.0);
       others_first = tt;
-      none_later = All-append (λ (event : Happened). event.caller ≢ caller) run.later known.1.0 run.none_later
+      none_later = All-append (λ (event : Happened). event.caller ≢ caller) run.later (events_of known.1.0) run.none_later
           (others_after seat.pass caller history known.1 goes.caller goes.own
           (subst (λ k. entries_by caller_in k history ≡ seat.pass.own) goes.caller known.0));
-      session = subst (λ l. IsSession (FollowsAsked (opened first) caller history) limit seat.how seat.turns (view end) (view seat.end)
-          (known_first (opened first) l) run.after) fresh
+      session = subst (λ (l : List Noted). IsSession (FollowsAsked (opened first) caller (events_of history)) limit seat.how seat.turns
+          (view end) (view seat.end) (known_first (opened first) (events_of l)) run.after) fresh
           (subst (λ l. IsSession (FollowsAsked (opened first) caller l) limit seat.how seat.turns (view end) (view seat.end)
-          (known_first (opened first) start.seen) run.after) known.1.1
-          (IsSession-later (opened first) caller seat.pass.seen known.1.0 limit seat.how seat.turns (view end) (view seat.end)
-          (known_first (opened first) start.seen) run.after run.session));
+          (known_first (opened first) (events_seen start)) run.after) (events_of-begins seat.pass.seen history known.1)
+          (IsSession-later (opened first) caller (events_seen seat.pass) (events_of known.1.0) limit seat.how seat.turns (view end)
+          (view seat.end) (known_first (opened first) (events_seen start)) run.after run.session));
     })
     session_in caller end seat goes known (inr out) = inr (record {
       how = out.how;
@@ -207,7 +213,7 @@ module _ (J : Type 0) {S K C : Type 0} (view : End S K C → EndView) (limit : �
 
     results_from : (number : ℕ) (ends : List (End S K C)) (seats : List Taken) → PairsFrom IsServed number ends seats
         → AllByRecursion (λ seat. IsKnown (ended_of seat.pass)) seats
-        → EachFrom (IsResult view (opened first) limit history) number (results_of ends seats)
+        → EachFrom (IsResult view (opened first) limit (events_of history)) number (results_of ends seats)
     results_from number [] seats pairs known = tt
     results_from number (end ∷ ends) [] pairs known = tt
     results_from number (end ∷ ends) (seat ∷ seats) pairs known = (
@@ -217,9 +223,10 @@ module _ (J : Type 0) {S K C : Type 0} (view : End S K C → EndView) (limit : �
 
 -- a database whose readers were handed out began as it did
 pub made_of : (first given : DatabaseView) (made : ServedView) → given ≡ record first { readers = [] }
-    → made ≡ record { first = start_of given; database = given } → made ≡ record { first = start_of first; database = given }
+    → made ≡ record { first = start_of given; database = given; notes = [] }
+    → made ≡ record { first = start_of first; database = given; notes = [] }
 made_of first given made is is_made =
-    subst (λ (f : DatabaseView). made ≡ record { first = f; database = given }) (ap start_of is) is_made
+    subst (λ (f : DatabaseView). made ≡ record { first = f; database = given; notes = [] }) (ap start_of is) is_made
 
 -- the readers that were handed out
 pub handed : (first : DatabaseView) (readers : List ReaderView) (count : ℕ)
@@ -228,7 +235,7 @@ handed first readers count has is = subst (HasReaders first.opening count) (sym 
 
 module _ (J : Type 0) {S K C : Type 0} (view : End S K C → EndView) (limit : ℕ) (first : DatabaseView) where
   module _ (lock : TableId) (callers : ℕ) (start split : CallerPass) (database : DatabaseView) (made : ServedView)
-      (is_made : made ≡ record { first = first; database = database }) (begins_so : start ≡ first_pass lock made.first callers)
+      (is_made : made ≡ record { first = first; database = database; notes = [] }) (begins_so : start ≡ first_pass lock made.first callers)
       (ends : List (End S K C)) (is_split : split ≡ record start { splits = length ends })
       (row seats : List (Option (Seat S K C DatabaseView J))) (sits : PairsFrom (SitsIn first.opening start) 1 ends row) (lent : seats ≡ row)
       (users : first.users ≡ users_of_ends ends) where
@@ -331,10 +338,16 @@ module _ (J : Type 0) {S K C : Type 0} (view : End S K C → EndView) (limit : �
         )
 
         module _ (value : ServedView)
-            (closed : IsClosed (λ (v : ServedView). v.database.events) caller_in (λ (v : ServedView). v.first) last value)
+            (closed : IsClosed (λ (v : ServedView). merged 0 v.database.events v.notes) caller_in (λ (v : ServedView). v.first) last value)
             (underway : IsUnderway value) (v : DatabaseView) (is : v ≡ value.database) where
-          abbrev history : List Happened
-          history = value.database.events
+          abbrev history : List Noted
+          history = merged 0 value.database.events value.notes
+
+          abbrev happened : List Happened
+          happened = value.database.events
+
+          are_events : events_of history ≡ happened
+          are_events = events_of-merged 0 happened value.notes
 
           same_first : value.first ≡ first
           same_first = some_is (sym closed.is_fixed ∙ ap (λ (p : CallerPass). p.fixed) passes
@@ -343,13 +356,13 @@ module _ (J : Type 0) {S K C : Type 0} (view : End S K C → EndView) (limit : �
           begins : IsPrefix gone.seen history
           begins = subst (λ l. IsPrefix l history) seen closed.begins
 
-          looked : HasTicked (opened first) ticker ticker' history
+          looked : HasTicked (opened first) ticker ticker' (events_of history)
           looked = record {
-            seen = gone.seen;
-            later = begins.0;
-            begins = sym begins.1;
+            seen = events_seen gone;
+            later = events_of begins.0;
+            begins = sym (events_of-begins gone.seen history begins);
             none_later = others_after gone 0 history begins gone_here.1 ticks.goes.own (closed.first_own ∙ own);
-            looked = subst (λ l. HasLooked (opened first) ticker ticker' l gone.seen)
+            looked = subst (λ (l : List Noted). HasLooked (opened first) ticker ticker' (events_of l) (events_seen gone))
                 (ap (λ (p : CallerPass). p.seen) is_split ∙ fresh) ticks.looked;
           }
 
@@ -371,18 +384,19 @@ module _ (J : Type 0) {S K C : Type 0} (view : End S K C → EndView) (limit : �
 
           pub AreServed-of : AreServed view limit first ends ticker (record { ends = ends'; ticker = ticker'; turns = turns; database = v; status = status })
           AreServed-of = subst (λ w. AreServed view limit first ends ticker (record { ends = ends'; ticker = ticker'; turns = turns; database = w; status = status })) (sym is) (record {
-            leads = subst (λ v. Leads (opened v) history value.database.state) same_first underway.leads;
-            adds = subst (λ v. AddsUp history v value.database) same_first underway.adds;
+            leads = subst (λ v. Leads (opened v) happened value.database.state) same_first underway.leads;
+            adds = subst (λ v. AddsUp happened v value.database) same_first underway.adds;
             results = results;
             old = ends_of_results J view limit first lock start here fixed fresh 1 ends
                 (taken seats') served;
             new = told (λ result. result.new) (λ seat. seat.end) (λ end seat. refl) ∙ sym are_left.ends_are;
             turned = told (λ result. result.turns) (λ seat. seat.turns) (λ end seat. refl) ∙ sym are_left.turns_are;
-            each = results_from J view limit first lock start here fixed fresh history 1 ends
-                (taken seats') served known;
-            ticked = looked;
-            callers = subst (λ n. AllByRecursion (λ event. event.caller ≤ n) history) splits
-                (few_callers last.splits history closed.no_other);
+            each = subst (λ l. EachFrom (IsResult view (opened first) limit l) 1 results) are_events
+                (results_from J view limit first lock start here fixed fresh history 1 ends (taken seats') served known);
+            ticked = subst (λ l. HasTicked (opened first) ticker ticker' l) are_events looked;
+            callers = subst (λ n. AllByRecursion (λ event. event.caller ≤ n) happened) splits
+                (subst (λ l. AllByRecursion (λ event. event.caller ≤ last.splits) l) are_events
+                (few-events last.splits history (few_callers last.splits history closed.no_other)));
             is_status = are_left.status_is
                 ∙ ap status_of_all (sym (told (λ result. result.how) (λ seat. seat.how) (λ end seat. refl)));
           })

@@ -19,7 +19,7 @@ use Rattle.session_shell.specs.declared.door.Given0.TheVariants.{Kept as KeptAt,
 use Rattle.session_shell.specs.Shows.{IsActiveShow, PrintsWhole}
 use Rattle.session_threads.specs.Adding.{given_of}
 use Rattle.session_threads.specs.History.{FollowsTurn, HasEvent, ShowsKept}
-use Rattle.session_threads.specs.Passes.{CallerPass, KnowsOwn, WentOn}
+use Rattle.session_threads.specs.Passes.{CallerPass, KnowsOwn, WentOn, events_seen}
 
 -- a caller's pass, and what its reader knows
 pub record GateView : Type 0 where
@@ -93,13 +93,13 @@ pub record ReadsShow (command : Command) (answer : ℕ) (given : Option Given0) 
 abbrev pub NeedsTurn : Command → ℕ → ReaderView → Type 0
 NeedsTurn command answer reader = IsActiveShow command → ReadsLast answer true reader
 
--- a show was answered without a turn; what the pass has seen is a legal history, and has its caller's events
+-- a show was answered without a turn; the events that the pass has seen are a legal history, and it has its caller's
 pub record SeesAt (d : GateView) (command : Command) (answer : ℕ) (given : Given0) (reader : ReaderView) : Type 0 where
   pub is_show : IsActiveShow command
   pub gives : GivesShow command answer (Some given) reader
   pub prints : PrintsWhole command given
   pub own : KnowsOwn d.pass
-  pub legal : (first : DatabaseView) → d.pass.fixed ≡ Some first → IsLegal (opened first) d.pass.seen
+  pub legal : (first : DatabaseView) → d.pass.fixed ≡ Some first → IsLegal (opened first) (events_seen d.pass)
 
 -- what was answered without a turn
 abbrev pub LooksAt : GateView → Command → ℕ → Option Given0 → ReaderView → Type 0
@@ -116,9 +116,9 @@ pub record LooksIn (d : GateView) (command : Command) (answer : ℕ) (given : Op
 -- the turn of a caller's command over a database that began so, and what was reported after it
 pub record TurnsIn (first : DatabaseView) (d : GateView) (command : Command) (answer : ℕ) (answered : Answered)
     (e : GateView) : Type 0 where
-  pub turn : FollowsTurn (opened first) d.pass.caller d.pass.seen command answer answered e.pass.seen
+  pub turn : FollowsTurn (opened first) d.pass.caller (events_seen d.pass) command answer answered (events_seen e.pass)
   pub list : List Kept
-  pub tells : TellsKept (opened first) e.pass.seen list
+  pub tells : TellsKept (opened first) (events_seen e.pass) list
   pub told : IsToldOf answered list e.reader
 
 -- a command took its turn
@@ -153,7 +153,7 @@ pub record SeenIn (d : GateView) (command : Command) (answer front : ℕ) (reply
 abbrev pub WantingIn : GateView → Command → ℕ → GateView → Type 0
 WantingIn d command answer e =
     (first : DatabaseView) → d.pass.fixed ≡ Some first
-    → FollowsTurn (opened first) d.pass.caller d.pass.seen command answer Wanting e.pass.seen
+    → FollowsTurn (opened first) d.pass.caller (events_seen d.pass) command answer Wanting (events_seen e.pass)
 
 -- by what was given
 abbrev pub ComesIn : GateView → Command → ℕ → Given0 → GateView → Type 0
@@ -184,7 +184,7 @@ pub record HasShown (command : Command) (front : ℕ) (reply : Reply) (reader : 
 abbrev pub NamesIn : GateView → Command → ℕ → Given0 → Type 0
 NamesIn d command answer (KeptAt place reply) =
     (first : DatabaseView) → d.pass.fixed ≡ Some first
-    → HasEvent (opened first) d.pass.caller d.pass.seen command answer (Done place reply)
+    → HasEvent (opened first) d.pass.caller (events_seen d.pass) command answer (Done place reply)
 NamesIn d command answer (Seen front reply) = HasShown command front reply d.reader
 NamesIn d command answer (Denied front right) = ⊥
 NamesIn d command answer (Unready front) = ⊥

@@ -4,6 +4,7 @@ pub mod Gates
 pub mod History
 pub mod Looks
 pub mod Naming
+pub mod Noted
 pub mod Passes
 pub mod Results
 pub mod Rows

@@ -9,27 +9,29 @@ use Rattle.session_history.specs.declared.history.Happened.{Happened}
 use Rattle.session_history.specs.Events.{IsLegal}
 use Rattle.turn_lock.specs.Histories.{entries_by}
 use Rattle.turn_lock.specs.Passes.{PassView}
+use Rattle.session_threads.specs.declared.noted.Noted.{Noted}
 use Rattle.session_threads.specs.History.{FollowsTurn}
+use Rattle.session_threads.specs.Noted.{caller_in, events_of}
 
 -- a pass of a lock over a database
 abbrev pub CallerPass : Type 0
-CallerPass = PassView Happened DatabaseView
+CallerPass = PassView Noted DatabaseView
 
--- whose an event is
-abbrev pub caller_in : Happened → ℕ
-caller_in event = event.caller
+-- the events that a pass has seen
+abbrev pub events_seen : CallerPass → List Happened
+events_seen pass = events_of pass.seen
 
--- a pass has as its own the events of its caller among those that it has seen
+-- a pass has as its own what is its caller's among what it has seen
 abbrev pub KnowsOwn : CallerPass → Type 0
 KnowsOwn pass = entries_by caller_in pass.caller pass.seen ≡ pass.own
 
--- a pass of that lock, over a database that began so, for one of its users; what it has seen is a legal history
+-- a pass of that lock, over a database that began so, for one of its users; the events that it has seen are a legal history
 pub record IsReady (lock : TableId) (first : DatabaseView) (pass : CallerPass) : Type 0 where
   pub here : pass.lock ≡ lock
   pub fixed : pass.fixed ≡ Some first
   pub within : (0 < pass.caller) × (pass.caller ≤ length first.users)
   pub own : KnowsOwn pass
-  pub legal : IsLegal (opened first) pass.seen
+  pub legal : IsLegal (opened first) (events_seen pass)
 
 -- a pass took turns: it is the same pass, and has seen more
 pub record WentOn (old new : CallerPass) : Type 0 where
@@ -42,7 +44,7 @@ pub record WentOn (old new : CallerPass) : Type 0 where
   pub later : IsPrefix old.seen new.seen
   pub own : KnowsOwn new
 
--- a history grew by what one turn of a caller made, and by nothing else
+-- events grew by what one turn of a caller made, and by nothing else
 pub record FollowsAlone (first : DatabaseView) (caller : ℕ) (events : List Happened) (command : Command)
     (answer : ℕ) (answered : Answered) (events' : List Happened) : Type 0 where
   pub follows : FollowsTurn (opened first) caller events command answer answered events'

@@ -1,26 +1,32 @@
 -- The database under the lock, and what results from all sessions over it. This project's own.
-use Rattle.std.specs.Prelude.{◌≡◌, ◌≤◌, ◌+◌, ℕ, Bool, List, [], ◌∷◌, length, map, Option}
+use Rattle.std.specs.Prelude.{◌≡◌, ◌≤◌, ◌+◌, ℕ, List, [], ◌∷◌, length, map}
 use Rattle.std.specs.List.{AllByRecursion}
 use Rattle.active_snapshot.specs.States.{ReaderView, first_read}
 use Rattle.commit_ledger.specs.Kept.{Kept}
 use Rattle.config_db.specs.View.{DatabaseView, opened}
 use Rattle.session_history.specs.Events.{Leads}
 use Rattle.session_shell.specs.declared.turn.Turn.{Turn}
-use Rattle.session_threads.specs.Adding.{AddsUp}
 use Rattle.session_shell.specs.Transcript.{EndView}
+use Rattle.session_threads.specs.declared.noted.Note.{Note}
+use Rattle.session_threads.specs.Adding.{AddsUp, NotesAreCounted}
 use Rattle.session_threads.specs.Looks.{HasTicked, TickerView}
+use Rattle.session_threads.specs.Noted.{AreUpTo}
 use Rattle.session_threads.specs.Results.{IsResult, SessionResult, status_of_all}
 
--- the database, and how it was before its first turn
+-- the database, how it was before its first turn, and the notes of turns whose command became no event
 pub record ServedView : Type 0 where
   pub first : DatabaseView
   pub database : DatabaseView
+  pub notes : List Note
 
--- nothing had happened before the first turn, and all that happened since led to the database's state and adds up
+-- nothing had happened before the first turn, and all that happened since led to the database's state and adds up, with the
+-- notes; none of these came after more events than there are
 pub record IsUnderway (v : ServedView) : Type 0 where
   pub fresh : v.first.events ≡ []
   pub leads : Leads (opened v.first) v.database.events v.database.state
   pub adds : AddsUp v.database.events v.first v.database
+  pub noted : NotesAreCounted v.database.events v.notes v.first v.database
+  pub up_to : AreUpTo (length v.database.events) v.notes
 
 -- there is a reader for each of so many sessions, and each was told of the opening's list alone
 abbrev pub HasReaders : Kept → ℕ → List ReaderView → Type 0

@@ -13,7 +13,7 @@ use Rattle.session_shell.specs.Transcript.{EndView, IsSession}
 use Rattle.session_threads.specs.declared.seat.Seat.{Seat}
 use Rattle.session_threads.specs.Gates.{FollowsIn, GateView, StartsReading, TellsKept}
 use Rattle.session_threads.specs.History.{FollowsAsked, Known, known_first}
-use Rattle.session_threads.specs.Passes.{CallerPass, IsReady, Waited, WentOn}
+use Rattle.session_threads.specs.Passes.{CallerPass, IsReady, Waited, WentOn, events_seen}
 use Rattle.session_threads.specs.Results.{SessionResult}
 
 -- no session began
@@ -36,7 +36,7 @@ pub record RunsOne {E : Type 0} (view : E → EndView) (limit : ℕ) (old new : 
 -- all that a reader has was kept by the events that a pass has seen
 pub record IsWithin (first : DatabaseView) (pass : CallerPass) (reader : ReaderView) : Type 0 where
   pub list : List Kept
-  pub tells : TellsKept (opened first) pass.seen list
+  pub tells : TellsKept (opened first) (events_seen pass) list
   pub within : IsPrefix reader.list list
 
 -- a pass took turns in which its caller made nothing, until all that its reader has was kept by what it has seen
@@ -44,15 +44,15 @@ pub record HasLeft (first : DatabaseView) (old new : CallerPass) (reader : Reade
   pub waited : Waited old new
   pub within : IsWithin first new reader
 
--- the session ran over a part of what its pass has seen, after which nothing is its caller's
+-- the session ran over a part of the events that its pass has seen, after which none is its caller's
 pub record HasRun {E : Type 0} (view : E → EndView) (limit : ℕ) (first : DatabaseView) (old new : CallerPass)
     (result : SessionResult E) : Type 0 where
   pub after : Known
   pub later : List Happened
-  pub begins : new.seen ≡ after.events ++ later
+  pub begins : events_seen new ≡ after.events ++ later
   pub none_later : AllByRecursion (λ event. event.caller ≢ old.caller) later
-  pub session : IsSession (FollowsAsked (opened first) old.caller new.seen) limit result.how result.turns (view result.old)
-      (view result.new) (known_first (opened first) old.seen) after
+  pub session : IsSession (FollowsAsked (opened first) old.caller (events_seen new)) limit result.how result.turns (view result.old)
+      (view result.new) (known_first (opened first) (events_seen old)) after
 
 -- the session of a pass's caller was served
 pub record ServesOne {E : Type 0} (view : E → EndView) (limit : ℕ) (first : DatabaseView) (old new : CallerPass)

@@ -5,7 +5,7 @@ use Rattle.config_core.specs.State.{State}
 use Rattle.config_db.specs.View.{DatabaseView, opened}
 use Rattle.session_history.specs.declared.history.Happened.{Happened}
 use Rattle.session_threads.specs.Looks.{AreLooks, HasLooked, TickerView}
-use Rattle.session_threads.specs.Passes.{CallerPass, KnowsOwn, WentOn}
+use Rattle.session_threads.specs.Passes.{CallerPass, KnowsOwn, WentOn, events_seen}
 
 -- the pass of the ticker, which is caller 0
 pub record IsTickersPass (lock : TableId) (first : DatabaseView) (pass : CallerPass) : Type 0 where
@@ -27,9 +27,9 @@ IsRound opening false old new events events' =
 -- the ticker took at most one turn
 pub record Ticks (goes_on : Bool) (first : DatabaseView) (old new : CallerPass) (ticker ticker' : TickerView) : Type 0 where
   pub goes : WentOn old new
-  pub round : IsRound (opened first) goes_on ticker ticker' old.seen new.seen
+  pub round : IsRound (opened first) goes_on ticker ticker' (events_seen old) (events_seen new)
 
 -- the ticker took turns
 pub record TicksOn (first : DatabaseView) (old new : CallerPass) (ticker ticker' : TickerView) : Type 0 where
   pub goes : WentOn old new
-  pub looked : HasLooked (opened first) ticker ticker' old.seen new.seen
+  pub looked : HasLooked (opened first) ticker ticker' (events_seen old) (events_seen new)

@@ -10,6 +10,7 @@ ghost use Rattle.session_shell.specs.Shows.{PrintsWhole};
 ghost use Rattle.session_threads.specs.Adding.{given_of};
 ghost use Rattle.session_threads.specs.Gates.{TellsKept};
 ghost use Rattle.session_threads.specs.Looks.{LooksAlone};
+ghost use Rattle.session_threads.specs.Noted.{GoesByEvents, events_of};
 ghost use Rattle.session_threads.specs.Passes.{FollowsAlone};
 
 use crate::served::Served;
@@ -60,10 +61,10 @@ impl<D: Disk, J: Naming> Deed<Served<D, J>> for Ask {
     ghost may = { λ deed caller first. IsSound deed.command × (0 < caller) × (caller ≤ length first.users) };
 
     ghost says = { λ deed caller first before after asked.
-        FollowsAlone first caller before deed.command deed.moment asked.answered after
-        × (TellsKept (opened first) after asked.note.list
+        GoesByEvents (λ were are. FollowsAlone first caller were deed.command deed.moment asked.answered are
+        × (TellsKept (opened first) are asked.note.list
         × (IfSome asked.view (λ view. IsLast asked.note.list (arc_value view))
-        × PrintsWhole deed.command (given_of asked.answered))) };
+        × PrintsWhole deed.command (given_of asked.answered)))) before after };
 
     fn act<R: Wait>(self, rt: &R, caller: u32, served: &mut Served<D, J>) -> Asked<J> {
         let Ask { moment, command } = self;
@@ -91,7 +92,7 @@ impl<D: Disk, J: Naming> Deed<Served<D, J>> for Look {
 
     ghost may = { λ deed caller first. caller ≡ 0 };
 
-    ghost says = { λ deed caller first before after serves. LooksAlone (opened first) deed.moment before after };
+    ghost says = { λ deed caller first before after serves. GoesByEvents (LooksAlone (opened first) deed.moment) before after };
 
     fn act<R: Wait>(self, rt: &R, _caller: u32, served: &mut Served<D, J>) -> bool {
         let _looked = served.database.tick(rt, self.moment);
@@ -130,7 +131,7 @@ impl<D: Disk, J: Naming> Deed<Served<D, J>> for Leave {
     ghost may = { λ deed caller first. Unit {0} };
 
     ghost says = { λ deed caller first before after note.
-        (after ≡ before) × TellsKept (opened first) after note.list };
+        (after ≡ before) × TellsKept (opened first) (events_of after) note.list };
 
     fn act<R: Wait>(self, _rt: &R, _caller: u32, served: &mut Served<D, J>) -> SnapNote<J> {
         served.waiting = waiting_after(served.waiting, self.is_first);

@@ -17,6 +17,7 @@ ghost use Rattle.session_threads.specs.Passes.{IsReady};
 
 use crate::begun::Begun;
 use crate::deeds::{Ask, Asked};
+use crate::noted::Noted;
 use crate::served::Served;
 use active_snapshot::{Naming, Read, Shown, SnapNote, SnapReader};
 use cfg_base::{Moment, NoMemory};
@@ -25,7 +26,6 @@ use commands::Command;
 use config_core::{Reply, show_active};
 use config_db::Answered;
 use disk_model::Disk;
-use session_history::Happened;
 use session_shell::{Door, Given0};
 use std::alloc::Global;
 use std::marker::Model;
@@ -36,7 +36,7 @@ use turn_lock::{Pass, Turns};
 pub(crate) struct Gate<'a, D: Disk, J: Naming> {
     alloc: Global,
     lock: &'a Turns<Served<D, J>>,
-    pass: Pass<Happened, Begun<D>>,
+    pass: Pass<Noted, Begun<D>>,
     reader: SnapReader<J>,
 }
 
@@ -154,7 +154,7 @@ impl<'a, D: Disk, J: Naming> Gate<'a, D, J> {
     pub(crate) fn of(
         alloc: Global,
         lock: &'a Turns<Served<D, J>>,
-        pass: Pass<Happened, Begun<D>>,
+        pass: Pass<Noted, Begun<D>>,
         reader: SnapReader<J>,
     ) -> Gate<'a, D, J>
         requires { (first : DatabaseView) × IsReady lock.now first pass }
@@ -169,7 +169,7 @@ impl<'a, D: Disk, J: Naming> Gate<'a, D, J> {
     }
 
     /// The pass and the reader.
-    pub(crate) fn into_parts(self) -> (Pass<Happened, Begun<D>>, SnapReader<J>)
+    pub(crate) fn into_parts(self) -> (Pass<Noted, Begun<D>>, SnapReader<J>)
         ensures { self.entry ≡ record { pass = result.0; reader = result.1 } }
     {
         let Gate {

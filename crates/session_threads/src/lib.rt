@@ -10,6 +10,7 @@
 mod begun;
 mod deeds;
 mod gate;
+mod noted;
 mod seat;
 mod served;
 mod threads;

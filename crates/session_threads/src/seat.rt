@@ -9,12 +9,12 @@ ghost use Rattle.session_threads.specs.Sessions.{CanServe, HasLeft, IsSeated, Is
 use crate::begun::Begun;
 use crate::deeds::Leave;
 use crate::gate::Gate;
+use crate::noted::Noted;
 use crate::served::Served;
 use active_snapshot::{Naming, SnapReader, fronts_never_fall};
 use cfg_base::Limits;
 use disk_model::Disk;
 use io_edge::{Clock, Sink, Source};
-use session_history::Happened;
 use session_shell::{End, Ended, How, NoSession, Session, TurnList};
 use std::alloc::Global;
 use std::mem::replace;
@@ -23,7 +23,7 @@ use turn_lock::{Pass, Turns};
 
 /// What a session is served with, and what resulted.
 pub(crate) struct Seat<S, K, C, F, J: Naming> {
-    pub pass: Pass<Happened, F>,
+    pub pass: Pass<Noted, F>,
     pub reader: SnapReader<J>,
     pub end: End<S, K, C>,
     pub how: How,
@@ -82,7 +82,7 @@ fn run_session<R: Wait, S: Source, K: Sink, C: Clock, D: Disk, J: Naming>(
 fn ask_leave<R: Wait, D: Disk, J: Naming>(
     rt: &R,
     lock: &Turns<Served<D, J>>,
-    pass: &mut Pass<Happened, Begun<D>>,
+    pass: &mut Pass<Noted, Begun<D>>,
     reader: &SnapReader<J>,
     is_first: bool,
 ) -> bool
@@ -100,7 +100,7 @@ fn ask_leave<R: Wait, D: Disk, J: Naming>(
 fn leave<R: Wait, D: Disk, J: Naming>(
     rt: &R,
     lock: &Turns<Served<D, J>>,
-    pass: &mut Pass<Happened, Begun<D>>,
+    pass: &mut Pass<Noted, Begun<D>>,
     reader: &SnapReader<J>,
 )
     requires { (pass.old.lock ≡ lock.now) × KnowsOwn pass.old }

@@ -11,6 +11,7 @@ ghost use Rattle.session_threads.specs.Sessions.{IsSeated, ServesSeat};
 ghost use Rattle.session_threads.specs.Ticks.{IsTickersPass, TicksOn};
 
 use crate::begun::Begun;
+use crate::noted::Noted;
 use crate::seat::{Seat, serve_at};
 use crate::served::Served;
 use crate::ticking::{Ticker, tick_along};
@@ -18,7 +19,6 @@ use active_snapshot::Naming;
 use cfg_base::Limits;
 use disk_model::Disk;
 use io_edge::{Beat, Clock, Sink, Source};
-use session_history::Happened;
 use std::alloc::Global;
 use std::sync::Wait;
 use std::thread::{Threads, join_mut};
@@ -74,7 +74,7 @@ pub(crate) fn serve_seats<R, T, B, C, D, J>(
     limits: Limits,
     keeps: bool,
     seats: &mut [T],
-    pass: &mut Pass<Happened, Begun<D>>,
+    pass: &mut Pass<Noted, Begun<D>>,
     ticker: &mut Ticker<B, C>,
 )
 where
@@ -111,7 +111,7 @@ fn serve_both<R, T, B, C, D, J>(
     keeps: bool,
     seat: &mut T,
     others: &mut [T],
-    pass: &mut Pass<Happened, Begun<D>>,
+    pass: &mut Pass<Noted, Begun<D>>,
     ticker: &mut Ticker<B, C>,
 )
 where

@@ -7,12 +7,12 @@ ghost use Rattle.session_threads.specs.Ticks.{IsTickersPass, Ticks, TicksOn};
 
 use crate::begun::Begun;
 use crate::deeds::Look;
+use crate::noted::Noted;
 use crate::served::Served;
 use crate::waking::Waker;
 use active_snapshot::Naming;
 use disk_model::Disk;
 use io_edge::{Beat, Clock};
-use session_history::Happened;
 use std::sync::Wait;
 use turn_lock::{Pass, Turns};
 
@@ -39,7 +39,7 @@ impl<B, C> Ticker<B, C> {
 fn look<R: Wait, B: Beat, C: Clock, D: Disk, J: Naming>(
     rt: &R,
     lock: &Turns<Served<D, J>>,
-    pass: &mut Pass<Happened, Begun<D>>,
+    pass: &mut Pass<Noted, Begun<D>>,
     ticker: &mut Ticker<B, C>,
 ) -> bool
     requires { (first : DatabaseView) × IsTickersPass lock.now first pass.old }
@@ -58,7 +58,7 @@ fn look<R: Wait, B: Beat, C: Clock, D: Disk, J: Naming>(
 pub(crate) fn tick_along<R: Wait, B: Beat, C: Clock, D: Disk, J: Naming>(
     rt: &R,
     lock: &Turns<Served<D, J>>,
-    pass: &mut Pass<Happened, Begun<D>>,
+    pass: &mut Pass<Noted, Begun<D>>,
     ticker: &mut Ticker<B, C>,
 )
     requires { (first : DatabaseView) × IsTickersPass lock.now first pass.old }

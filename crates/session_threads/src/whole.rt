@@ -10,6 +10,7 @@ ghost use Rattle.session_threads.specs.Rows.{AreLeft, HasRoom, IsSeatOf, NoneSer
 ghost use Rattle.session_threads.specs.Served.{AreServed, HasReaders};
 
 use crate::begun::Begun;
+use crate::noted::Noted;
 use crate::seat::Seat;
 use crate::served::Served;
 use crate::threads::serve_seats;
@@ -19,7 +20,6 @@ use cfg_base::{Limits, NoMemory, Users};
 use config_db::Database;
 use disk_model::Disk;
 use io_edge::{Beat, Clock, Sink, Source};
-use session_history::Happened;
 use session_shell::{End, How, TurnList};
 use std::alloc::Global;
 use std::sync::Wait;
@@ -95,7 +95,7 @@ fn status_of_none(count: usize) -> u8
 fn seat_all<S, K, C, D: Disk, J: Naming>(
     alloc: Global,
     lock: &Turns<Served<D, J>>,
-    pass: &mut Pass<Happened, Begun<D>>,
+    pass: &mut Pass<Noted, Begun<D>>,
     readers: &mut SnapReaders<J>,
     ends: &mut Vec<End<S, K, C>>,
     seats: &mut Vec<Option<Seat<S, K, C, Begun<D>, J>>>,
@@ -131,7 +131,7 @@ fn seat_all<S, K, C, D: Disk, J: Naming>(
 /// didn't end clean.
 fn leave_all<S, K, C, D: Disk, J: Naming>(
     lock: &Turns<Served<D, J>>,
-    pass: &mut Pass<Happened, Begun<D>>,
+    pass: &mut Pass<Noted, Begun<D>>,
     seats: Vec<Option<Seat<S, K, C, Begun<D>, J>>>,
     ends: &mut Vec<End<S, K, C>>,
     turns: &mut Vec<TurnList>,
@@ -238,7 +238,7 @@ where
     let count = ends.len() as u32;
     let (lock, mut pass) = match Turns::new(
         alloc,
-        Served::of(database, count, &ticker),
+        Served::of(alloc, database, count, &ticker),
         count + 1,
     ) {
         Ok(made) => made,
