@@ -1,16 +1,17 @@
 -- What the parts of the writer make together.
-use Rattle.std.proofs.Common.{◌≡◌, ℕ, zero, suc, ◌+◌, ◌-◌, ◌<◌, Bool, true, false, List, [], ◌∷◌, ◌++◌, length, get_or, filter, flat_map, take, append_assoc, append-nil, Option, Some, None, refl, sym, ap, subst, ◌∙◌, arith, Result, Ok, Err, OnOk, if◌then◌else◌}
+use Rattle.std.proofs.Common.{◌≡◌, ℕ, zero, suc, ◌+◌, ◌-◌, ◌<◌, ◌≤◌, ◌==◌, ◌&&◌, drop, Bool, true, false, List, [], ◌∷◌, ◌++◌, length, get_or, filter, flat_map, take, append_assoc, append-nil, Option, Some, None, refl, sym, ap, subst, ◌∙◌, arith, Result, Ok, Err, OnOk, if◌then◌else◌}
 use Rattle.std.specs.FinMap as map
 use Rattle.std.specs.List.{AllByRecursion}
 use Rattle.cfg_base.specs.declared.path.Step.{Step}
 use Rattle.cfg_base.specs.declared.value.Value.{Value}
 use Rattle.cfg_entries.specs.EntryMap as entry
 use Rattle.cfg_schema.specs.declared.place.Place.{Place}
-use Rattle.cfg_schema.specs.Profile.{row_of, is_named, rows_below}
+use Rattle.cfg_schema.specs.Profile.{row_of, is_named, is_step_of, rows_below}
 use Rattle.cfg_schema.specs.Place.{place_of}
 use Rattle.cfg_tree.specs.Statements.{Statements, last_of, size_of}
-use Rattle.printing_order.specs.Inside.{statements_inside}
+use Rattle.printing_order.specs.Inside.{front_inside, statements_inside}
 use Rattle.printing_order.proofs.EntriesLemmas.{found_all}
+use Rattle.printing_order.proofs.PassLemmas.{past_within}
 use Rattle.printing_order.proofs.RowsLemmas as rows
 use Rattle.serde_json.specs.Data.{Data, Members, put}
 use Rattle.json_text.proofs.RowLemmas.{plain_unordered}
@@ -52,6 +53,27 @@ put_more f ms now new xs at x before put_so within is =
   where
     next : suc at ≡ at + 1
     next = omega arith
+
+-- members that are put of a statement are put up to what follows all that stands in it
+pub put_past : (f : entry.Pair Value → List Pair) (count : ℕ) → ((x : entry.Pair Value) → (length x.0 == count) ≡ false → f x ≡ [])
+    → (ms now new : Members) (inside behind within : List (entry.Pair Value)) (at : ℕ) (e : entry.Pair Value) → now ≡ put_all ms (flat_map f (take at inside))
+    → new ≡ put_all now (f e) → at < length inside → e ≡ get_or inside at e → behind ≡ drop (at + 1) inside → within ≡ front_inside e.0 behind
+    → count ≤ length e.0 → new ≡ put_all ms (flat_map f (take (at + (1 + length within)) inside))
+put_past f count nothing ms now new inside behind within at e before put_so below is rest are deep =
+    put_so
+    ∙ ap (λ (k : Members). put_all k (f e)) before
+    ∙ sym (put_all-append ms (flat_map f (take at inside)) (f e))
+    ∙ ap (λ (ps : List Pair). put_all ms ps)
+    (past_within f count nothing [] (flat_map f (take at inside)) (flat_map f (take at inside) ++ f e) inside behind within at e refl refl below is rest are deep)
+
+-- nothing is made by a row of a statement of another length
+pub no_object : (id count levels : ℕ) (m : Statements) (e : entry.Pair Value) → (length e.0 == count) ≡ false → object_if_of_row id count levels m e ≡ []
+no_object id count levels m e other =
+    ap (λ (b : Bool). if b && is_step_of id (last_of e.0) then own_object levels m e else []) other
+
+pub no_alone : (id count levels : ℕ) (m : Statements) (e : entry.Pair Value) → (length e.0 == count) ≡ false → alone_if_of_row id count levels m e ≡ []
+no_alone id count levels m e other =
+    ap (λ (b : Bool). if b && is_step_of id (last_of e.0) then own_alone id levels m e else []) other
 
 -- no level is left
 pub no_levels : (levels : ℕ) (m : Statements) (path : List Step) → levels ≡ 0 → pairs_below levels m path ≡ []

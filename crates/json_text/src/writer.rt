@@ -1,8 +1,9 @@
 //! The statements below a path of a tree, as members of a JSON object.
 
-ghost use Rattle.std.specs.Prelude.{◌≡◌, ◌<◌, ◌+◌, ◌++◌, [], length, map, flat_map, IfOk, OnOk};
+ghost use Rattle.std.specs.Prelude.{◌≡◌, ◌<◌, ◌+◌, ◌++◌, [], length, map, flat_map, Some, IfOk, OnOk};
 ghost use Rattle.std.specs.FinMap as finite;
 ghost use Rattle.cfg_base.specs.declared.path.TheConstants.{MAX_STEPS};
+ghost use Rattle.cfg_schema.specs.Place.{place_of, place_after};
 ghost use Rattle.cfg_tree.specs.Children.{order_in};
 ghost use Rattle.cfg_tree.specs.Statements.{last_of};
 ghost use Rattle.cfg_tree.specs.Tree.{step_of, IsTree};
@@ -36,15 +37,17 @@ impl<'a> Writer<'a> {
         Writer { alloc, tree }
     }
 
-    /// Puts the statements below a path among the members of an object, so many levels deep.
+    /// Puts the statements below a path of this place among the members of an object, so many levels deep.
     #[cycle(writing)]
     pub fn put_below(
         &self,
         members: &mut Map<String, Value>,
         path: &Path,
+        here: &Place,
         inside: &[Statement<'a>],
         levels: usize,
     ) -> Result<(), NoMemory>
+        requires here { place_of path.now ≡ Some here.now }
         requires inside { inside.now ≡ statements_inside self.now.tree.now path.now }
         requires tree { IsTree self.now.tree.now }
         ensures { OnOk result (members_view members.new.entries
@@ -53,15 +56,34 @@ impl<'a> Writer<'a> {
         if levels == 0 {
             return Ok(());
         }
+        let rows = rows_below(self.alloc, here.row, here.in_group)?;
+        self.put_rows(members, path, here, inside, &rows, levels - 1)
+    }
+
+    /// Puts the statements that stand in a statement among the members of an object, so many levels deep; `above` is the place
+    /// of the path right above it.
+    #[cycle(writing)]
+    fn put_within(
+        &self,
+        members: &mut Map<String, Value>,
+        above: &Place,
+        statement: &Statement<'_>,
+        inside: &[Statement<'a>],
+        levels: usize,
+    ) -> Result<(), NoMemory>
+        requires above { place_of statement.now.0 ≡ place_after above.now (last_of statement.now.0) }
+        requires inside { inside.now ≡ statements_inside self.now.tree.now statement.now.0 }
+        requires tree { IsTree self.now.tree.now }
+        ensures { OnOk result (members_view members.new.entries
+            ≡ put_all (members_view members.old.entries) (pairs_below levels self.now.tree.now statement.now.0)) }
+    {
         if inside.is_empty() {
             return Ok(());
         }
-        let here = match Place::of(path.steps()) {
-            None => return Ok(()),
-            Some(here) => here,
-        };
-        let rows = rows_below(self.alloc, here.row, here.in_group)?;
-        self.put_rows(members, path, inside, &rows, levels - 1)
+        match above.after(statement.step()) {
+            None => Ok(()),
+            Some(here) => self.put_below(members, statement.path(), &here, inside, levels),
+        }
     }
 
     /// Puts the statements below a path by these rows among the members of an object.
@@ -70,18 +92,20 @@ impl<'a> Writer<'a> {
         &self,
         members: &mut Map<String, Value>,
         path: &Path,
+        here: &Place,
         inside: &[Statement<'a>],
         rows: &[RowId],
         levels: usize,
     ) -> Result<(), NoMemory>
         requires short { length path.now < MAX_STEPS }
+        requires here { place_of path.now ≡ Some here.now }
         requires inside { inside.now ≡ statements_inside self.now.tree.now path.now }
         requires tree { IsTree self.now.tree.now }
         ensures { OnOk result (members_view members.new.entries
             ≡ put_all (members_view members.old.entries) (flat_map (own_row levels self.now.tree.now path.now) rows.now)) }
     {
         for id in rows {
-            self.put_row(members, path, inside, *id, levels)?;
+            self.put_row(members, path, here, inside, *id, levels)?;
         }
         Ok(())
     }
@@ -91,11 +115,13 @@ impl<'a> Writer<'a> {
         &self,
         members: &mut Map<String, Value>,
         path: &Path,
+        here: &Place,
         inside: &[Statement<'a>],
         id: RowId,
         levels: usize,
     ) -> Result<(), NoMemory>
         requires short { length path.now < MAX_STEPS }
+        requires here { place_of path.now ≡ Some here.now }
         requires inside { inside.now ≡ statements_inside self.now.tree.now path.now }
         requires tree { IsTree self.now.tree.now }
         ensures { OnOk result (members_view members.new.entries
@@ -103,10 +129,10 @@ impl<'a> Writer<'a> {
     {
         if is_named(row(id).shape) {
             let mut objects = Vec::new(self.alloc);
-            self.push_row(&mut objects, path, inside, id, levels)?;
+            self.push_row(&mut objects, path, here, inside, id, levels)?;
             put_objects(members, self.alloc, id, objects)
         } else {
-            self.put_single(members, path, inside, &RowWords::of(id), id, levels)
+            self.put_single(members, path, here, inside, &RowWords::of(id), id, levels)
         }
     }
 
@@ -116,20 +142,22 @@ impl<'a> Writer<'a> {
         &self,
         objects: &mut Vec<Value>,
         path: &Path,
+        here: &Place,
         inside: &[Statement<'a>],
         id: RowId,
         levels: usize,
     ) -> Result<(), NoMemory>
         requires short { length path.now < MAX_STEPS }
+        requires here { place_of path.now ≡ Some here.now }
         requires inside { inside.now ≡ statements_inside self.now.tree.now path.now }
         requires tree { IsTree self.now.tree.now }
         ensures { OnOk result (map view objects.new.items
             ≡ map view objects.old.items ++ row_objects levels self.now.tree.now path.now id) }
     {
         if row(id).ordered {
-            self.push_named(objects, path, head(id), levels)
+            self.push_named(objects, path, here, head(id), levels)
         } else {
-            self.push_unordered(objects, path, inside, &RowWords::of(id), levels)
+            self.push_unordered(objects, path, here, inside, &RowWords::of(id), levels)
         }
     }
 
@@ -139,10 +167,12 @@ impl<'a> Writer<'a> {
         &self,
         objects: &mut Vec<Value>,
         path: &Path,
+        here: &Place,
         head: &[u8],
         levels: usize,
     ) -> Result<(), NoMemory>
         requires short { length path.now < MAX_STEPS }
+        requires here { place_of path.now ≡ Some here.now }
         requires tree { IsTree self.now.tree.now }
         ensures { OnOk result (map view objects.new.items
             ≡ map view objects.old.items ++ flat_map (named_child levels self.now.tree.now path.now)
@@ -154,7 +184,7 @@ impl<'a> Writer<'a> {
         };
         let mut left = value.order.iter();
         while let Some(name) = left.next() {
-            self.push_child(objects, path, head, name, levels)?;
+            self.push_child(objects, path, here, head, name, levels)?;
         }
         Ok(())
     }
@@ -164,11 +194,13 @@ impl<'a> Writer<'a> {
         &self,
         objects: &mut Vec<Value>,
         path: &Path,
+        here: &Place,
         head: &[u8],
         name: &Word,
         levels: usize,
     ) -> Result<(), NoMemory>
         requires short { length path.now < MAX_STEPS }
+        requires here { place_of path.now ≡ Some here.now }
         requires tree { IsTree self.now.tree.now }
         ensures { OnOk result (map view objects.new.items
             ≡ map view objects.old.items ++ named_child levels self.now.tree.now path.now (step_of head.now name.now)) }
@@ -178,7 +210,8 @@ impl<'a> Writer<'a> {
             None => Ok(()),
             Some(value) => {
                 let inside = statements_below(self.alloc, self.tree, &child)?;
-                self.push_object(objects, &Statement::of(&child, value), &inside, levels)
+                let statement = Statement::of(&child, value);
+                self.push_object(objects, here, &statement, &inside, levels)
             }
         }
     }
@@ -189,19 +222,26 @@ impl<'a> Writer<'a> {
         &self,
         objects: &mut Vec<Value>,
         path: &Path,
+        here: &Place,
         inside: &[Statement<'a>],
         words: &RowWords,
         levels: usize,
     ) -> Result<(), NoMemory>
+        requires here { place_of path.now ≡ Some here.now }
         requires inside { inside.now ≡ statements_inside self.now.tree.now path.now }
         requires tree { IsTree self.now.tree.now }
         ensures { OnOk result (map view objects.new.items
             ≡ map view objects.old.items ++ flat_map (object_if_of_row words.now (length path.now + 1) levels self.now.tree.now) inside.now) }
     {
         let count = path.steps().len() + 1;
-        for at in 0..inside.len() {
+        let mut at = 0;
+        while at < inside.len() {
+            let statement = &inside[at];
             let (_, behind) = inside.split_at(at + 1);
-            self.push_if_of_row(objects, &inside[at], behind, count, words, levels)?;
+            // What stands in a child is no child.
+            let within = front_inside(statement, behind);
+            self.push_if_of_row(objects, here, statement, within, count, words, levels)?;
+            at += 1 + within.len();
         }
         Ok(())
     }
@@ -212,14 +252,16 @@ impl<'a> Writer<'a> {
     fn push_if_of_row(
         &self,
         objects: &mut Vec<Value>,
+        above: &Place,
         statement: &Statement<'a>,
-        behind: &[Statement<'a>],
+        inside: &[Statement<'a>],
         count: usize,
         words: &RowWords,
         levels: usize,
     ) -> Result<(), NoMemory>
         requires found { IsIn self.now.tree.now statement.now }
-        requires inside { front_inside statement.now.0 behind.now ≡ statements_inside self.now.tree.now statement.now.0 }
+        requires above { length statement.now.0 ≡ count → place_of statement.now.0 ≡ place_after above.now (last_of statement.now.0) }
+        requires inside { inside.now ≡ statements_inside self.now.tree.now statement.now.0 }
         requires tree { IsTree self.now.tree.now }
         ensures { OnOk result (map view objects.new.items
             ≡ map view objects.old.items ++ object_if_of_row words.now count levels self.now.tree.now statement.now) }
@@ -227,7 +269,7 @@ impl<'a> Writer<'a> {
         if !statement.is_of_row(count, words) {
             return Ok(());
         }
-        self.push_object(objects, statement, front_inside(statement, behind), levels)
+        self.push_object(objects, above, statement, inside, levels)
     }
 
     /// Puts the object of a statement with a name at the end of a list.
@@ -235,17 +277,19 @@ impl<'a> Writer<'a> {
     fn push_object(
         &self,
         objects: &mut Vec<Value>,
+        above: &Place,
         statement: &Statement<'_>,
         inside: &[Statement<'a>],
         levels: usize,
     ) -> Result<(), NoMemory>
         requires found { IsIn self.now.tree.now statement.now }
+        requires above { place_of statement.now.0 ≡ place_after above.now (last_of statement.now.0) }
         requires inside { inside.now ≡ statements_inside self.now.tree.now statement.now.0 }
         requires tree { IsTree self.now.tree.now }
         ensures { OnOk result (map view objects.new.items
             ≡ map view objects.old.items ++ own_object levels self.now.tree.now statement.now) }
     {
-        let object = self.level(true, statement, inside, levels)?;
+        let object = self.level(true, above, statement, inside, levels)?;
         objects.push(object)?;
         Ok(())
     }
@@ -256,12 +300,14 @@ impl<'a> Writer<'a> {
         &self,
         members: &mut Map<String, Value>,
         path: &Path,
+        here: &Place,
         inside: &[Statement<'a>],
         words: &RowWords,
         id: RowId,
         levels: usize,
     ) -> Result<(), NoMemory>
         requires words { words.now ≡ id }
+        requires here { place_of path.now ≡ Some here.now }
         requires inside { inside.now ≡ statements_inside self.now.tree.now path.now }
         requires tree { IsTree self.now.tree.now }
         ensures { OnOk result (members_view members.new.entries
@@ -269,9 +315,14 @@ impl<'a> Writer<'a> {
             (flat_map (alone_if_of_row id (length path.now + 1) levels self.now.tree.now) inside.now)) }
     {
         let count = path.steps().len() + 1;
-        for at in 0..inside.len() {
+        let mut at = 0;
+        while at < inside.len() {
+            let statement = &inside[at];
             let (_, behind) = inside.split_at(at + 1);
-            self.put_if_of_row(members, &inside[at], behind, count, words, id, levels)?;
+            // What stands in a child is no child.
+            let within = front_inside(statement, behind);
+            self.put_if_of_row(members, here, statement, within, count, words, id, levels)?;
+            at += 1 + within.len();
         }
         Ok(())
     }
@@ -282,8 +333,9 @@ impl<'a> Writer<'a> {
     fn put_if_of_row(
         &self,
         members: &mut Map<String, Value>,
+        above: &Place,
         statement: &Statement<'a>,
-        behind: &[Statement<'a>],
+        inside: &[Statement<'a>],
         count: usize,
         words: &RowWords,
         id: RowId,
@@ -291,7 +343,8 @@ impl<'a> Writer<'a> {
     ) -> Result<(), NoMemory>
         requires words { words.now ≡ id }
         requires found { IsIn self.now.tree.now statement.now }
-        requires inside { front_inside statement.now.0 behind.now ≡ statements_inside self.now.tree.now statement.now.0 }
+        requires above { length statement.now.0 ≡ count → place_of statement.now.0 ≡ place_after above.now (last_of statement.now.0) }
+        requires inside { inside.now ≡ statements_inside self.now.tree.now statement.now.0 }
         requires tree { IsTree self.now.tree.now }
         ensures { OnOk result (members_view members.new.entries
             ≡ put_all (members_view members.old.entries) (alone_if_of_row id count levels self.now.tree.now statement.now)) }
@@ -299,13 +352,7 @@ impl<'a> Writer<'a> {
         if !statement.is_of_row(count, words) {
             return Ok(());
         }
-        self.put_alone(
-            members,
-            statement,
-            front_inside(statement, behind),
-            id,
-            levels,
-        )
+        self.put_alone(members, above, statement, inside, id, levels)
     }
 
     /// Puts a statement of a row without names among the members of an object.
@@ -313,12 +360,14 @@ impl<'a> Writer<'a> {
     fn put_alone(
         &self,
         members: &mut Map<String, Value>,
+        above: &Place,
         statement: &Statement<'a>,
         inside: &[Statement<'a>],
         id: RowId,
         levels: usize,
     ) -> Result<(), NoMemory>
         requires found { IsIn self.now.tree.now statement.now }
+        requires above { place_of statement.now.0 ≡ place_after above.now (last_of statement.now.0) }
         requires inside { inside.now ≡ statements_inside self.now.tree.now statement.now.0 }
         requires tree { IsTree self.now.tree.now }
         ensures { OnOk result (members_view members.new.entries
@@ -329,7 +378,7 @@ impl<'a> Writer<'a> {
         match row(id).shape {
             Shape::Keyed | Shape::Bare => Ok(()),
             Shape::Container | Shape::Fixed => {
-                let object = self.level(false, statement, inside, levels)?;
+                let object = self.level(false, above, statement, inside, levels)?;
                 put_at(members, self.alloc, &key, object)
             }
             Shape::Leaf => {
@@ -349,11 +398,13 @@ impl<'a> Writer<'a> {
     fn level(
         &self,
         named: bool,
+        above: &Place,
         statement: &Statement<'_>,
         inside: &[Statement<'a>],
         levels: usize,
     ) -> Result<Value, NoMemory>
         requires found { IsIn self.now.tree.now statement.now }
+        requires above { place_of statement.now.0 ≡ place_after above.now (last_of statement.now.0) }
         requires inside { inside.now ≡ statements_inside self.now.tree.now statement.now.0 }
         requires tree { IsTree self.now.tree.now }
         ensures { IfOk result (λ value. view value
@@ -367,7 +418,7 @@ impl<'a> Writer<'a> {
             statement.step(),
             statement.value(),
         )?;
-        self.put_below(&mut members, statement.path(), inside, levels)?;
+        self.put_within(&mut members, above, statement, inside, levels)?;
         Ok(Value::Object(members))
     }
 }

@@ -12,6 +12,7 @@ ghost use Rattle.json_text.specs.Written.{json_of, pairs_below, put_all};
 use crate::building::put_at;
 use crate::writer::Writer;
 use cfg_base::{Bytes, MAX_STEPS, NoMemory, Path};
+use cfg_schema::Place;
 use cfg_tree::Tree;
 use printing_order::statements_below;
 use serde_json::{Map, Value};
@@ -28,7 +29,7 @@ fn put_top(alloc: Global, members: &mut Map<String, Value>, tree: &Tree) -> Resu
     }
     let top = Path::top(alloc);
     let inside = statements_below(alloc, tree, &top)?;
-    Writer::of(alloc, tree).put_below(members, &top, &inside, MAX_STEPS)
+    Writer::of(alloc, tree).put_below(members, &top, &Place::top(), &inside, MAX_STEPS)
 }
 
 /// A configuration as a JSON value.

@@ -1,4 +1,4 @@
-use Rattle.std.proofs.Common.{◌≡◌, ◌+◌, ◌*◌, ◌++◌, length, map, take, flat_map}
+use Rattle.std.proofs.Common.{◌≡◌, ◌+◌, ◌-◌, ◌*◌, ◌++◌, length, map, take, flat_map}
 use Rattle.std.specs.FinMap as finite
 use Rattle.cfg_tree.specs.Children.{order_in}
 use Rattle.cfg_tree.specs.Tree.{step_of}
@@ -43,6 +43,9 @@ decreases-put_alone l = 9 * l.levels + 3
 abbrev pub decreases-level : goal.decreases-level
 decreases-level l = 9 * l.levels + 2
 
+abbrev pub decreases-put_within : goal.decreases-put_within
+decreases-put_within l = 9 * l.levels + 1
+
 abbrev pub decreases-put_below : goal.decreases-put_below
 decreases-put_below l = 9 * l.levels
 
@@ -66,8 +69,14 @@ invariant-push_unordered-loop-at l =
     ≡ map view l.fn.objects.items
     ++ flat_map (object_if_of_row l.words (length l.path + 1) l.levels l.self.tree.now) (take l.at l.inside)
 
+abbrev pub decreases-push_unordered-loop-at : goal.decreases-push_unordered-loop-at
+decreases-push_unordered-loop-at l = length l.inside - l.at
+
 abbrev pub invariant-put_single-loop-at : goal.invariant-put_single-loop-at
 invariant-put_single-loop-at l =
     members_view l.members.entries
     ≡ put_all (members_view l.fn.members.entries)
     (flat_map (alone_if_of_row l.id (length l.path + 1) l.levels l.self.tree.now) (take l.at l.inside))
+
+abbrev pub decreases-put_single-loop-at : goal.decreases-put_single-loop-at
+decreases-put_single-loop-at l = length l.inside - l.at
