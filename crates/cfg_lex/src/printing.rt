@@ -1,26 +1,32 @@
 //! How a word is printed.
 
-ghost use Rattle.std.specs.Prelude.{◌≡◌, ◌≤◌, ◌==◌, ◌||◌, [], ◌∷◌, ◌++◌, List, ℕ, length, OnOk, OnErr};
+ghost use Rattle.std.specs.Prelude.{◌≡◌, ◌≤◌, ◌==◌, ◌||◌, [], ◌∷◌, ◌++◌, List, ℕ, length, nat_eq, OnOk, OnErr};
 ghost use Rattle.std.specs.List.{flat_map, list_all};
+ghost use Rattle.std.specs.Cmp.Lexicographic.{pointwise};
 ghost use Rattle.cfg_lex.specs.Bytes.{is_angle_byte, is_run};
-ghost use Rattle.cfg_lex.specs.Mark.{is_mark};
+ghost use Rattle.cfg_lex.specs.Mark.{is_mark, mark_word};
 ghost use Rattle.cfg_lex.specs.Printed.{escaped, is_plain, is_wildcard, printed_word};
 
 use crate::bytes::{bare_len, is_angle_byte};
 use crate::mark::Mark;
-use cfg_base::NoMemory;
+use cfg_base::{NoMemory, same_bytes};
 
 /// The most bytes between the angles of a wildcard name.
 const MAX_INNER: usize = 62;
 
+fn is_word_of(word: &[u8], mark: Mark) -> bool
+    ensures { result ≡ pointwise nat_eq word.now (mark_word mark) }
+{
+    same_bytes(word, mark.word())
+}
+
 fn is_mark(word: &[u8]) -> bool
     ensures { result ≡ is_mark word.now }
 {
-    let inactive = word == Mark::Inactive.word();
-    let protect = word == Mark::Protect.word();
-    let replace = word == Mark::Replace.word();
-    let pipe = word == Mark::Pipe.word();
-    inactive || protect || replace || pipe
+    is_word_of(word, Mark::Inactive)
+        || is_word_of(word, Mark::Protect)
+        || is_word_of(word, Mark::Replace)
+        || is_word_of(word, Mark::Pipe)
 }
 
 fn are_angle_bytes(bytes: &[u8]) -> bool
@@ -51,10 +57,7 @@ fn is_run(word: &[u8]) -> bool
 pub fn is_plain(word: &[u8]) -> bool
     ensures { result ≡ is_plain word.now }
 {
-    let mark = is_mark(word);
-    let wildcard = is_wildcard(word);
-    let run = is_run(word);
-    !word.is_empty() && !mark && (wildcard || run)
+    !word.is_empty() && !is_mark(word) && (is_wildcard(word) || is_run(word))
 }
 
 fn is_escaped(byte: u8) -> bool
