@@ -22,7 +22,7 @@ use Rattle.group_expand.specs.Expansion.{is_apply, is_own, gift_of, gift_at, inh
 use Rattle.group_expand.proofs.KeysLemmas.{passing_same, kids_same}
 use Rattle.group_expand.proofs.PlacedLemmas.{child_split}
 use Rattle.group_expand.proofs.RowLemmas.{below_trans}
-use Rattle.kept_expansion.specs.Changes.{is_reached, DiffersOnlyAt, IsBehind}
+use Rattle.kept_expansion.specs.Changes.{is_reached, DiffersOnlyAt, IsBehind, IsKept}
 use Rattle.kept_expansion.specs.Roots.{IsRoot}
 use Rattle.kept_expansion.specs.Part.{part_of}
 use Rattle.kept_expansion.specs.Splice.{spliced}
@@ -220,3 +220,8 @@ ok_some P Q go (Err e) h = h
 -- one refusal, of two calls
 pub same_err : {T U E : Type 0} (x y : E) → IsErrOf {T = T} (Err x) y → IsErrOf {T = U} (Err x) y
 same_err x y e = let same : x ≡ y = cc in ap (λ (z : _). Err z) same
+
+-- what is kept is behind the configuration that it is kept of
+pub kept_behind : (m : Statements) (kept : Option Expansion) (touched : List (List Step)) → IsKept m kept → IfSome kept (λ full. IsBehind full m touched)
+kept_behind m None touched h = absurd h
+kept_behind m (Some full) touched h = (m, h.0, λ q e. refl)

@@ -15,3 +15,6 @@ mod update;
 
 pub use cached::Cached;
 pub use expanded::Expanded;
+
+#[cfg(test)]
+mod tests;
