@@ -3,8 +3,6 @@
 ghost use Rattle.std.specs.Prelude.{◌≡◌, IsSome, IfOk};
 ghost use Rattle.std.specs.Option.{option_map};
 ghost use Rattle.cfg_base.specs.Kind.{IsName};
-ghost use Rattle.cfg_tree.specs.Full.{IsWithin};
-ghost use Rattle.group_expand.specs.Expansion.{IsExpansion};
 ghost use Rattle.commit_check.specs.Accepts.{IsCheckFault};
 ghost use Rattle.commit_ledger.specs.Kept.{NumberFits, RoomFor, revert_of};
 ghost use Rattle.config_core.specs.declared.effect.Appending.{Appending};
@@ -21,9 +19,10 @@ use crate::own::fresh_of;
 use crate::prepared::{Prepared, refused, step};
 use crate::reply::{Refusal, Reply};
 use cfg_base::{Moment, NoMemory, Word};
-use cfg_tree::{Full, Tree};
-use commit_check::{CheckFault, accepted_configurations_fit, check};
+use cfg_tree::Tree;
+use commit_check::{CheckFault, accepted_configurations_fit, check_after};
 use commit_ledger::{Commit, Confirm, Entry, MAX_ENTRIES, Via};
+use kept_expansion::Expanded;
 use private_merge::merge;
 
 // The candidate of a commit, for the sessions that share theirs and for the one that commits.
@@ -119,13 +118,29 @@ impl Core {
         )
     }
 
+    // The same, with the expansion that the check has made.
+    fn checked_with(
+        &self,
+        caller: u32,
+        moment: Moment,
+        expanded: Expanded,
+    ) -> Result<Prepared, NoMemory>
+        requires { IsCaller self.now caller }
+        ensures { IfOk result (Prepares self.now moment (λ turned. turned ≡ checked (later self.now moment) caller self.now.kept.pending)) }
+    {
+        match self.checked(caller, moment) {
+            Ok(prepared) => Ok(prepared.with_checked(expanded)),
+            Err(NoMemory) => Err(NoMemory),
+        }
+    }
+
     fn check_of(&self, caller: u32, moment: Moment, tree: &Tree) -> Result<Prepared, NoMemory>
         requires { IsCaller self.now caller }
         ensures { IfOk result (Prepares self.now moment (λ turned. Checks (later self.now moment) tree.now turned
             (checked (later self.now moment) caller self.now.kept.pending))) }
     {
-        match check(self.alloc, tree) {
-            Ok(_) => self.checked(caller, moment),
+        match check_after(self.alloc, tree, &self.last) {
+            Ok(expanded) => self.checked_with(caller, moment, expanded),
             Err(fault) => self.broken(caller, moment, tree, fault),
         }
     }
@@ -181,18 +196,19 @@ impl Core {
         caller: u32,
         moment: Moment,
         tree: &Tree,
-        full: Full,
+        expanded: Expanded,
         minutes: u32,
         comment: &Word,
         quit: bool,
     ) -> Result<Prepared, NoMemory>
         requires caller { IsCaller self.now caller }
-        requires expansion { IsExpansion tree.now full × IsWithin full }
+        requires expanded { expanded.0 ≡ tree.now }
         ensures { IfOk result (Prepares self.now moment (λ turned. turned
             ≡ committed (later self.now moment) caller tree.now minutes comment.now quit)) }
     {
+        let full = expanded.full().copy()?;
         match self.committed(caller, moment, tree, minutes, comment, quit) {
-            Ok(prepared) => Ok(prepared.with_expansion(full)),
+            Ok(prepared) => Ok(prepared.with_expansion(full).with_checked(expanded)),
             Err(NoMemory) => Err(NoMemory),
         }
     }
@@ -210,10 +226,10 @@ impl Core {
         ensures { IfOk result (Prepares self.now moment (λ turned. Checks (later self.now moment) tree.now turned
             (committed (later self.now moment) caller tree.now minutes comment.now quit))) }
     {
-        match check(self.alloc, tree) {
-            Ok(full) => {
+        match check_after(self.alloc, tree, &self.last) {
+            Ok(expanded) => {
                 accepted_configurations_fit();
-                self.committed_with(caller, moment, tree, full, minutes, comment, quit)
+                self.committed_with(caller, moment, tree, expanded, minutes, comment, quit)
             }
             Err(fault) => self.broken(caller, moment, tree, fault),
         }

@@ -16,6 +16,7 @@ use candidate::Candidate;
 use cfg_base::{Moment, NoMemory, Path, UserName, Users};
 use commands::Command;
 use commit_ledger::Ledger;
+use kept_expansion::Expanded;
 use std::alloc::Global;
 use std::marker::Model;
 
@@ -33,6 +34,8 @@ pub struct Core {
     pub(crate) callers: Vec<Caller>,
     pub(crate) flight: Option<Appending>,
     pub(crate) greatest: Moment,
+    /// The configuration that was checked last, with its expansion. The next one to be checked mostly follows it in little.
+    pub(crate) last: Option<Expanded>,
 }
 
 impl Model for Core {
@@ -104,6 +107,7 @@ impl Core {
             callers,
             flight: None,
             greatest,
+            last: None,
         })
     }
 

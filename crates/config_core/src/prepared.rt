@@ -9,6 +9,7 @@ use crate::reply::{Refusal, Reply};
 use cfg_base::Moment;
 use cfg_tree::Full;
 use commit_ledger::Entry;
+use kept_expansion::Expanded;
 use std::marker::Model;
 
 /// A step that has all its memory and isn't carried out yet.
@@ -20,6 +21,8 @@ pub struct Prepared {
     pub(crate) reply: Reply,
     /// The expansion of the configuration that it commits, which the check of that has made.
     pub(crate) full: Option<Full>,
+    /// The configuration that was checked, with its expansion, for the next check.
+    pub(crate) checked: Option<Expanded>,
 }
 
 impl Model for Prepared {
@@ -72,6 +75,7 @@ impl Prepared {
             effect,
             reply,
             full: _,
+            checked,
         } = self;
         Prepared {
             caller,
@@ -79,6 +83,29 @@ impl Prepared {
             effect,
             reply,
             full: Some(full),
+            checked,
+        }
+    }
+
+    // The same step, with the configuration that was checked.
+    pub(crate) fn with_checked(self, expanded: Expanded) -> Prepared
+        ensures { result ≡ self }
+    {
+        let Prepared {
+            caller,
+            moment,
+            effect,
+            reply,
+            full,
+            checked: _,
+        } = self;
+        Prepared {
+            caller,
+            moment,
+            effect,
+            reply,
+            full,
+            checked: Some(expanded),
         }
     }
 }
@@ -93,6 +120,7 @@ pub(crate) fn step(caller: u32, moment: Moment, effect: Effect, reply: Reply) ->
         effect,
         reply,
         full: None,
+        checked: None,
     }
 }
 

@@ -15,6 +15,7 @@ use crate::prepared::Prepared;
 use crate::reply::{Refusal, Reply};
 use candidate::Candidate;
 use commands::Mode;
+use kept_expansion::Expanded;
 
 impl Core {
     /// Carries out a prepared step. It can't fail and takes no memory.
@@ -29,7 +30,9 @@ impl Core {
             effect,
             reply,
             full: _,
+            checked,
         } = prepared;
+        self.note_checked(checked);
         self.greatest = moment;
         match effect {
             Effect::Stay => reply,
@@ -55,6 +58,15 @@ impl Core {
                 reply
             }
             Effect::Append(appending) => self.append(caller, appending, reply, outcome),
+        }
+    }
+
+    // The next check may begin with the expansion that this one made.
+    fn note_checked(&mut self, checked: Option<Expanded>)
+        ensures { self.new ≡ self.old }
+    {
+        if checked.is_some() {
+            self.last = checked;
         }
     }
 

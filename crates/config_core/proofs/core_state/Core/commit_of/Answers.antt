@@ -7,6 +7,6 @@ pub returns-in-Ok : goal.returns-in-Ok
 returns-in-Ok c =
     let s = later c.args.self.now c.args.moment in
     prepares_as c.args.self.now c.args.moment _ _ c.committed_with.result
-    (λ turned is. checks_accepted s c.args.tree.now c.in-Ok.full
-    (committed s c.args.caller c.args.tree.now c.args.minutes c.args.comment.now c.args.quit) turned c.in-Ok.ensures.ok is)
+    (λ turned is. checks_accepted s c.args.tree.now c.in-Ok.expanded.1
+    (committed s c.args.caller c.args.tree.now c.args.minutes c.args.comment.now c.args.quit) turned c.in-Ok.ensures.accepted is)
     c.committed_with.ensures
