@@ -19,6 +19,22 @@ fn say_seen(out: &mut Text, name: &str, front: u64, moment: Moment) {
     out.put("\n");
 }
 
+fn say_denied(out: &mut Text, front: u64, right: &[u8], moment: Moment) {
+    say_seen(out, "denied", front, moment);
+    say_bytes(out, "lacking", right);
+}
+
+fn say_local(out: &mut Text, fault: &ShellFault) {
+    match fault {
+        ShellFault::Syntax(place) => {
+            say_counted(out, "turn syntax error at byte", u64::from(*place));
+        }
+        ShellFault::LineTooLong => say(out, "turn line too long"),
+        ShellFault::TextTooLong => say(out, "turn text too long"),
+        ShellFault::Json(_) => say(out, "turn json"),
+    }
+}
+
 fn say_turn(out: &mut Text, turn: &Turn) {
     match turn {
         Turn::Kept(place) => say_counted(out, "turn event", *place),
@@ -29,17 +45,9 @@ fn say_turn(out: &mut Text, turn: &Turn) {
             front,
             right,
             moment,
-        } => {
-            say_seen(out, "denied", *front, *moment);
-            say_bytes(out, "lacking", right.word());
-        }
+        } => say_denied(out, *front, right.word(), *moment),
         Turn::Unready { front, moment } => say_seen(out, "unready", *front, *moment),
-        Turn::Local(ShellFault::Syntax(place)) => {
-            say_counted(out, "turn syntax error at byte", u64::from(*place));
-        }
-        Turn::Local(ShellFault::LineTooLong) => say(out, "turn line too long"),
-        Turn::Local(ShellFault::TextTooLong) => say(out, "turn text too long"),
-        Turn::Local(ShellFault::Json(_)) => say(out, "turn json"),
+        Turn::Local(fault) => say_local(out, fault),
         Turn::NoMemory => say(out, "turn no memory"),
     }
 }
