@@ -13,6 +13,7 @@ mod access_calls;
 mod base_calls;
 mod changes;
 mod check_calls;
+mod followed;
 mod group_calls;
 mod json_calls;
 mod kept;

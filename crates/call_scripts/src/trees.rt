@@ -1,11 +1,13 @@
 //! The trees that a script keeps.
 
 use crate::changes::{change, look, op_of};
+use crate::followed::follow;
 use crate::kept::keep;
 use crate::level::level_of;
 use crate::{access_calls, check_calls, group_calls, puts};
 use cfg_tree::Tree;
 use commands::Op;
+use kept_expansion::Expanded;
 use script_lines::{Arg, Fault, Text, say_flag};
 use std::alloc::Global;
 use std::mem;
@@ -17,6 +19,8 @@ pub(crate) struct Trees {
     other: Tree,
     /// Trees that were made anew, the last one last.
     kept: Vec<Tree>,
+    /// Expansions that follow one another, the last one last.
+    followed: Vec<Expanded>,
     /// The words of the level from which changes are read.
     level: Vec<Arg>,
 }
@@ -27,6 +31,7 @@ impl Trees {
             tree: Tree::empty(alloc),
             other: Tree::empty(alloc),
             kept: Vec::new(alloc),
+            followed: Vec::new(alloc),
             level: Vec::new(alloc),
         }
     }
@@ -34,6 +39,7 @@ impl Trees {
     fn clear(&mut self, alloc: Global) {
         self.tree = Tree::empty(alloc);
         self.kept = Vec::new(alloc);
+        self.followed = Vec::new(alloc);
     }
 
     fn swap(&mut self) {
@@ -59,6 +65,7 @@ impl Trees {
             ("copy", []) => return Some(self.copy()),
             ("swap", []) => self.swap(),
             ("keep", []) => return Some(keep(alloc, &mut self.kept, &self.tree, out)),
+            ("follow", []) => return Some(follow(alloc, &mut self.followed, &self.tree, out)),
             ("same", []) => say_flag(out, self.tree.same(&self.other)),
             _ => return None,
         }
