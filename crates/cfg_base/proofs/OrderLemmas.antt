@@ -1,5 +1,5 @@
 -- Words that tie are equal, and words that are one up to the end of the shorter.
-use Rattle.std.proofs.Common.{◌≡◌, ℕ, zero, suc, ◌<◌, min, List, [], ◌∷◌, drop, length, take, get_or, ◌≤◌, Fits, w8, true, refl, sym, ap, subst, ◌∙◌, arith}
+use Rattle.std.proofs.Common.{◌≡◌, ℕ, zero, suc, ◌+◌, ◌<◌, min, Bool, true, false, ◌&&◌, eqb, eqb-true, eq-eqb, List, [], ◌∷◌, drop, length, take, get_or, ◌≤◌, Fits, w8, refl, sym, ap, subst, ◌∙◌, arith}
 use Rattle.std.specs.FinMap.{IsAntisymmetric, slice_cmp-IsAntisymmetric, nat_cmp-IsAntisymmetric}
 use Rattle.std.specs.declared.cmp.Ordering.{Ordering}
 use Rattle.std.specs.declared.cmp.Ordering.TheVariants.{Less, Equal, Greater}
@@ -9,8 +9,11 @@ use Rattle.std.specs.Int.{w64}
 use Rattle.std.proofs.lemmas.Nat.{le_bytes_8}
 use Rattle.std.proofs.Math.Facts.{Fits-lt-pow}
 use Rattle.std.specs.Bool.{Decides}
-use Rattle.std.specs.Cmp.{IsTotalOrder, tied_itself, nat_cmp_is, ranks}
-use Rattle.cfg_base.specs.Order.{word_cmp}
+use Rattle.std.specs.Cmp.{IsTotalOrder, tied_itself, nat_cmp_is, ranks, both_tied}
+use Rattle.std.specs.Cmp.Lexicographic.{bytes_decides, lists_ties, pointwise}
+use Rattle.cfg_base.specs.Order.{word_cmp, step_cmp, path_cmp}
+use Rattle.cfg_base.specs.Words.{same_word}
+use Rattle.cfg_base.specs.declared.path.Step.{Step}
 
 pub word_same : IsAntisymmetric word_cmp
 word_same = slice_cmp-IsAntisymmetric nat_cmp-IsAntisymmetric
@@ -75,3 +78,66 @@ word_cmp-past (x ∷ xs) [] zero h = nat_cmp_is (suc (length xs)) 0 Greater (ome
 word_cmp-past (x ∷ xs) [] (suc i) h = absurd (omega (arith, h))
 word_cmp-past (x ∷ xs) (y ∷ ys) zero h = absurd (omega (arith, h))
 word_cmp-past (x ∷ xs) (y ∷ ys) (suc i) h = word_cmp-past xs ys i (omega (arith, h)) ∙ sym (longer_both (length xs) (length ys))
+
+-- lists that are one up to a place, and from a place no later on, are one
+front_and_rest : (n k : ℕ) (xs ys : List ℕ) → k ≤ n → take n xs ≡ take n ys → drop k xs ≡ drop k ys → xs ≡ ys
+front_and_rest n zero xs ys h front rest = rest
+front_and_rest zero (suc k) xs ys h front rest = absurd (omega (arith, h))
+front_and_rest (suc n) (suc k) [] [] h front rest = refl
+front_and_rest (suc n) (suc k) [] (y ∷ ys) h front rest = cc
+front_and_rest (suc n) (suc k) (x ∷ xs) [] h front rest = cc
+front_and_rest (suc n) (suc k) (x ∷ xs) (y ∷ ys) h front rest =
+    let first : x ≡ y = cc in let others : take n xs ≡ take n ys = cc
+    in let more = front_and_rest n k xs ys (omega (arith, h)) others rest in cc
+
+-- a list is all of its first items, where they are as many
+take_whole : (n : ℕ) (zs : List ℕ) → length zs ≤ n → take n zs ≡ zs
+take_whole zero [] h = refl
+take_whole zero (z ∷ zs) h = absurd (omega (arith, h))
+take_whole (suc n) [] h = refl
+take_whole (suc n) (z ∷ zs) h = ap (λ (xs : List ℕ). z ∷ xs) (take_whole n zs (omega (arith, h)))
+
+length_behind : (k : ℕ) (zs : List ℕ) → k ≤ length zs → k + length (drop k zs) ≡ length zs
+length_behind zero zs h = omega arith
+length_behind (suc k) [] h = absurd (omega (arith, h))
+length_behind (suc k) (z ∷ zs) h = let e = length_behind k zs (omega (arith, h)) in omega (arith, e)
+
+small_behind : (n : ℕ) (zs : List ℕ) → ((i : ℕ) → Fits w8 (get_or zs i 0)) → (i : ℕ) → Fits w8 (get_or (drop n zs) i 0)
+small_behind zero zs small i = small i
+small_behind (suc n) [] small i = small i
+small_behind (suc n) (z ∷ zs) small i = small_behind n zs (λ j. small (suc j)) i
+
+-- eight to sixteen bytes are told by the first eight and the last eight
+module _ (xs ys xs' ys' : List ℕ) (k : ℕ) (ends : k + 8 ≡ length xs) (most : k ≤ 8) (alike : length xs ≡ length ys) (small_xs : (i : ℕ) → Fits w8 (get_or xs i 0))
+    (small_ys : (i : ℕ) → Fits w8 (get_or ys i 0)) (behind_xs : xs' ≡ drop k xs) (behind_ys : ys' ≡ drop k ys) (front : take 8 xs ≡ take 8 ys) (a b : ℕ)
+    (is_a : a ≡ from_le_bytes w64 (take 8 xs')) (is_b : b ≡ from_le_bytes w64 (take 8 ys')) where
+  same_by_ends : a ≡ b → xs ≡ ys
+  same_by_ends e =
+      let one = length_behind k xs (omega (arith, ends)) in let other = length_behind k ys (omega (arith, ends, alike))
+      in let back = eight_same (drop k xs) (drop k ys) (omega (arith, one, ends)) (omega (arith, other, ends, alike)) (small_behind k xs small_xs) (small_behind k ys small_ys)
+      a b (is_a ∙ ap (λ (zs : List ℕ). from_le_bytes w64 (take 8 zs)) behind_xs) (is_b ∙ ap (λ (zs : List ℕ). from_le_bytes w64 (take 8 zs)) behind_ys) e
+      in front_and_rest 8 k xs ys most front
+      (sym (take_whole 8 (drop k xs) (omega (arith, one, ends))) ∙ back ∙ take_whole 8 (drop k ys) (omega (arith, other, ends, alike)))
+
+  pub ends_tell : eqb a b ≡ same_word xs ys
+  ends_tell = by_test (eqb a b) (same_word xs ys) refl refl
+    where
+      by_test : (c d : Bool) → eqb a b ≡ c → same_word xs ys ≡ d → eqb a b ≡ same_word xs ys
+      by_test true d e f = e ∙ sym ((bytes_decides xs ys).1 (same_by_ends (eqb-true a b e)))
+      by_test false true e f =
+          let same : drop k xs ≡ drop k ys = ap (drop k) ((bytes_decides xs ys).0 f)
+          in let both : a ≡ b = is_a ∙ ap (λ (zs : List ℕ). from_le_bytes w64 (take 8 zs)) (behind_xs ∙ same ∙ sym behind_ys) ∙ sym is_b
+          in let c = sym e ∙ eq-eqb a b both in cc
+      by_test false false e f = e ∙ sym f
+
+-- steps that are the same one by one tie as paths
+pub steps_tie : (one other xs ys : List Step) (told : Bool) → xs ≡ one → ys ≡ other
+    → told ≡ pointwise (λ x y. eq_by_cmp word_cmp x.head y.head && eq_by_cmp word_cmp x.name y.name) xs ys → told ≡ eq_by_cmp path_cmp one other
+steps_tie one other xs ys told is_one is_other e =
+    e ∙ ap (λ (zs : List Step). pointwise same_step zs ys) is_one ∙ ap (λ (zs : List Step). pointwise same_step one zs) is_other ∙ lists_ties step_cmp ties one other
+  where
+    same_step : Step → Step → Bool
+    same_step x y = eq_by_cmp word_cmp x.head y.head && eq_by_cmp word_cmp x.name y.name
+
+    ties : (x y : Step) → same_step x y ≡ eq_by_cmp step_cmp x y
+    ties x y = both_tied _ _ (word_cmp x.head y.head) (word_cmp x.name y.name) refl refl

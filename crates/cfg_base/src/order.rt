@@ -1,6 +1,6 @@
 //! Bytes that are compared from the first one on.
 
-ghost use Rattle.std.specs.Prelude.{◌≡◌, ◌≤◌, length, take};
+ghost use Rattle.std.specs.Prelude.{◌≡◌, ◌≤◌, ◌-◌, length, take, drop};
 ghost use Rattle.std.specs.Int.{from_le_bytes, w64};
 ghost use Rattle.cfg_base.specs.Order.{word_cmp};
 ghost use Rattle.cfg_base.specs.Words.{same_word};
@@ -15,6 +15,14 @@ fn front_of(bytes: &[u8]) -> u64
     u64::from_le_bytes([
         bytes[0], bytes[1], bytes[2], bytes[3], bytes[4], bytes[5], bytes[6], bytes[7],
     ])
+}
+
+/// The last eight bytes as a number.
+fn back_of(bytes: &[u8]) -> u64
+    requires { 8 ≤ length bytes.now }
+    ensures { result ≡ from_le_bytes w64 (take 8 (drop (length bytes.now - 8) bytes.now)) }
+{
+    front_of(&bytes[bytes.len() - 8..])
 }
 
 /// So many bytes at the beginning of both are the same, told at once: the first eight, or none.
@@ -45,6 +53,16 @@ pub(crate) fn order_of(one: &[u8], other: &[u8]) -> Ordering
         }
     }
     one.len().cmp(&other.len())
+}
+
+/// Whether eight to sixteen bytes are the same, told by the first eight and the last eight.
+pub(crate) fn same_ends(one: &[u8], other: &[u8]) -> bool
+    requires alike { length one.now ≡ length other.now }
+    requires least { 8 ≤ length one.now }
+    requires most { length one.now ≤ 16 }
+    ensures { result ≡ same_word one.now other.now }
+{
+    front_of(one) == front_of(other) && back_of(one) == back_of(other)
 }
 
 /// Whether the bytes are the same.

@@ -283,7 +283,7 @@ impl PartialEq for Path {
     ghost laws = { Prim.search (comparing, rules) };
 
     fn eq(&self, other: &Path) -> bool {
-        self.cmp(other).is_eq()
+        self.steps() == other.steps()
     }
 }
 

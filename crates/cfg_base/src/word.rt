@@ -1,4 +1,4 @@
-ghost use Rattle.std.specs.Prelude.{◌≡◌, ◌<◌, ◌≤◌, ◌↔◌, [], length, IfOk, IsErrOf};
+ghost use Rattle.std.specs.Prelude.{◌≡◌, ◌<◌, ◌≤◌, ◌↔◌, [], true, length, IfOk, IsErrOf};
 ghost use Rattle.std.specs.Ordering.{as_partial_cmp, eq_by_cmp};
 ghost use Rattle.std.specs.Cmp.Rules.{comparing};
 ghost use Rattle.std.specs.Cmp.{partial_order_from_own_ties};
@@ -7,10 +7,11 @@ ghost use Rattle.cfg_base.specs.declared.word.TheConstants.{MAX_BYTES};
 ghost use Rattle.cfg_base.specs.declared.word.WordFault.TheVariants.{NoMemory};
 ghost use Rattle.cfg_base.specs.Order.{word_cmp, words_total, words_equal};
 ghost use Rattle.cfg_base.specs.Kept.{bytes_of, IsKept};
+ghost use Rattle.cfg_base.specs.Words.{same_word};
 ghost use Rattle.cfg_base.specs.declared.word.TheConstants.{IN_PLACE};
 
 use crate::fault::NoMemory;
-use crate::order::{order_of, same_bytes};
+use crate::order::{order_of, same_bytes, same_ends};
 use crate::shared::Shared;
 use std::alloc::{AllocError, Global};
 use std::cmp::Ordering;
@@ -91,6 +92,27 @@ fn bytes_in(kept: &Kept) -> &[u8]
         Kept::InPlace(count, places) => &places[..*count as usize],
         Kept::Apart(bytes) => bytes.items(),
     }
+}
+
+/// Whether both have the same bytes in place, those past their ends too.
+fn are_alike(one: &Kept, other: &Kept) -> bool
+    ensures { result ≡ true → bytes_of one.now ≡ bytes_of other.now }
+{
+    match (one, other) {
+        (Kept::InPlace(count, places), Kept::InPlace(found, others)) => {
+            count == found && same_ends(places, others)
+        }
+        _ => false,
+    }
+}
+
+/// Whether the bytes are the same.
+fn same_kept(one: &Kept, other: &Kept) -> bool
+    requires one { IsKept one.now }
+    requires other { IsKept other.now }
+    ensures { result ≡ same_word (bytes_of one.now) (bytes_of other.now) }
+{
+    are_alike(one, other) || same_bytes(bytes_in(one), bytes_in(other))
 }
 
 /// The same bytes once more.
@@ -195,7 +217,7 @@ impl PartialEq for Word {
     ghost laws = { Prim.search (comparing, rules) };
 
     fn eq(&self, other: &Word) -> bool {
-        same_bytes(self.as_bytes(), other.as_bytes())
+        same_kept(&self.kept, &other.kept)
     }
 }
 

@@ -280,8 +280,9 @@ fn same_left(one: WordsLeft<'_>, other: WordsLeft<'_>) -> bool
 fn same_words(one: &WordList, other: &WordList) -> bool
     ensures { result ≡ words_eq one.now other.now }
 {
-    if one.len() != other.len() {
-        return false;
+    match (&one.listed, &other.listed) {
+        (Listed::None, Listed::None) => true,
+        (Listed::One(word), Listed::One(found)) => word == found,
+        _ => one.len() == other.len() && same_left(one.iter(), other.iter()),
     }
-    same_left(one.iter(), other.iter())
 }
