@@ -9,14 +9,14 @@ ghost use Rattle.commit_check.specs.Rules.{AtTop};
 use crate::rule::MAX_TEXT;
 use cfg_base::Path;
 use cfg_tree::Tree;
-use curly_print::text_len;
+use curly_print::{is_surely_within, text_len};
 use std::alloc::Global;
 
 /// Whether the canonical text has more bytes than it may have.
 fn is_too_long(tree: &Tree) -> bool
     ensures { result ≡ nat_lt MAX_TEXT (length (printed tree.now [])) }
 {
-    text_len(tree) > MAX_TEXT
+    !is_surely_within(tree, MAX_TEXT) && text_len(tree) > MAX_TEXT
 }
 
 /// The top, where the canonical text has more bytes than it may have.

@@ -7,3 +7,4 @@ pub mod InheritedLemmas
 pub mod TreeTextLemmas
 pub mod OwnLemmas
 pub mod WalkLemmas
+pub mod MostLemmas

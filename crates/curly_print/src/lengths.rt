@@ -1,8 +1,9 @@
 //! How long the whole printed text is, computed without memory.
 
-ghost use Rattle.std.specs.Prelude.{◌≡◌, ◌≤◌, ◌+◌, [], ◌∷◌, length, min, nat_lt, false, MatchOption};
+ghost use Rattle.std.specs.Prelude.{◌≡◌, ◌≤◌, ◌+◌, [], ◌∷◌, length, min, nat_lt, Bool, true, false, IfSome, MatchOption};
 ghost use Rattle.cfg_tree.specs.OwnWords.{own_words, word_if_any};
 ghost use Rattle.cfg_tree.specs.Statements.{last_of};
+ghost use Rattle.cfg_lex.specs.Printed.{printed_word};
 ghost use Rattle.curly_print.specs.Length.{capped, indent_of, own_len};
 ghost use Rattle.curly_print.specs.Printed.{marks_of, printed, value_text, words_line};
 ghost use Rattle.curly_print.specs.Printing.{blank_words};
@@ -137,4 +138,80 @@ pub fn text_len(tree: &Tree) -> u64
         last = next;
     }
     total
+}
+
+/// No fewer bytes than a word is printed in: in quotes each of its bytes takes two at most.
+fn most_of(word: &[u8]) -> u64
+    requires { length word.now ≤ 255 }
+    ensures enough { length (printed_word word.now) ≤ result }
+    ensures short { result ≤ 512 }
+{
+    2 * word.len() as u64 + 2
+}
+
+fn most_of_step(step: &Step) -> u64
+    ensures enough { length (words_line (own_words (step.now ∷ []))) ≤ result }
+    ensures short { result ≤ 1025 }
+{
+    most_of(step.head.as_bytes()) + 1 + most_of(step.name.as_bytes())
+}
+
+fn most_of_last(steps: &[Step]) -> u64
+    ensures enough { length (words_line (own_words (last_of steps.now ∷ []))) ≤ result }
+    ensures short { result ≤ 1025 }
+{
+    match steps.last() {
+        Some(step) => most_of_step(step),
+        None => 0,
+    }
+}
+
+/// What is left of so many bytes behind words with a blank before each, if they surely have room.
+fn room_behind_blanks(words: &WordList, room: u64) -> Option<u64>
+    ensures { IfSome result (λ left. left + length (blank_words words.now) ≤ room) }
+{
+    let mut left = words.iter();
+    let mut free = room;
+    while let Some(word) = left.next() {
+        free = free.checked_sub(1 + most_of(word.as_bytes()))?;
+    }
+    Some(free)
+}
+
+fn room_behind_value(words: &WordList, room: u64) -> Option<u64>
+    ensures { IfSome result (λ left. left + length (value_text words.now) ≤ room) }
+{
+    let free = room_behind_blanks(words, room)?;
+    if words.len() < 2 {
+        Some(free)
+    } else {
+        free.checked_sub(4)
+    }
+}
+
+/// What is left of so many bytes behind a statement, if it surely has room.
+fn room_behind(steps: &[Step], value: &Value, room: u64) -> Option<u64>
+    requires { length steps.now ≤ 16 }
+    ensures { IfSome result (λ left. (holds : Bool) → left + own_len holds steps.now value.now ≤ room) }
+{
+    let around = 2 * indent_len(steps) + marks_len(value) + 5;
+    let free = room.checked_sub(around as u64 + most_of_last(steps))?;
+    room_behind_value(&value.words, free)
+}
+
+/// Whether `print` gives at most so many bytes of the whole tree, where that is told by how long the words are. It is told
+/// sooner than `text_len`, and not of each tree.
+pub fn is_surely_within(tree: &Tree, most: u64) -> bool
+    ensures { result ≡ true → length (printed tree.now []) ≤ most }
+{
+    let _count = tree.count();
+    let mut left = tree.walk();
+    let mut free = most;
+    while let Some((path, value)) = left.next() {
+        match room_behind(path.steps(), value, free) {
+            Some(rest) => free = rest,
+            None => return false,
+        }
+    }
+    true
 }
