@@ -1,12 +1,13 @@
 -- The part of a configuration is a tree, and has what decides what stands at and below its paths.
-use Rattle.std.proofs.Common.{◌≡◌, ℕ, ◌<◌, ◌≤◌, Bool, true, false, not, cond, List, [], ◌∷◌, ◌++◌, length, filter, refl, sym, ap, subst, ◌∙◌, arith, Option, Some, None, is_some, inl, inr}
+use Rattle.std.proofs.Common.{◌≡◌, ℕ, zero, suc, ◌+◌, get_or, ◌<◌, ◌≤◌, Bool, true, false, not, cond, List, [], ◌∷◌, ◌++◌, length, filter, refl, sym, ap, subst, ◌∙◌, arith, Option, Some, None, is_some, inl, inr}
 use Rattle.std.specs.Prelude.{◌&&◌, ◌||◌, IsSome}
 use Rattle.std.specs.FinMap as finite
 use Rattle.std.specs.FinMap.Entries.{find-where_key, is_sorted-where_key, same_entries}
 use Rattle.std.specs.List.{list_any, AllByRecursion}
-use Rattle.std.specs.Ordering.{is_eq}
+use Rattle.std.specs.Ordering.{is_eq, eq_by_cmp}
+use Rattle.std.specs.Cmp.{tied_itself}
 use Rattle.std.proofs.lemmas.List.{length-append, append-nil}
-use Rattle.cfg_base.specs.Order.{path_cmp, paths_total}
+use Rattle.cfg_base.specs.Order.{word_cmp, words_total, step_cmp, path_cmp, paths_total}
 use Rattle.cfg_base.specs.declared.path.Step.{Step}
 use Rattle.cfg_base.specs.declared.value.Value.{Value}
 use Rattle.cfg_schema.specs.Place.{place_of}
@@ -14,7 +15,7 @@ use Rattle.cfg_schema.proofs.TestLemmas.{both, both_true}
 use Rattle.cfg_tree.specs.declared.limit.TheConstants.{MAX_STATEMENTS}
 use Rattle.cfg_tree.specs.Statements.{Statements, size_of, parent_of, last_of, is_below, HasParent}
 use Rattle.cfg_tree.specs.Tree.{IsTree, IsStatementMap, IsTyped, IsOrderBy, ordered_head, step_of}
-use Rattle.cfg_tree.proofs.MapLemmas.{path_same, same_path}
+use Rattle.cfg_tree.proofs.MapLemmas.{path_same, same_path, same_step}
 use Rattle.cfg_tree.proofs.PathLemmas.{split}
 use Rattle.cfg_tree.proofs.BelowLemmas.{below_first, below_more, below_self}
 use Rattle.group_expand.specs.Sources.{groups_step, is_outside}
@@ -236,3 +237,51 @@ applies_is path root front s a b is e last parent below =
 -- where nothing is left, all is there
 pub none_left : {X : Type 0} (t : X → Bool) (items left all : List X) → left ≡ [] → items ++ filter t left ≡ all → items ≡ all
 none_left t items left all none h = sym (append-nil items) ∙ ap (λ (xs : List _). items ++ filter t xs) (sym none) ∙ h
+
+-- a path that is near another one has its steps, but for its own last one
+same_at : (a p : List Step) (i : ℕ) (d : Step) → is_below a p ≡ true → i < length a → get_or a i d ≡ get_or p i d
+same_at [] p i d e h = absurd (omega (arith, h))
+same_at (x ∷ a) [] i d e h = cc
+same_at (x ∷ a) (y ∷ p) zero d e h = (same_step x y).0 (both (eq_by_cmp step_cmp x y) (is_below a p) e).0
+same_at (x ∷ a) (y ∷ p) (suc i) d e h = same_at a p i d (both (eq_by_cmp step_cmp x y) (is_below a p) e).1 (omega (arith, h))
+
+front_at : (a b : List Step) (i : ℕ) (d : Step) → i < length a → get_or (a ++ b) i d ≡ get_or a i d
+front_at [] b i d h = absurd (omega (arith, h))
+front_at (x ∷ a) b zero d h = refl
+front_at (x ∷ a) b (suc i) d h = front_at a b i d (omega (arith, h))
+
+any_at : (a : List Step) (i : ℕ) (d c : Step) → i < length a → get_or a i d ≡ get_or a i c
+any_at [] i d c h = absurd (omega (arith, h))
+any_at (x ∷ a) zero d c h = refl
+any_at (x ∷ a) (suc i) d c h = any_at a i d c (omega (arith, h))
+
+near_at : (p r : List Step) (i : ℕ) (d : Step) → i + 1 < length p → i < length r → is_near p r ≡ true → get_or p i d ≡ get_or r i d
+near_at p r i d in_p in_r e =
+    either (is_below r p) _ e
+    (λ h. sym (same_at r p i d h in_r))
+    (λ h. either (is_below p r) _ h
+    (λ k. same_at p r i d k (omega (arith, in_p)))
+    (λ k.
+    let ends = split p (omega (arith, in_p)) in let longer = ap (λ (xs : List Step). length xs) ends
+    in let parts = length-append (parent_of p) (last_of p ∷ [])
+    in let above : i < length (parent_of p) = omega (arith, in_p, longer, parts)
+    in ap (λ (xs : List Step). get_or xs i d) ends
+    ∙ front_at (parent_of p) (last_of p ∷ []) i d above
+    ∙ same_at (parent_of p) r i d (both (is_apply_step (last_of p)) _ k).1 above))
+
+-- the last step that both would have
+pub near_last : (p r ps rs : List Step) (i : ℕ) (x y : Step) (told : Bool) → i + 1 < length p → i < length r → ps ≡ p → rs ≡ r → x ≡ get_or ps i x → y ≡ get_or rs i y
+    → told ≡ (eq_by_cmp word_cmp x.head y.head && eq_by_cmp word_cmp x.name y.name) → is_near p r ≡ true → told ≡ true
+near_last p r ps rs i x y told in_p in_r is_p is_r is_x is_y is e =
+    is
+    ∙ ap (λ (z : Step). eq_by_cmp word_cmp z.head y.head && eq_by_cmp word_cmp z.name y.name) same
+    ∙ both_true _ _ (ap is_eq (tied_itself words_total y.head)) (ap is_eq (tied_itself words_total y.name))
+  where
+    same : x ≡ y
+    same =
+        is_x
+        ∙ ap (λ (xs : List Step). get_or xs i x) is_p
+        ∙ near_at p r i x in_p in_r e
+        ∙ any_at r i x y in_r
+        ∙ ap (λ (xs : List Step). get_or xs i y) (sym is_r)
+        ∙ sym is_y

@@ -1,6 +1,6 @@
 //! The part of a configuration that decides what its expansion has at and below some paths.
 
-ghost use Rattle.std.specs.Prelude.{◌≡◌, ◌<◌, length, IfOk, IfSome};
+ghost use Rattle.std.specs.Prelude.{◌≡◌, ◌<◌, true, length, IfOk, IfSome};
 ghost use Rattle.std.specs.FinMap as map;
 ghost use Rattle.std.specs.List.{list_any, AllByRecursion};
 ghost use Rattle.cfg_tree.specs.Statements.{last_of};
@@ -36,10 +36,21 @@ fn applies_above(path: &Path, root: &Path) -> bool
     is_apply(last_step(path)) && root.steps().starts_with(above)
 }
 
+/// Whether the last step that both would have is the same, where the path is near the root. Most paths differ there.
+fn may_be_near(path: &Path, root: &Path) -> bool
+    ensures { is_near path.now root.now ≡ true → result ≡ true }
+{
+    let steps = path.steps();
+    let others = root.steps();
+    let both = steps.len().saturating_sub(1).min(others.len());
+    both == 0 || steps[both - 1] == others[both - 1]
+}
+
 fn is_near(path: &Path, root: &Path) -> bool
     ensures { result ≡ is_near path.now root.now }
 {
-    path.is_below(root) || root.is_below(path) || applies_above(path, root)
+    may_be_near(path, root)
+        && (path.is_below(root) || root.is_below(path) || applies_above(path, root))
 }
 
 fn is_near_any(path: &Path, roots: &[Path]) -> bool
