@@ -17,6 +17,7 @@ fn is_of(step: &Step, row: u8) -> bool
     RowWords::of(RowId::at(usize::from(row))).tell(step)
 }
 
+#[inline(never)]
 #[tactic(auto, using(crate::proofs::StartLemmas::never_as))]
 fn begin_alike(steps: &[Step], rows: &[u8]) -> bool
     requires { AllByRecursion (λ row. row < ROWS) rows.now }
@@ -30,6 +31,7 @@ fn begin_alike(steps: &[Step], rows: &[u8]) -> bool
 }
 
 /// Whether steps are of these rows, one by one.
+#[inline(always)]
 #[tactic(auto, using(crate::proofs::StartLemmas::never_as))]
 pub fn begin_as(steps: &[Step], rows: &[u8]) -> bool
     requires { AllByRecursion (λ row. row < ROWS) rows.now }
