@@ -21,6 +21,7 @@ pub use fault::AccessFault;
 pub use laws::{
     root_may_ask_all, shows_tell_what_is_seen, statements_are_of_one_section, who_changes_sees,
 };
+pub use needs::needs_no_right;
 pub use right::Right;
 pub use rights::Rights;
 pub use section::Section;

@@ -1,6 +1,6 @@
 //! The rights that a command needs.
 
-ghost use Rattle.std.specs.Prelude.{◌≡◌, ◌∷◌, ◌++◌, IfOk, option_map};
+ghost use Rattle.std.specs.Prelude.{◌≡◌, ◌≢◌, true, false, [], ◌∷◌, ◌++◌, IfOk, option_map};
 ghost use Rattle.access_rules.specs.Needs.{alter_needs, changed_words, form_needs, needs_of, replace_needs, see_needs, top_word};
 ghost use Rattle.access_rules.specs.declared.right.Right.TheVariants.{Configure};
 
@@ -126,5 +126,45 @@ pub fn needs_of(alloc: Global, level: &Path, command: &Command) -> Result<Vec<Ri
         Command::Change(op) => change_needs(alloc, top_word(level, changed_words(op))),
         Command::Load { .. } | Command::Rollback(_) => replace_needs(alloc),
         Command::Exit | Command::ExitAll | Command::Logout => Ok(Vec::new(alloc)),
+    }
+}
+
+/// Whether a show of statements at the top that a word begins needs no right.
+fn shows_for_nothing(word: Option<&[u8]>, form: Form) -> bool
+    ensures none { result ≡ true → form_needs form ++ see_needs (option_map (λ word. word.now) word.entry) ≡ [] }
+    ensures some { result ≡ false → form_needs form ++ see_needs (option_map (λ word. word.now) word.entry) ≢ [] }
+{
+    match form {
+        Form::Curly | Form::SetLines => match word {
+            None => false,
+            Some(word) => section_of(word).is_none(),
+        },
+        Form::Inherited => false,
+    }
+}
+
+/// Whether a command needs no right at a level: so each user may ask it.
+pub fn needs_no_right(level: &Path, command: &Command) -> bool
+    ensures none { result ≡ true → needs_of level.now command.now ≡ [] }
+    ensures some { result ≡ false → needs_of level.now command.now ≢ [] }
+{
+    match command {
+        Command::ShowActive { words, form } => {
+            shows_for_nothing(words.as_slice().first().map(|word| word.as_bytes()), *form)
+        }
+        Command::Show { words, form } => shows_for_nothing(top_word(level, words), *form),
+        Command::Exit | Command::ExitAll | Command::Logout => true,
+        Command::ShowCommits
+        | Command::Status
+        | Command::Configure(_)
+        | Command::Edit(_)
+        | Command::Up(_)
+        | Command::Top
+        | Command::CheckOnly
+        | Command::Commit { .. }
+        | Command::Update
+        | Command::Change(_)
+        | Command::Load { .. }
+        | Command::Rollback(_) => false,
     }
 }

@@ -1,6 +1,6 @@
 //! The readers.
 
-ghost use Rattle.std.specs.Prelude.{◌≡◌, ◌≤◌, ◌<◌, ◌⊎◌, ◌++◌, ◌∷◌, [], length, nat_le, true, false, IfOk, IsErr, OnOk, IfSome, IsSome, MatchBool, MatchOption};
+ghost use Rattle.std.specs.Prelude.{◌≡◌, ◌≤◌, ◌<◌, ◌⊎◌, ◌++◌, ◌∷◌, [], length, nat_le, ◌&&◌, true, false, IfOk, IsErr, OnOk, IfSome, IsSome, MatchBool, MatchOption};
 ghost use Rattle.std.specs.Arc.{arc_value};
 ghost use mathlib.Core.List.{IsPrefix};
 ghost use Rattle.active_snapshot.specs.Reads.{HandsOut, IsAnswer, IsReadOf, MayWant};
@@ -219,6 +219,15 @@ impl<J: Naming> SnapReader<J> {
         ensures exact { result ≡ nat_le (length self.now.list) (length note.now.list) }
     {
         self.slot.front.begins(&note.kept)
+    }
+
+    /// Whether all that was read, and all that was reported of so far, is in the list that a note reports.
+    pub fn knows_no_more(&self, note: &SnapNote<J>) -> bool
+        ensures within { result ≡ true → IsPrefix self.now.list note.now.list × IsPrefix self.now.told note.now.list }
+        ensures exact { result ≡ nat_le (length self.now.list) (length note.now.list)
+            && nat_le (length self.now.told) (length note.now.list) }
+    {
+        self.slot.front.begins(&note.kept) && self.told.begins(&note.kept)
     }
 }
 
