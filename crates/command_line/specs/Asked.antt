@@ -1,6 +1,6 @@
 -- What the words of a command line ask. The modes, options and limits are this project's own.
 -- Bytes by number: : is 58.
-use Rattle.std.specs.Prelude.{◌≡◌, ◌==◌, ◌<◌, ◌≤◌, ◌⊎◌, ℕ, List, [], ◌∷◌, ◌++◌, length, map, codes}
+use Rattle.std.specs.Prelude.{◌≡◌, ◌==◌, ◌<◌, ◌≤◌, ◌⊎◌, ℕ, true, List, [], ◌∷◌, ◌++◌, length, map, codes}
 use Rattle.std.specs.List.{All, IsDistinct, before_first, after_first}
 use Rattle.std.specs.Str.{IsUtf8}
 use Rattle.std.specs.Str.Parse.{IsNumeral, digits_value, without_leading_plus}
@@ -67,6 +67,9 @@ pub record IsAsked (g : Given) (asked : Asked) : Type 0 where
   pub files : asked.files ≡ map file_in g.sessions
   pub input : IsLimit 1 g.input asked.limits.input
   pub journal : IsLimit 4096 g.journal asked.limits.journal
+  pub access : asked.access ≡ g.access
+  -- rights are asked for with this mode alone
+  pub guarded : g.access ≡ true → g.mode ≡ codes "serve"
 
 -- the words ask this: they are text, clap takes them, and what it finds in them asks this
 pub record Asks (words : List Text) (asked : Asked) : Type 0 where

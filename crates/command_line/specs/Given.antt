@@ -1,5 +1,6 @@
--- What stands in the words of a command line: each argument's text.
-use Rattle.std.specs.Prelude.{List, [], codes, unwrap_or}
+-- What stands in the words of a command line: each argument's text, and whether the flag is there.
+use Rattle.std.specs.Prelude.{Bool, List, [], codes, unwrap_or}
+use Rattle.std.specs.Str.{bytes_eq}
 use Rattle.clap.specs.Words.{Row, Text, all_of, first_of}
 use Rattle.command_line.specs.Command.{rows_in}
 
@@ -10,10 +11,15 @@ pub record Given : Type 0 where
   pub user : Text
   pub input : Text
   pub journal : Text
+  pub access : Bool
 
 -- the value of an argument, which is empty where it has none
 abbrev pub text_of : Text → List Row → Text
 text_of id rows = unwrap_or (first_of id rows) []
+
+-- a flag is there: it has the value that stands for it
+abbrev pub has_flag : Text → List Row → Bool
+has_flag id rows = bytes_eq (text_of id rows) (codes "true")
 
 -- the values of an argument
 abbrev pub texts_of : Text → List Row → List Text
@@ -27,6 +33,7 @@ given_in rows = record {
   user = text_of (codes "user") rows;
   input = text_of (codes "input") rows;
   journal = text_of (codes "journal-limit") rows;
+  access = has_flag (codes "access") rows;
 }
 
 -- what the words give

@@ -24,4 +24,6 @@ pub struct Asked {
     /// The files of the sessions, in order; none where no session is named.
     pub files: Words,
     pub limits: Limits,
+    /// Whether each command is to be allowed by its user's rights: in mode `Serve` alone.
+    pub access: bool,
 }

@@ -3,12 +3,12 @@
 ghost use Rattle.std.specs.Prelude.{◌≡◌, ◌≢◌, ◌↔◌, [], false, map, IfOk, IfErr, IsErrOf};
 ghost use Rattle.clap.specs.Words.{app_of, found_of, kind_of, rows_of, rule_of};
 ghost use Rattle.clap.specs.declared.error.kind.ErrorKind.{ErrorKind};
-ghost use Rattle.command_line.specs.Command.{bare, with_places, confd, mode_rule, place_rule, session_rule, option_rule, faults_in, rows_in};
+ghost use Rattle.command_line.specs.Command.{bare, with_places, with_options, confd, mode_rule, place_rule, session_rule, option_rule, flag_rule, faults_in, rows_in};
 ghost use Rattle.command_line.specs.declared.usage.Usage.TheVariants.{Refused};
 
 use crate::usage::Usage;
 use clap::error::ErrorKind;
-use clap::{Arg, ArgMatches, Command, Error};
+use clap::{Arg, ArgAction, ArgMatches, Command, Error};
 use std::alloc::{AllocError, Global};
 
 fn mode<'a>(alloc: Global) -> Arg<'a>
@@ -40,6 +40,14 @@ fn option<'a>(alloc: Global, name: &'a str, usual: &'a str) -> Arg<'a>
     Arg::new(alloc, name).long(name).default_value(usual)
 }
 
+/// An option without a value.
+fn flag<'a>(alloc: Global, name: &'a str) -> Arg<'a>
+    ensures rule { rule_of result ≡ flag_rule name.entry.now }
+    ensures local { result.global ≡ false }
+{
+    Arg::new(alloc, name).long(name).action(ArgAction::SetTrue)
+}
+
 /// The command without arguments: all words are its own, and none is for help or a version.
 fn bare<'a>(alloc: Global) -> Command<'a>
     ensures { app_of result ≡ bare }
@@ -60,14 +68,20 @@ fn with_places<'a>(alloc: Global) -> Result<Command<'a>, AllocError>
     Ok(command)
 }
 
-fn confd<'a>(alloc: Global) -> Result<Command<'a>, AllocError>
-    ensures { IfOk result (λ command. app_of command ≡ confd) }
+fn with_options<'a>(alloc: Global) -> Result<Command<'a>, AllocError>
+    ensures { IfOk result (λ command. app_of command ≡ with_options) }
 {
     let command = with_places(alloc)?
         .arg(option(alloc, "user", "root"))?
         .arg(option(alloc, "input", "16777216"))?
         .arg(option(alloc, "journal-limit", "67108864"))?;
     Ok(command)
+}
+
+fn confd<'a>(alloc: Global) -> Result<Command<'a>, AllocError>
+    ensures { IfOk result (λ command. app_of command ≡ confd) }
+{
+    with_options(alloc)?.arg(flag(alloc, "access"))
 }
 
 /// The words as clap finds them: they are refused exactly where it finds a fault.

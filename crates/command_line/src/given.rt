@@ -2,12 +2,12 @@
 
 ghost use Rattle.std.specs.Prelude.{◌≡◌};
 ghost use Rattle.clap.specs.Words.{found_of, rows_of};
-ghost use Rattle.command_line.specs.Given.{given_in, text_of};
+ghost use Rattle.command_line.specs.Given.{given_in, has_flag, text_of};
 
 use clap::ArgMatches;
 use std::marker::Model;
 
-/// The texts of a command line, each under its argument.
+/// The texts of a command line, each under its argument, and its flag.
 #[derive(Debug, Drop)]
 pub(crate) struct Given<'m, 'a> {
     pub mode: &'a str,
@@ -17,6 +17,7 @@ pub(crate) struct Given<'m, 'a> {
     pub user: &'a str,
     pub input: &'a str,
     pub journal: &'a str,
+    pub access: bool,
 }
 
 impl<'m, 'a> Model for Given<'m, 'a> {
@@ -32,6 +33,7 @@ impl<'m, 'a> Model for Given<'m, 'a> {
       user = g.user.now;
       input = g.input.now;
       journal = g.journal.now;
+      access = g.access;
     } };
 }
 
@@ -40,6 +42,13 @@ fn text<'a>(matches: &ArgMatches<'a>, id: &str) -> &'a str
     ensures { result.now ≡ text_of id.now (rows_of (found_of matches.now)) }
 {
     matches.get_str(id).unwrap_or("")
+}
+
+/// Whether a flag is there.
+fn flag(matches: &ArgMatches<'_>, id: &str) -> bool
+    ensures { result ≡ has_flag id.now (rows_of (found_of matches.now)) }
+{
+    text(matches, id) == "true"
 }
 
 impl<'m, 'a> Given<'m, 'a> {
@@ -54,6 +63,7 @@ impl<'m, 'a> Given<'m, 'a> {
             user: text(matches, "user"),
             input: text(matches, "input"),
             journal: text(matches, "journal-limit"),
+            access: flag(matches, "access"),
         }
     }
 }

@@ -1,6 +1,6 @@
 //! What holds of all command lines.
 
-ghost use Rattle.std.specs.Prelude.{◌≡◌, ◌∷◌, [], List, ℕ, codes};
+ghost use Rattle.std.specs.Prelude.{◌≡◌, ◌∷◌, [], List, ℕ, codes, true, false};
 ghost use Rattle.command_line.specs.Asked.{Asks};
 ghost use Rattle.command_line.specs.declared.asked.Asked.{Asked};
 ghost use Rattle.command_line.specs.declared.asked.RunMode.TheVariants.{Serve};
@@ -20,6 +20,19 @@ pub fn a_place_is_served_for_root()
       users = codes "root" ∷ [];
       files = [];
       limits = record { input = 16777216; journal = 67108864 };
+      access = false;
+    }) }
+{}
+
+/// `serve d --access` asks for the same, and that each command be allowed by its user's rights.
+pub fn a_flag_asks_for_rights()
+    ensures { Asks (codes "serve" ∷ codes "d" ∷ codes "--access" ∷ []) (record {
+      mode = Serve;
+      place = codes "d";
+      users = codes "root" ∷ [];
+      files = [];
+      limits = record { input = 16777216; journal = 67108864 };
+      access = true;
     }) }
 {}
 

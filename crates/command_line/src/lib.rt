@@ -14,7 +14,9 @@ mod sessions;
 mod usage;
 
 pub use asked::{Asked, RunMode};
-pub use laws::{a_place_is_served_for_root, limits_are_stated, words_ask_one_thing};
+pub use laws::{
+    a_flag_asks_for_rights, a_place_is_served_for_root, limits_are_stated, words_ask_one_thing,
+};
 pub use reading::read_words;
 pub use sessions::MAX_SESSIONS;
 pub use usage::Usage;

@@ -129,6 +129,9 @@ fn asked_of(alloc: Global, given: &Given<'_, '_>) -> Result<Asked, Usage>
     let mode = mode_named(given.mode).ok_or(Usage::Refused)?;
     let place = place_of(alloc, given.mode, given.place)?;
     let user = user_named(alloc, given.user)?;
+    if given.access && given.mode != "serve" {
+        return Err(Usage::Refused);
+    }
     let limits = limits_of(given).ok_or(Usage::Refused)?;
     let words = given.sessions.unwrap_or(&[]);
     let Sessions { users, files } = asked_sessions(alloc, user, given.mode, words)?;
@@ -138,6 +141,7 @@ fn asked_of(alloc: Global, given: &Given<'_, '_>) -> Result<Asked, Usage>
         users,
         files,
         limits,
+        access: given.access,
     })
 }
 

@@ -11,7 +11,7 @@ use thiserror::Error;
 #[derive(Clone, Copy, Debug, PartialEq, Eq, Error)]
 pub enum Usage {
     /// The words ask nothing that the program does.
-    #[error("usage: confd [--user NAME] [--input N] [--journal-limit N] init|serve|check|gen PLACE [USER:FILE ..]")]
+    #[error("usage: confd [--access] [--user NAME] [--input N] [--journal-limit N] init|serve|check|gen PLACE [USER:FILE ..]")]
     Refused,
     #[error("out of memory")]
     NoMemory,

@@ -24,4 +24,6 @@ returns-clause-ok c =
       files = all.2;
       input = search rules;
       journal = search rules;
+      access = search rules;
+      guarded = search rules;
     }
