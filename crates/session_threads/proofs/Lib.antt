@@ -1,3 +1,6 @@
+mod AskedLemmas
+mod AskingLemmas
+mod CountLemmas
 mod GateLemmas
 pub mod LaterLemmas
 pub mod ListLemmas

@@ -60,6 +60,19 @@ last_of : (caller moment : ℕ) (front own : List Happened) (last : Happened) �
 last_of caller moment front own last is made =
     (all_back (IsEventOf caller moment) front (last ∷ []) (subst (AllByRecursion (IsEventOf caller moment)) is made)).0
 
+-- the events before a command's place lead to the state in which it was asked
+pub asked_leads : (opening : State) (caller moment : ℕ) (command : Command) (place : ℕ) (reply : Reply) (own : List Happened)
+    (v v' : DatabaseView) → Leads opening v.events v.state → (given : IsAnswered caller moment command place reply own v v')
+    → Leads opening (take place (v.events ++ own)) given.before
+asked_leads opening caller moment command place reply own v v' leads given =
+    let ahead : List Happened = v.events ++ given.front in
+    let whole : v.events ++ own ≡ ahead ++ given.last ∷ [] =
+    ap (λ l. v.events ++ l) given.is_own ∙ sym (append_assoc v.events given.front (given.last ∷ [])) in
+    subst (λ l. Leads opening (take place l) given.before) (sym whole)
+    (subst (λ front. Leads opening front given.before)
+    (sym (ap (λ p. take p (ahead ++ given.last ∷ [])) given.at_end ∙ take-append_seam ahead (given.last ∷ [])))
+    (Leads-append opening v.events given.front v.state given.before leads given.leads))
+
 -- the command stands at its place of the grown history
 is_asked : (opening : State) (caller answer moment : ℕ) (command : Command) (place : ℕ) (reply : Reply) (own : List Happened)
     (v v' : DatabaseView) → Leads opening v.events v.state → moment ≡ max answer v.state.greatest
@@ -76,9 +89,8 @@ is_asked opening caller answer moment command place reply own v v' leads is_mome
       is_at = subst (λ l. IsAt opening l place given.before given.last reply) (sym whole) (record {
         within = omega (arith, given.at_end, length-append ahead (given.last ∷ []));
         is = ap (λ p. slice_get (ahead ++ given.last ∷ []) p) given.at_end ∙ at_seam ahead [] given.last;
-        leads = subst (λ front. Leads opening front given.before)
-            (sym (ap (λ p. take p (ahead ++ given.last ∷ [])) given.at_end ∙ take-append_seam ahead (given.last ∷ [])))
-            (Leads-append opening v.events given.front v.state given.before leads given.leads);
+        leads = subst (λ l. Leads opening (take place l) given.before) whole
+            (asked_leads opening caller moment command place reply own v v' leads given);
         turned = given.turned;
         steps = steps_of given.before caller moment (CommandOf command) given.turned given.last last.0 last.1 given.asks given.steps;
         replied = given.replied;
@@ -189,7 +201,7 @@ AddsUp-begun events v w adds = record {
 }
 
 -- counts that rose by so many, and then by more
-rose_on : (many more : ℕ) (p q r : DiskPair) → NoneFell q r → RoseBy many p q → RoseBy more q r → RoseBy (many + more) p r
+pub rose_on : (many more : ℕ) (p q r : DiskPair) → NoneFell q r → RoseBy many p q → RoseBy more q r → RoseBy (many + more) p r
 rose_on many more p q r on (inl full) next = inl (omega (arith, full, on.0))
 rose_on many more p q r on (inr (inl full)) next = inr (inl (omega (arith, full, on.1)))
 rose_on many more p q r on (inr (inr rose)) (inl full) = inl full

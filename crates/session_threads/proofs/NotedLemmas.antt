@@ -9,7 +9,7 @@ use Rattle.session_threads.specs.declared.noted.Note.{Note}
 use Rattle.session_threads.specs.declared.noted.Noted.{Noted}
 use Rattle.session_threads.specs.declared.noted.Noted.TheVariants.{Event, Unready}
 use Rattle.session_threads.specs.Naming.{events_of-append}
-use Rattle.session_threads.specs.Noted.{AreUpTo, GoesByEvents, callers_of, caller_in, events_of, merged, notes_after, notes_of, notes_until}
+use Rattle.session_threads.specs.Noted.{AreUpTo, GoesOnBy, callers_of, caller_in, events_of, merged, notes_after, notes_of, notes_until}
 use Rattle.session_threads.specs.Noted.{of_events, of_notes}
 use Rattle.session_threads.proofs.ListLemmas.{All-weaker}
 
@@ -128,7 +128,7 @@ events_of-merged count (event ∷ events) notes =
     (no_events (notes_until count notes))
     ∙ ap (λ (l : List Happened). event ∷ l) (events_of-merged (count + 1) events (notes_after count notes))
 
-notes_of-append : (xs ys : List Noted) → notes_of (xs ++ ys) ≡ notes_of xs ++ notes_of ys
+pub notes_of-append : (xs ys : List Noted) → notes_of (xs ++ ys) ≡ notes_of xs ++ notes_of ys
 notes_of-append [] ys = refl
 notes_of-append (Event event ∷ xs) ys = notes_of-append xs ys
 notes_of-append (Unready caller ∷ xs) ys = ap (λ (l : List ℕ). caller ∷ l) (notes_of-append xs ys)
@@ -171,14 +171,22 @@ length-merged events notes = omega (
   length-map notes (λ (note : Note). note.caller),
 )
 
--- the history went on by events alone
-pub GoesByEvents-merged : (Says : List Happened → List Happened → Type 0) (events events' : List Happened) (notes : List Note)
-    → Says events events' → GoesByEvents Says (merged 0 events notes) (merged 0 events' notes)
-GoesByEvents-merged Says events events' notes said = record {
-  said = subst (λ l. Says l (events_of (merged 0 events' notes))) (sym (events_of-merged 0 events notes))
-      (subst (λ l. Says events l) (sym (events_of-merged 0 events' notes)) said);
-  no_note = notes_of-merged 0 events' notes ∙ sym (notes_of-merged 0 events notes);
+-- the history went on by events and by notes
+pub GoesOnBy-merged : (Says : List Happened → List Happened → Type 0) (more : List ℕ) (events events' : List Happened)
+    (notes notes' : List Note) → Says events events'
+    → notes_of (merged 0 events' notes') ≡ notes_of (merged 0 events notes) ++ more
+    → GoesOnBy Says more (merged 0 events notes) (merged 0 events' notes')
+GoesOnBy-merged Says more events events' notes notes' said noted = record {
+  said = subst (λ l. Says l (events_of (merged 0 events' notes'))) (sym (events_of-merged 0 events notes))
+      (subst (λ l. Says events l) (sym (events_of-merged 0 events' notes')) said);
+  noted = noted;
 }
+
+-- the same, by events alone
+pub GoesOnBy-events : (Says : List Happened → List Happened → Type 0) (events events' : List Happened) (notes : List Note)
+    → Says events events' → GoesOnBy Says [] (merged 0 events notes) (merged 0 events' notes)
+GoesOnBy-events Says events events' notes said = GoesOnBy-merged Says [] events events' notes notes said
+    (notes_of-merged 0 events' notes ∙ sym (notes_of-merged 0 events notes) ∙ sym (append-nil (notes_of (merged 0 events notes))))
 
 -- events of a caller are the caller's among notes too
 all_by : (caller : ℕ) (own : List Happened) → AllByRecursion (λ event. event.caller ≡ caller) own

@@ -20,10 +20,10 @@ use Rattle.session_threads.specs.declared.noted.Noted.{Noted}
 use Rattle.session_threads.specs.History.{FollowsTurn, Grows, places_answered}
 use Rattle.session_threads.specs.Looks.{LooksAlone, LooksOnce}
 use Rattle.session_threads.specs.Naming.{events_of-begins}
-use Rattle.session_threads.specs.Noted.{GoesByEvents, caller_in, events_of}
+use Rattle.session_threads.specs.Noted.{GoesOnBy, caller_in, events_of, notes_of}
 use Rattle.session_threads.specs.Passes.{CallerPass, FollowsAlone, IsReady, KnowsOwn, WentOn, events_seen}
 use Rattle.session_threads.proofs.ListLemmas.{some_is}
-use Rattle.session_threads.proofs.NotedLemmas.{others-events}
+use Rattle.session_threads.proofs.NotedLemmas.{notes_of-append, others-events}
 
 pub not_kept : {A : Type 0} (b : Bool) (x : A) (xs : List A) → cond b (x ∷ xs) xs ≡ [] → (b ≡ false) × (xs ≡ [])
 not_kept true x xs is = cc
@@ -175,23 +175,32 @@ module _ (says : DatabaseView → List Noted → List Noted → Type 0) (old new
   pub own-took : new.own ≡ old.own ++ took.added
   own-took = ap (λ (p : CallerPass). p.own) took.is_new
 
--- how a pass follows after a turn that asked a command
-pub FollowsTurn-took : (old new : CallerPass) (command : Command) (answer : ℕ) (answered : Answered)
+  -- the notes that a turn wrote are the pass's own
+  pub notes-took : (more : List ℕ) → notes_of (took.before ++ took.added) ≡ notes_of took.before ++ more
+      → notes_of new.own ≡ notes_of old.own ++ more
+  notes-took more noted =
+      let wrote : notes_of took.added ≡ more =
+      append_cancel_left (notes_of took.before) (notes_of took.added) more (sym (notes_of-append took.before took.added) ∙ noted) in
+      ap notes_of own-took ∙ notes_of-append old.own took.added ∙ ap (λ l. notes_of old.own ++ l) wrote
+
+-- how a pass follows after a turn that asked a command, which wrote these notes
+pub FollowsTurn-took : (old new : CallerPass) (command : Command) (answer : ℕ) (answered : Answered) (more : List ℕ)
     (More : DatabaseView → List Happened → Type 0) → KnowsOwn old
     → TookTurn caller_in (λ first before after.
-    GoesByEvents (λ were are. FollowsAlone first old.caller were command answer answered are × More first are) before after) old new
-    → WentOn old new × ((first : DatabaseView) → old.fixed ≡ Some first
+    GoesOnBy (λ were are. FollowsAlone first old.caller were command answer answered are × More first are) more before after) old new
+    → WentOn old new × (notes_of new.own ≡ notes_of old.own ++ more) × ((first : DatabaseView) → old.fixed ≡ Some first
     → FollowsTurn (opened first) old.caller (events_seen old) command answer answered (events_seen new) × More first (events_seen new))
-FollowsTurn-took old new command answer answered More own took =
+FollowsTurn-took old new command answer answered more More own took =
     let says : DatabaseView → List Noted → List Noted → Type 0 =
     λ first before after.
-    GoesByEvents (λ were are. FollowsAlone first old.caller were command answer answered are × More first are) before after in
+    GoesOnBy (λ were are. FollowsAlone first old.caller were command answer answered are × More first are) more before after in
     let after : List Happened = events_of (took.before ++ took.added) in
     let behind : FollowsTurn (opened took.fixed) old.caller (events_seen old) command answer answered after =
     Follows-behind (opened took.fixed) old.caller answer (events_seen old) (events_of took.begins.0) (events_of took.before) after
     (before-took says old new took) (not_own-took says old new took own) command answered took.said.said.0.follows
     took.said.said.0.alone in (
       WentOn-took says old new took,
+      notes-took says old new took more took.said.noted,
       λ first fixed.
           subst (λ f. FollowsTurn (opened f) old.caller (events_seen old) command answer answered (events_seen new)
           × More f (events_seen new)) (some_is (sym took.is_fixed ∙ fixed))

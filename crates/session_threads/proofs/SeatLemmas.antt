@@ -1,25 +1,33 @@
 -- The session of a pass's caller, from the turns that it took.
-use Rattle.std.proofs.Common.{◌≡◌, ◌≢◌, ◌⊎◌, ◌≤◌, ℕ, List, [], ◌++◌, Some, inl, inr}
+use Rattle.std.proofs.Common.{◌≡◌, ◌≢◌, ◌⊎◌, ◌≤◌, ◌+◌, ℕ, Bool, List, [], ◌++◌, length, Option, Some, inl, inr}
 use Rattle.std.proofs.Common.{sym, ap, subst, ◌∙◌, refl}
 use mathlib.Core.List.{IsPrefix}
+use Rattle.std.specs.Prelude.{count_by}
 use Rattle.std.specs.List.{AllByRecursion}
 use Rattle.std.proofs.lemmas.List.{append-nil, append_cancel_left}
 use Rattle.active_snapshot.specs.States.{ReaderView}
 use Rattle.active_snapshot.specs.Views.{AreViews, IsLast}
 use Rattle.commit_ledger.specs.Kept.{Kept}
+use Rattle.config_core.specs.State.{State}
 use Rattle.config_db.specs.View.{DatabaseView, opened}
+use Rattle.session_history.specs.declared.history.Happened.{Happened}
+use Rattle.session_history.specs.Events.{Leads}
 use Rattle.session_shell.specs.declared.turn.How.{How}
 use Rattle.session_shell.specs.declared.turn.Turn.{Turn}
 use Rattle.session_shell.specs.Transcript.{EndView, IsSession}
 use Rattle.turn_lock.specs.Histories.{entries_by}
 use Rattle.turn_lock.specs.Passes.{TookTurn}
 use Rattle.session_threads.specs.declared.noted.Noted.{Noted}
+use Rattle.session_threads.specs.Access.{asks_of}
+use Rattle.session_threads.specs.Adding.{is_unready}
 use Rattle.session_threads.specs.Gates.{FollowsIn, GateView, StartsReading, TellsKept}
+use Rattle.session_threads.specs.History.{FollowsAsked, Known, known_first}
 use Rattle.session_threads.specs.Naming.{events_of-begins}
-use Rattle.session_threads.specs.Noted.{caller_in, events_of}
+use Rattle.session_threads.specs.Noted.{caller_in, events_of, notes_of}
 use Rattle.session_threads.specs.Passes.{CallerPass, KnowsOwn, Waited, events_seen}
 use Rattle.session_threads.specs.Results.{SessionResult}
-use Rattle.session_threads.specs.Sessions.{HasLeft, HasRun, IsWithin, RunsOne, RunsOver, ServesOne, StaysOut}
+use Rattle.session_threads.specs.Sessions.{CountsTurns, HasLeft, HasRun, IsWithin, RunsOne, RunsOver, ServesOne, StaysOut}
+use Rattle.session_threads.proofs.AskedLemmas.{asks_kept, counts_asked}
 use Rattle.session_threads.proofs.ListLemmas.{some_is}
 use Rattle.session_threads.proofs.PassLemmas.{WentOn-same, WentOn-then, WentOn-took, others_behind, own-took, seen-took}
 use Rattle.session_threads.proofs.TraceLemmas.{IsSession-known, WentOn-asked}
@@ -54,33 +62,44 @@ module _ (list : List Kept) (old new : CallerPass)
     within = within;
   }
 
-module _ {E : Type 0} (view : E → EndView) where
+module _ {E : Type 0} (view : E → EndView) (limit : ℕ) where
   -- a session ran over its pass and its reader
-  pub RunsOne-ran : (limit : ℕ) (old new gate gate' : GateView) (before after end : E) (how : How) (turns : List Turn)
-      (bytes : ℕ) → before ≡ end → bytes ≡ limit → gate ≡ old → gate' ≡ new → KnowsOwn old.pass
-      → IsSession FollowsIn bytes how turns (view before) (view after) gate gate'
+  pub RunsOne-ran : (old new gate gate' : GateView) (before after end : E) (how : How) (turns : List Turn) (bytes : ℕ)
+      → before ≡ end → bytes ≡ limit → gate ≡ old → gate' ≡ record new { asks = gate'.asks } → new.asks ≡ old.asks
+      → KnowsOwn old.pass → IsSession FollowsIn bytes how turns (view before) (view after) gate gate'
       → RunsOne view limit old new (record { how = how; old = end; new = after; turns = turns })
-  RunsOne-ran limit old new gate gate' before after end how turns bytes is_end is_limit began ended own ran =
+  RunsOne-ran old new gate gate' before after end how turns bytes is_end is_limit began ended same own ran =
       let of_end : IsSession FollowsIn limit how turns (view end) (view after) gate gate' =
       subst (λ (e : E). IsSession FollowsIn limit how turns (view e) (view after) gate gate') is_end
       (subst (λ n. IsSession FollowsIn n how turns (view before) (view after) gate gate') is_limit ran) in
+      let kept : gate'.asks ≡ new.asks =
+      asks_kept (of_end.transcript.asked ++ of_end.transcript.final) gate gate' of_end.transcript.turns.asked
+      ∙ ap (λ (g : GateView). g.asks) began ∙ sym same in
       let of_gate : IsSession FollowsIn limit how turns (view end) (view after) old new =
       subst (λ (g : GateView). IsSession FollowsIn limit how turns (view end) (view after) g new) began
-      (subst (λ (g : GateView). IsSession FollowsIn limit how turns (view end) (view after) gate g) ended of_end) in
+      (subst (λ (g : GateView). IsSession FollowsIn limit how turns (view end) (view after) gate g)
+      (ended ∙ ap (λ (a : Option (List ℕ)). record new { asks = a }) kept) of_end) in
       let t = of_gate.transcript in
       record {
         goes = WentOn-asked (t.asked ++ t.final) old.pass old new (WentOn-same old.pass own) t.turns.asked;
+        noted = subst (λ l. CountsTurns old.pass new.pass l) (sym t.turns.turned)
+            (counts_asked (t.asked ++ t.final) old new t.turns.asked);
         session = inl of_gate;
       }
 
   module _ (never_fall : (one two : List Kept) (view later : Kept) → AreViews two → IsPrefix one two → IsLast one view
-      → IsLast two later → view.count ≤ later.count) (limit : ℕ) (first : DatabaseView) (old mid : GateView)
+      → IsLast two later → view.count ≤ later.count)
+      (leads_once : (s : DatabaseView) (events : List Happened) (one other : State) → Leads (opened s) events one
+      → Leads (opened s) events other → one ≡ other) (access : Bool) (first : DatabaseView) (old mid : GateView)
       (new : CallerPass) (result : SessionResult E) (own : KnowsOwn old.pass) (fixed : old.pass.fixed ≡ Some first)
-      (starts : StartsReading first old.reader)
+      (starts : StartsReading first old.reader) (asked : old.asks ≡ asks_of access (view result.old).user)
       (runs : RunsOne view limit old mid result) (gone : HasLeft first mid.pass new mid.reader)
     where
       later : IsPrefix mid.pass.seen new.seen
       later = gone.waited.goes.later
+
+      begins : events_seen mid.pass ++ events_of later.0 ≡ events_seen new
+      begins = events_of-begins mid.pass.seen new.seen later
 
       none_later : AllByRecursion (λ event. event.caller ≢ old.pass.caller) (events_of later.0)
       none_later = others_behind old.pass.caller mid.pass.seen later.0 mid.pass.own
@@ -89,21 +108,27 @@ module _ {E : Type 0} (view : E → EndView) where
           ∙ subst (λ c. entries_by caller_in c new.seen ≡ new.own) (gone.waited.goes.caller ∙ runs.goes.caller) gone.waited.goes.own
           ∙ gone.waited.same_own)
 
-      has_run : RunsOver view limit old mid result
-          → HasRun view limit first old.pass new result
+      has_run : RunsOver view limit old mid result → HasRun view limit access first old.pass new result
       has_run ran =
-          let known = IsSession-known never_fall first (events_seen new) gone.within.list gone.within.tells limit result.how result.turns
-          (view result.old) (view result.new) old mid fixed (WentOn-same old.pass own) starts gone.within.within ran in
+          let known = IsSession-known never_fall leads_once first (events_seen new) gone.within.list gone.within.tells limit result.how
+          result.turns (view result.old) (view result.new) old mid fixed (WentOn-same old.pass own) starts gone.within.within
+          (events_of later.0, begins) ran in
+          let after : Known = record { events = events_seen mid.pass; front = known.0 } in
           record {
-            after = record { events = events_seen mid.pass; front = known.0 };
+            after = after;
             later = events_of later.0;
-            begins = sym (events_of-begins mid.pass.seen new.seen later);
+            begins = sym begins;
             none_later = none_later;
-            session = known.1;
+            session = subst (λ (a : Option (List ℕ)). IsSession (FollowsAsked (record {
+              opening = opened first;
+              caller = old.pass.caller;
+              asks = a;
+            }) (events_seen new)) limit result.how result.turns (view result.old) (view result.new)
+                (known_first (opened first) (events_seen old.pass)) after) asked known.1;
           }
 
       session_left : RunsOver view limit old mid result ⊎ StaysOut old.pass mid.pass result
-          → HasRun view limit first old.pass new result ⊎ StaysOut old.pass new result
+          → HasRun view limit access first old.pass new result ⊎ StaysOut old.pass new result
       session_left (inl ran) = inl (has_run ran)
       session_left (inr out) = inr (record {
         how = out.how;
@@ -113,8 +138,10 @@ module _ {E : Type 0} (view : E → EndView) where
       })
 
       -- a session was run, and then its caller took turns that made nothing, until all that its reader has was kept
-      pub ServesOne-left : ServesOne view limit first old.pass new result
+      pub ServesOne-left : ServesOne view limit access first old.pass new result
       ServesOne-left = record {
         goes = WentOn-then old.pass mid.pass new runs.goes gone.waited.goes;
+        noted = subst (λ l. length (notes_of old.pass.own) + count_by is_unready result.turns ≤ length (notes_of l))
+            (sym gone.waited.same_own) runs.noted;
         session = session_left runs.session;
       }

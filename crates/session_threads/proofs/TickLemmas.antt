@@ -10,7 +10,7 @@ use Rattle.session_history.specs.declared.history.Happened.{Happened}
 use Rattle.turn_lock.specs.Passes.{TookTurn}
 use Rattle.session_threads.specs.declared.noted.Noted.{Noted}
 use Rattle.session_threads.specs.Looks.{AreLooks, Looks, LooksAlone, LooksOnce, TakesLook, TickerView}
-use Rattle.session_threads.specs.Noted.{GoesByEvents, caller_in, events_of}
+use Rattle.session_threads.specs.Noted.{GoesOnBy, caller_in, events_of}
 use Rattle.session_threads.specs.Passes.{CallerPass, KnowsOwn, WentOn, events_seen}
 use Rattle.session_threads.specs.Ticks.{IsTickersPass, IsLook, IsRound, Ticks, TicksOn}
 use Rattle.session_threads.proofs.ListLemmas.{some_is}
@@ -47,11 +47,11 @@ round_of false opening old new events events' look = inl look
 pub Ticks-look : (lock : TableId) (first : DatabaseView) (old new : CallerPass) (ticker ticker' : TickerView) (answer : ℕ)
     (goes_on : Bool) → IsTickersPass lock first old → TakesAnswer ticker.due ticker'.due true
     → TakesAnswer ticker.coming ticker'.coming answer
-    → TookTurn caller_in (λ fixed before after. GoesByEvents (LooksAlone (opened fixed) answer) before after) old new
+    → TookTurn caller_in (λ fixed before after. GoesOnBy (LooksAlone (opened fixed) answer) [] before after) old new
     → Ticks goes_on first old new ticker ticker'
 Ticks-look lock first old new ticker ticker' answer goes_on is beat clock took =
     let says : DatabaseView → List Noted → List Noted → Type 0 =
-    λ fixed before after. GoesByEvents (LooksAlone (opened fixed) answer) before after in
+    λ fixed before after. GoesOnBy (LooksAlone (opened fixed) answer) [] before after in
     let others : AllByRecursion (λ event. event.caller ≢ 0) (events_of took.begins.0) =
     subst (λ c. AllByRecursion (λ event. event.caller ≢ c) (events_of took.begins.0)) is.nobodys
     (not_own-took says old new took is.own) in

@@ -3,12 +3,15 @@ use Rattle.std.proofs.Common.{◌≡◌, ◌≢◌, ◌⊎◌, ◌+◌, ◌<◌,
 use Rattle.std.proofs.Common.{map, take, drop, All, Contains, Option, None, Some}
 use Rattle.std.proofs.Common.{true, false, inl, inr, ⊎_elim, eqb, eq-eqb, refl, sym, ap, subst, ◌∙◌, append_assoc, arith}
 use mathlib.Core.List.{IsPrefix}
+use Rattle.std.specs.Prelude.{Bool, count_by}
 use Rattle.std.specs.List.{AllByRecursion}
 use Rattle.std.proofs.lemmas.List.{length-map}
 use Rattle.std.proofs.Math.Seq.{take-append_seam}
 use Rattle.std.proofs.lemmas.List.Elements.{All-cons, All-nil, All-same}
 use Rattle.active_snapshot.specs.States.{ReaderView}
 use Rattle.atomic_table.specs.Seated.{TableId}
+use Rattle.commit_journal.specs.Journal.{disks_of}
+use Rattle.config_db.specs.Faults.{is_failed_command}
 use Rattle.config_db.specs.View.{DatabaseView, opened}
 use Rattle.session_history.specs.declared.history.Happened.{Happened}
 use Rattle.session_history.specs.Events.{IsLegal, Leads}
@@ -20,13 +23,15 @@ use Rattle.turn_lock.specs.declared.view.Ended.{Ended}
 use Rattle.turn_lock.specs.Histories.{entries_by}
 use Rattle.turn_lock.specs.Passes.{IsClosed, ended_of, first_pass}
 use Rattle.session_threads.specs.declared.seat.Seat.{Seat}
+use Rattle.session_threads.specs.declared.noted.Note.{Note}
 use Rattle.session_threads.specs.declared.noted.Noted.{Noted}
-use Rattle.session_threads.specs.Adding.{AddsUp}
+use Rattle.session_threads.specs.Access.{Asker, asks_of}
+use Rattle.session_threads.specs.Adding.{AddsUp, TurnsAreCounted, is_unready, unready_in}
 use Rattle.session_threads.specs.Begun.{start_of}
 use Rattle.session_threads.specs.History.{FollowsAsked, HasSession, known_first}
 use Rattle.session_threads.specs.Looks.{HasLooked, HasTicked, TickerView}
 use Rattle.session_threads.specs.Naming.{events_of-begins}
-use Rattle.session_threads.specs.Noted.{caller_in, events_of, merged}
+use Rattle.session_threads.specs.Noted.{caller_in, events_of, merged, notes_of}
 use Rattle.session_threads.specs.Results.{IsResult, IsUnbegun, SessionResult, status_of_all, users_of_ends}
 use Rattle.session_threads.specs.Rows.{AreLeft, IsSeatOf, NoneServed, Pairs, PairsFrom, SitsIn, pass_for, taken, with_all_ended}
 use Rattle.session_threads.specs.Served.{AreServed, EachFrom, HasReaders, IsUnderway, ServedView}
@@ -34,10 +39,11 @@ use Rattle.session_threads.specs.Passes.{CallerPass, IsReady, KnowsOwn}
 use Rattle.session_threads.specs.Sessions.{HasRun, IsSeated, ServesOne, ServesSeat, StaysOut}
 use Rattle.session_threads.specs.Passes.{WentOn, events_seen}
 use Rattle.session_threads.specs.Ticks.{IsTickersPass, TicksOn}
+use Rattle.session_threads.proofs.CountLemmas.{few_notes, notes_by, notes_from, rose_fewer}
 use Rattle.session_threads.proofs.LaterLemmas.{IsSession-later}
 use Rattle.session_threads.proofs.ListLemmas.{All-append, some_is}
 use Rattle.session_threads.proofs.LogLemmas.{AddsUp-begun, AddsUp-none}
-use Rattle.session_threads.proofs.NotedLemmas.{events_of-merged, few-events}
+use Rattle.session_threads.proofs.NotedLemmas.{events_of-merged, few-events, notes_of-merged}
 use Rattle.session_threads.proofs.PassLemmas.{none_by, not_kept, others_behind}
 use Rattle.session_threads.proofs.RowLemmas.{PairsFrom-length, caller-with_all_ended, ended-with_all_ended, fixed-with_all_ended}
 use Rattle.session_threads.proofs.RowLemmas.{lock-with_all_ended, own-with_all_ended, seen-with_all_ended, splits-with_all_ended}
@@ -96,7 +102,7 @@ IsFirst-begun lock first callers count start pass begun split = subst (IsTickers
     (sym (split ∙ ap (λ (p : CallerPass). record p { splits = count }) begun))
     (record { here = refl; fixed = refl; nobodys = refl; own = refl })
 
-module _ (J : Type 0) {S K C : Type 0} (view : End S K C → EndView) (limit : ℕ) (first : DatabaseView) (lock : TableId)
+module _ (J : Type 0) {S K C : Type 0} (view : End S K C → EndView) (limit : ℕ) (access : Bool) (first : DatabaseView) (lock : TableId)
     (start : CallerPass) (here : start.lock ≡ lock) (fixed : start.fixed ≡ Some first) (fresh : start.seen ≡ []) where
   abbrev Taken : Type 0
   Taken = Seat S K C DatabaseView J
@@ -105,11 +111,15 @@ module _ (J : Type 0) {S K C : Type 0} (view : End S K C → EndView) (limit : �
   result_for end seat = record { how = seat.how; old = end; new = seat.end; turns = seat.turns }
 
   abbrev Serves : CallerPass → CallerPass → SessionResult (End S K C) → Type 0
-  Serves old new result = ServesOne view limit first old new result
+  Serves old new result = ServesOne view limit access first old new result
 
   -- the session of an end was served, from the pass on that was split off for its caller
   abbrev IsServed : ℕ → End S K C → Taken → Type 0
   IsServed caller end seat = Serves (pass_for start caller) seat.pass (result_for end seat)
+
+  -- the caller of an end, with its user where rights are asked
+  abbrev asker_for : ℕ → End S K C → Asker
+  asker_for caller end = record { opening = opened first; caller = caller; asks = asks_of access (view end).user }
 
   ready : (caller : ℕ) → 0 < caller → caller ≤ length first.users → IsReady lock first (pass_for start caller)
   ready caller some few = record {
@@ -136,7 +146,7 @@ module _ (J : Type 0) {S K C : Type 0} (view : End S K C → EndView) (limit : �
 
   -- each end's session was served, and its seat is of the lock
   served_from : (number : ℕ) (ends : List (End S K C)) (seats seats' : List (Option Taken)) → PairsFrom (SitsIn first.opening start) number ends seats
-      → Pairs (ServesSeat view limit first) seats seats'
+      → Pairs (ServesSeat view limit access first) seats seats'
       → PairsFrom IsServed number ends (taken seats') × All (IsSeatOf lock) seats'
   served_from number [] [] [] sits pairs = (tt, All-nil (IsSeatOf lock))
   served_from number [] [] (seat' ∷ seats') sits pairs = absurd pairs
@@ -182,9 +192,9 @@ module _ (J : Type 0) {S K C : Type 0} (view : End S K C → EndView) (limit : �
 
     session_in : (caller : ℕ) (end : End S K C) (seat : Taken) → WentOn (pass_for start caller) seat.pass
         → IsKnown (ended_of seat.pass)
-        → HasRun view limit first (pass_for start caller) seat.pass (result_for end seat)
+        → HasRun view limit access first (pass_for start caller) seat.pass (result_for end seat)
         ⊎ StaysOut (pass_for start caller) seat.pass (result_for end seat)
-        → HasSession (opened first) caller limit (events_of history) seat.how seat.turns (view end) (view seat.end)
+        → HasSession (asker_for caller end) limit (events_of history) seat.how seat.turns (view end) (view seat.end)
         ⊎ IsUnbegun (events_of history) caller (result_for end seat)
     session_in caller end seat goes known (inl run) = inl (record {
       before = [];
@@ -196,11 +206,11 @@ module _ (J : Type 0) {S K C : Type 0} (view : End S K C → EndView) (limit : �
       none_later = All-append (λ (event : Happened). event.caller ≢ caller) run.later (events_of known.1.0) run.none_later
           (others_after seat.pass caller history known.1 goes.caller goes.own
           (subst (λ k. entries_by caller_in k history ≡ seat.pass.own) goes.caller known.0));
-      session = subst (λ (l : List Noted). IsSession (FollowsAsked (opened first) caller (events_of history)) limit seat.how seat.turns
+      session = subst (λ (l : List Noted). IsSession (FollowsAsked (asker_for caller end) (events_of history)) limit seat.how seat.turns
           (view end) (view seat.end) (known_first (opened first) (events_of l)) run.after) fresh
-          (subst (λ l. IsSession (FollowsAsked (opened first) caller l) limit seat.how seat.turns (view end) (view seat.end)
+          (subst (λ l. IsSession (FollowsAsked (asker_for caller end) l) limit seat.how seat.turns (view end) (view seat.end)
           (known_first (opened first) (events_seen start)) run.after) (events_of-begins seat.pass.seen history known.1)
-          (IsSession-later (opened first) caller (events_seen seat.pass) (events_of known.1.0) limit seat.how seat.turns (view end)
+          (IsSession-later (asker_for caller end) (events_seen seat.pass) (events_of known.1.0) limit seat.how seat.turns (view end)
           (view seat.end) (known_first (opened first) (events_seen start)) run.after run.session));
     })
     session_in caller end seat goes known (inr out) = inr (record {
@@ -213,13 +223,30 @@ module _ (J : Type 0) {S K C : Type 0} (view : End S K C → EndView) (limit : �
 
     results_from : (number : ℕ) (ends : List (End S K C)) (seats : List Taken) → PairsFrom IsServed number ends seats
         → AllByRecursion (λ seat. IsKnown (ended_of seat.pass)) seats
-        → EachFrom (IsResult view (opened first) limit (events_of history)) number (results_of ends seats)
+        → EachFrom (IsResult view (opened first) limit access (events_of history)) number (results_of ends seats)
     results_from number [] seats pairs known = tt
     results_from number (end ∷ ends) [] pairs known = tt
     results_from number (end ∷ ends) (seat ∷ seats) pairs known = (
       session_in number end seat pairs.0.goes known.0 pairs.0.session,
       results_from (number + 1) ends seats pairs.1 known.1,
     )
+
+    -- the turns that found a disk not ready are no more than the notes of their callers
+    turns_few : (number : ℕ) (ends : List (End S K C)) (seats : List Taken) → PairsFrom IsServed number ends seats
+        → AllByRecursion (λ seat. IsKnown (ended_of seat.pass)) seats
+        → unready_in (map (λ seat. seat.turns) seats) ≤ notes_from number (length seats) history
+    turns_few number [] [] pairs known = omega arith
+    turns_few number [] (seat ∷ seats) pairs known = absurd pairs
+    turns_few number (end ∷ ends) [] pairs known = absurd pairs
+    turns_few number (end ∷ ends) (seat ∷ seats) pairs known =
+        let own : entries_by caller_in number history ≡ seat.pass.own =
+        subst (λ k. entries_by caller_in k history ≡ seat.pass.own) pairs.0.goes.caller known.0.0 in
+        let noted : length (notes_of []) + count_by is_unready seat.turns ≤ length (notes_of seat.pass.own) = pairs.0.noted in
+        let here : count_by is_unready seat.turns ≤ notes_by number history =
+        omega (arith, noted, ap (λ (l : List Noted). length (notes_of l)) own) in
+        let more : unready_in (map (λ seat. seat.turns) seats) ≤ notes_from (number + 1) (length seats) history =
+        turns_few (number + 1) ends seats pairs.1 known.1 in
+        omega (arith, here, more)
 
 -- a database whose readers were handed out began as it did
 pub made_of : (first given : DatabaseView) (made : ServedView) → given ≡ record first { readers = [] }
@@ -233,7 +260,7 @@ pub handed : (first : DatabaseView) (readers : List ReaderView) (count : ℕ)
     → HasReaders first.opening count first.readers → readers ≡ first.readers → HasReaders first.opening count readers
 handed first readers count has is = subst (HasReaders first.opening count) (sym is) has
 
-module _ (J : Type 0) {S K C : Type 0} (view : End S K C → EndView) (limit : ℕ) (first : DatabaseView) where
+module _ (J : Type 0) {S K C : Type 0} (view : End S K C → EndView) (limit : ℕ) (access : Bool) (first : DatabaseView) where
   module _ (lock : TableId) (callers : ℕ) (start split : CallerPass) (database : DatabaseView) (made : ServedView)
       (is_made : made ≡ record { first = first; database = database; notes = [] }) (begins_so : start ≡ first_pass lock made.first callers)
       (ends : List (End S K C)) (is_split : split ≡ record start { splits = length ends })
@@ -259,7 +286,7 @@ module _ (J : Type 0) {S K C : Type 0} (view : End S K C → EndView) (limit : �
 
     all_seated : All (IsSeated lock first) seats
     all_seated = let count : length first.users ≡ length ends = ap length users ∙ length-map ends (λ end. end.user) in
-        seated_from J view limit first lock start here fixed fresh 1 ends seats
+        seated_from J view limit access first lock start here fixed fresh 1 ends seats
         (omega arith) (omega (arith, count)) sit
 
     -- the sessions can be served, and the ticker can run
@@ -268,10 +295,10 @@ module _ (J : Type 0) {S K C : Type 0} (view : End S K C → EndView) (limit : �
 
     module _ (gone : CallerPass) (seats' : List (Option (Seat S K C DatabaseView J))) (size : ℕ) (sized : length seats ≡ size)
         (serves : (x : DatabaseView) → IsTickersPass lock x split → All (IsSeated lock x) seats
-        → Pairs (ServesSeat view limit x) seats seats')
+        → Pairs (ServesSeat view limit access x) seats seats')
         (ticker ticker' : TickerView)
         (ticking : (x : DatabaseView) → IsTickersPass lock x split → TicksOn x split gone ticker ticker') where
-      pairs : Pairs (ServesSeat view limit first) seats seats'
+      pairs : Pairs (ServesSeat view limit access first) seats seats'
       pairs = serves first is_first all_seated
 
       ticks : TicksOn first split gone ticker ticker'
@@ -283,19 +310,19 @@ module _ (J : Type 0) {S K C : Type 0} (view : End S K C → EndView) (limit : �
 
       are_back : back ≡ seats'
       are_back = let whole : size ≡ length seats' =
-          sym (Pairs-length (ServesSeat view limit first) seats seats' pairs ∙ sized) in
+          sym (Pairs-length (ServesSeat view limit access first) seats seats' pairs ∙ sized) in
           ap (λ n. take n (seats' ++ drop (length seats') row)) whole ∙ take-append_seam seats' (drop (length seats') row)
 
-      served : PairsFrom (IsServed J view limit first lock start here fixed fresh) 1 ends (taken seats')
-      served = (served_from J view limit first lock start here fixed fresh 1 ends seats seats' sit
+      served : PairsFrom (IsServed J view limit access first lock start here fixed fresh) 1 ends (taken seats')
+      served = (served_from J view limit access first lock start here fixed fresh 1 ends seats seats' sit
           pairs).0
 
       pub all_here : All (IsSeatOf lock) back
       all_here = All-same (IsSeatOf lock) back seats' are_back
-          (served_from J view limit first lock start here fixed fresh 1 ends seats seats' sit pairs).1
+          (served_from J view limit access first lock start here fixed fresh 1 ends seats seats' sit pairs).1
 
       pub as_many : length back ≡ length ends
-      as_many = ap length are_back ∙ Pairs-length (ServesSeat view limit first) seats seats' pairs
+      as_many = ap length are_back ∙ Pairs-length (ServesSeat view limit access first) seats seats' pairs
           ∙ PairsFrom-length (SitsIn first.opening start) 1 ends seats sit
 
       pub gone_here : (gone.lock ≡ lock) × (gone.caller ≡ 0)
@@ -333,7 +360,7 @@ module _ (J : Type 0) {S K C : Type 0} (view : End S K C → EndView) (limit : �
           ap (λ (p : CallerPass). p.lock) passes ∙ lock-with_all_ended gone (taken seats') ∙ gone_here.0,
           ap (λ (p : CallerPass). p.caller) passes ∙ caller-with_all_ended gone (taken seats') ∙ gone_here.1,
           ap length ended ∙ length-map (taken seats') (λ seat. ended_of seat.pass)
-              ∙ PairsFrom-length (IsServed J view limit first lock start here fixed fresh) 1 ends
+              ∙ PairsFrom-length (IsServed J view limit access first lock start here fixed fresh) 1 ends
               (taken seats') served ∙ sym splits,
         )
 
@@ -366,33 +393,51 @@ module _ (J : Type 0) {S K C : Type 0} (view : End S K C → EndView) (limit : �
                 (ap (λ (p : CallerPass). p.seen) is_split ∙ fresh) ticks.looked;
           }
 
-          known : AllByRecursion (λ seat. IsKnown J view limit first lock start here fixed fresh
+          known : AllByRecursion (λ seat. IsKnown J view limit access first lock start here fixed fresh
               history (ended_of seat.pass)) (taken seats')
-          known = each_ended (IsKnown J view limit first lock start here fixed fresh history)
+          known = each_ended (IsKnown J view limit access first lock start here fixed fresh history)
               (taken seats') (λ pass inside.
               let among = subst (λ l. Contains l pass) (sym ended) inside in (closed.own pass among, closed.seen pass among))
 
           abbrev results : List (SessionResult (End S K C))
-          results = results_of J view limit first lock start here fixed fresh ends (taken seats')
+          results = results_of J view limit access first lock start here fixed fresh ends (taken seats')
 
           told : {A : Type 0} (of_result : SessionResult (End S K C) → A) (of_seat : Seat S K C DatabaseView J → A)
               → ((end : End S K C) (seat : Seat S K C DatabaseView J)
-              → of_result (result_for J view limit first lock start here fixed fresh end seat)
+              → of_result (result_for J view limit access first lock start here fixed fresh end seat)
               ≡ of_seat seat) → map of_result results ≡ map of_seat (taken seats')
-          told of_result of_seat same = seats_of_results J view limit first lock start here fixed
+          told of_result of_seat same = seats_of_results J view limit access first lock start here fixed
               fresh of_result of_seat same 1 ends (taken seats') served
 
-          pub AreServed-of : AreServed view limit first ends ticker (record { ends = ends'; ticker = ticker'; turns = turns; database = v; status = status })
-          AreServed-of = subst (λ w. AreServed view limit first ends ticker (record { ends = ends'; ticker = ticker'; turns = turns; database = w; status = status })) (sym is) (record {
+          -- no more turns found a disk not ready than there are notes
+          unready : unready_in turns ≤ length value.notes
+          unready =
+              let few : unready_in (map (λ seat. seat.turns) (taken seats')) ≤ notes_from 1 (length (taken seats')) history =
+              turns_few J view limit access first lock start here fixed fresh history 1 ends (taken seats') served known in
+              omega (
+                arith,
+                ap unready_in are_left.turns_are,
+                few,
+                few_notes 1 (length (taken seats')) history,
+                ap length (notes_of-merged 0 happened value.notes),
+                length-map value.notes (λ (note : Note). note.caller),
+              )
+
+          pub AreServed-of : AreServed view limit access first ends ticker (record { ends = ends'; ticker = ticker'; turns = turns; database = v; status = status })
+          AreServed-of = subst (λ w. AreServed view limit access first ends ticker (record { ends = ends'; ticker = ticker'; turns = turns; database = w; status = status })) (sym is) (record {
             leads = subst (λ v. Leads (opened v) happened value.database.state) same_first underway.leads;
             adds = subst (λ v. AddsUp happened v value.database) same_first underway.adds;
+            noted = subst (λ v. TurnsAreCounted happened turns v value.database) same_first
+                (rose_fewer (count_by is_failed_command happened + unready_in turns)
+                (count_by is_failed_command happened + length value.notes) (disks_of value.first.journal)
+                (disks_of value.database.journal) (omega (arith, unready)) underway.noted);
             results = results;
-            old = ends_of_results J view limit first lock start here fixed fresh 1 ends
+            old = ends_of_results J view limit access first lock start here fixed fresh 1 ends
                 (taken seats') served;
             new = told (λ result. result.new) (λ seat. seat.end) (λ end seat. refl) ∙ sym are_left.ends_are;
             turned = told (λ result. result.turns) (λ seat. seat.turns) (λ end seat. refl) ∙ sym are_left.turns_are;
-            each = subst (λ l. EachFrom (IsResult view (opened first) limit l) 1 results) are_events
-                (results_from J view limit first lock start here fixed fresh history 1 ends (taken seats') served known);
+            each = subst (λ l. EachFrom (IsResult view (opened first) limit access l) 1 results) are_events
+                (results_from J view limit access first lock start here fixed fresh history 1 ends (taken seats') served known);
             ticked = subst (λ l. HasTicked (opened first) ticker ticker' l) are_events looked;
             callers = subst (λ n. AllByRecursion (λ event. event.caller ≤ n) happened) splits
                 (subst (λ l. AllByRecursion (λ event. event.caller ≤ last.splits) l) are_events
@@ -404,11 +449,12 @@ module _ (J : Type 0) {S K C : Type 0} (view : End S K C → EndView) (limit : �
   -- what resulted from all sessions over how a database began resulted from them over the database
   pub AreServed-begun : (ends ends' : List (End S K C)) (ticker ticker' : TickerView) (turns : List (List Turn)) (v : DatabaseView)
       (status : ℕ)
-      → AreServed view limit (start_of first) ends ticker (record { ends = ends'; ticker = ticker'; turns = turns; database = v; status = status })
-      → AreServed view limit first ends ticker (record { ends = ends'; ticker = ticker'; turns = turns; database = v; status = status })
+      → AreServed view limit access (start_of first) ends ticker (record { ends = ends'; ticker = ticker'; turns = turns; database = v; status = status })
+      → AreServed view limit access first ends ticker (record { ends = ends'; ticker = ticker'; turns = turns; database = v; status = status })
   AreServed-begun ends ends' ticker ticker' turns v status served = record {
     leads = served.leads;
     adds = AddsUp-begun v.events first v served.adds;
+    noted = served.noted;
     results = served.results;
     old = served.old;
     new = served.new;
@@ -422,11 +468,11 @@ module _ (J : Type 0) {S K C : Type 0} (view : End S K C → EndView) (limit : �
   -- what resulted from all sessions over a database whose readers were handed out resulted from them over the database
   pub AreServed-handed : (given : DatabaseView) → given ≡ record first { readers = [] } → (ends ends' : List (End S K C))
       (ticker ticker' : TickerView) (turns : List (List Turn)) (v : DatabaseView) (status : ℕ)
-      → AreServed view limit given ends ticker (record { ends = ends'; ticker = ticker'; turns = turns; database = v; status = status })
-      → AreServed view limit first ends ticker (record { ends = ends'; ticker = ticker'; turns = turns; database = v; status = status })
+      → AreServed view limit access given ends ticker (record { ends = ends'; ticker = ticker'; turns = turns; database = v; status = status })
+      → AreServed view limit access first ends ticker (record { ends = ends'; ticker = ticker'; turns = turns; database = v; status = status })
   AreServed-handed given is ends ends' ticker ticker' turns v status all =
-      let served : AreServed view limit (record first { readers = [] }) ends ticker (record { ends = ends'; ticker = ticker'; turns = turns; database = v; status = status }) =
-      subst (λ f. AreServed view limit f ends ticker (record { ends = ends'; ticker = ticker'; turns = turns; database = v; status = status })) is all in
+      let served : AreServed view limit access (record first { readers = [] }) ends ticker (record { ends = ends'; ticker = ticker'; turns = turns; database = v; status = status }) =
+      subst (λ f. AreServed view limit access f ends ticker (record { ends = ends'; ticker = ticker'; turns = turns; database = v; status = status })) is all in
       record {
         leads = served.leads;
         adds = record {
@@ -436,6 +482,7 @@ module _ (J : Type 0) {S K C : Type 0} (view : End S K C → EndView) (limit : �
           causes = served.adds.causes;
           counted = served.adds.counted;
         };
+        noted = served.noted;
         results = served.results;
         old = served.old;
         new = served.new;
@@ -466,8 +513,19 @@ module _ (J : Type 0) {S K C : Type 0} (view : End S K C → EndView) (limit : �
   hows_of_none [] = refl
   hows_of_none (end ∷ ends) = ap (λ l. NoMemory ∷ l) (hows_of_none ends)
 
+  none_unready : (ends : List (End S K C)) → unready_in (map (λ end. []) ends) ≡ 0
+  none_unready [] = refl
+  none_unready (end ∷ ends) = omega (arith, none_unready ends)
+
+  none_counted : (ends : List (End S K C)) (turns : List (List Turn)) (v : DatabaseView) → first.events ≡ []
+      → turns ≡ map (λ end. []) ends → v ≡ first → TurnsAreCounted v.events turns first v
+  none_counted ends turns v none is same =
+      subst (λ (w : DatabaseView). TurnsAreCounted w.events turns first w) (sym same)
+      (subst (λ l. TurnsAreCounted l turns first first) (sym none)
+      (inr (inr (omega (arith, ap unready_in is, none_unready ends)))))
+
   none_from : (events : List Happened) → events ≡ [] → (number : ℕ) (ends : List (End S K C))
-      → EachFrom (IsResult view (opened first) limit events) number (map none_for ends)
+      → EachFrom (IsResult view (opened first) limit access events) number (map none_for ends)
   none_from events none number [] = tt
   none_from events none number (end ∷ ends) = (
     inr (record {
@@ -482,7 +540,7 @@ module _ (J : Type 0) {S K C : Type 0} (view : End S K C → EndView) (limit : �
   pub AreServed-none : (ends ends' : List (End S K C)) (ticker ticker' : TickerView) (turns : List (List Turn)) (v : DatabaseView)
       (status : ℕ) → first.events ≡ [] → first.state ≡ opened first → NoneServed ends turns status → ends' ≡ ends → ticker' ≡ ticker
       → v ≡ first
-      → AreServed view limit first ends ticker (record { ends = ends'; ticker = ticker'; turns = turns; database = v; status = status })
+      → AreServed view limit access first ends ticker (record { ends = ends'; ticker = ticker'; turns = turns; database = v; status = status })
   AreServed-none ends ends' ticker ticker' turns v status none starts unserved same_ends same_ticker same =
       let adds : AddsUp v.events first v =
       subst (λ (w : DatabaseView). AddsUp w.events first w) (sym same)
@@ -492,6 +550,7 @@ module _ (J : Type 0) {S K C : Type 0} (view : End S K C → EndView) (limit : �
         leads = subst (λ (w : DatabaseView). Leads (opened first) w.events w.state) (sym same)
             (subst (λ l. Leads (opened first) l first.state) (sym none) starts);
         adds = adds;
+        noted = none_counted ends turns v none unserved.no_turns same;
         results = map none_for ends;
         old = ends_of_none ends;
         new = ends_left ends ∙ sym same_ends;

@@ -17,13 +17,14 @@ use Rattle.config_core.specs.declared.event.Outcome.TheVariants.{Done, Fault}
 use Rattle.config_core.specs.declared.reply.Refusal.{Refusal}
 use Rattle.config_core.specs.declared.reply.Reply.{Reply}
 use Rattle.config_core.specs.declared.reply.Reply.TheVariants.{Text}
-use Rattle.config_db.specs.declared.answer.Answered.{Answered}
-use Rattle.config_db.specs.declared.answer.Answered.TheVariants.{Kept as DoneAt, NoMemory as Wanting}
 use Rattle.curly_print.specs.Printed.{printed}
 use Rattle.session_history.specs.declared.history.Happened.{Happened}
 use Rattle.session_history.specs.Events.{IsAskedAt, Leads, StaysAccepted}
+use Rattle.session_shell.specs.declared.door.Given0.{Given0}
+use Rattle.session_shell.specs.declared.door.Given0.TheVariants.{Kept as KeptAt, Seen, Denied, Unready, NoMemory}
 use Rattle.session_shell.specs.Shows.{IsPrinted, PrintsWhole, SaysWhole, text_in, whole_show}
-use Rattle.session_threads.specs.Adding.{given_of}
+use Rattle.session_threads.specs.Access.{Asker, IsJudged}
+use Rattle.session_threads.specs.Adding.{answered_of}
 use Rattle.session_threads.specs.History.{HasEvent, ShowsKept}
 
 -- where a reply is a text, it is that of a configuration
@@ -95,8 +96,11 @@ module _ (opening : State) (events : List Happened)
       subst IsWholeText (sym asked.is_at.replied)
       (steps_whole asked.before event.caller event.moment tree event.outcome asked.is_at.turned steps)
 
-  -- what a turn of the database gave
-  pub answered_whole : (answered : Answered) → HasEvent opening caller events command answer answered
-      → PrintsWhole command (given_of answered)
-  answered_whole (DoneAt place reply) named = asked_whole place reply named
-  answered_whole Wanting named = λ is. tt
+  -- what a command's turn gave
+  pub given_whole : (asker : Asker) (given : Given0) → IsJudged asker events command given
+      → HasEvent opening caller events command answer (answered_of given) → PrintsWhole command given
+  given_whole asker (KeptAt place reply) judged named = asked_whole place reply named
+  given_whole asker (Seen front reply) judged named = absurd judged
+  given_whole asker (Denied front right) judged named = λ is. tt
+  given_whole asker (Unready front) judged named = λ is. tt
+  given_whole asker NoMemory judged named = λ is. tt

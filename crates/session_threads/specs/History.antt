@@ -1,6 +1,7 @@
 -- How what is known of a run grows by what a caller asks, and one session over a part of a run. This project's own.
-use Rattle.std.specs.Prelude.{◌≡◌, ◌≢◌, ◌≤◌, ℕ, ◌+◌, List, [], ◌∷◌, ◌++◌, length, max, true, false, Option}
+use Rattle.std.specs.Prelude.{◌≡◌, ◌≢◌, ◌≤◌, ◌⊎◌, ℕ, ◌+◌, List, [], ◌∷◌, ◌++◌, length, max, true, false}
 use Rattle.std.specs.List.{AllByRecursion}
+use Rattle.access_rules.specs.declared.right.Right.{Right}
 use Rattle.commands.specs.declared.command.Command.{Command}
 use Rattle.commands.specs.declared.command.Command.TheVariants.{ShowActive, ShowCommits}
 use Rattle.commit_ledger.specs.Kept.{Kept, active_of, is_revert_due}
@@ -12,7 +13,7 @@ use Rattle.config_core.specs.State.{State}
 use Rattle.config_db.specs.declared.answer.Answered.{Answered}
 use Rattle.config_db.specs.declared.answer.Answered.TheVariants.{Kept as Done, NoMemory as Wanting}
 use Rattle.session_history.specs.declared.history.Happened.{Happened}
-use Rattle.session_history.specs.Events.{IsAskedAt, Leads, is_command, places_of, IsEventOf, NoCommand}
+use Rattle.session_history.specs.Events.{IsAskedAt, Leads, places_of, IsEventOf, NoCommand}
 use Rattle.session_history.specs.Kept.{WasKept}
 use Rattle.session_shell.specs.declared.door.Given0.{Given0}
 use Rattle.session_shell.specs.declared.door.Given0.TheVariants.{Kept as KeptAt, Seen, Denied, Unready, NoMemory}
@@ -20,6 +21,7 @@ use Rattle.session_shell.specs.declared.turn.How.{How}
 use Rattle.session_shell.specs.declared.turn.Turn.{Turn}
 use Rattle.session_shell.specs.Shows.{IsActiveShow}
 use Rattle.session_shell.specs.Transcript.{EndView, IsSession}
+use Rattle.session_threads.specs.Access.{Asker, IsAllowed, IsAllowedAt, IsDenied, IsDeniedBehind, IsUnreadyBehind}
 
 -- what a caller knows of a run: the events up to its last turn, and how many entries the newest list of commits had that it was
 -- answered from
@@ -95,58 +97,90 @@ pub record HasMissed (opening : State) (final : List Happened) (least answer : �
   pub reached : least ≤ kept.count
   pub due : is_revert_due kept answer ≡ true
 
--- a command was answered by an event, and what is kept after it was answered from; a show takes a turn only for a missed deadline
-pub record FollowsKept (opening : State) (caller : ℕ) (final : List Happened) (d : Known) (command : Command) (answer : ℕ)
-    (answered : Answered) (e : Known) : Type 0 where
-  pub turn : FollowsTurn opening caller d.events command answer answered e.events
+-- a command was answered by an event, before which it was allowed, and what is kept after it was answered from; a show takes a
+-- turn only for a missed deadline
+pub record FollowsKept (asker : Asker) (final : List Happened) (d : Known) (command : Command) (answer place : ℕ) (reply : Reply)
+    (e : Known) : Type 0 where
+  pub turn : FollowsTurn asker.opening asker.caller d.events command answer (Done place reply) e.events
+  pub allowed : IsAllowedAt asker e.events place command
   pub after : State
-  pub leads : Leads opening e.events after
+  pub leads : Leads asker.opening e.events after
   pub front : e.front ≡ max d.front after.kept.count
-  pub missed : IsActiveShow command → HasMissed opening final d.front answer
+  pub missed : IsActiveShow command → HasMissed asker.opening final d.front answer
 
--- a show was answered from a list that was kept at some moment of the run, no earlier than what had been answered from; it had
--- no deadline that has come at the answer of the clock
-pub record FollowsSeen (opening : State) (final : List Happened) (d : Known) (command : Command) (answer front : ℕ)
-    (reply : Reply) (e : Known) : Type 0 where
+-- what was answered without a turn rests on a list that was kept at some moment of the run, no earlier than what had been
+-- answered from; it had no deadline that has come at the answer of the clock
+pub record FollowsView (opening : State) (final : List Happened) (d : Known) (answer front : ℕ) (e : Known) : Type 0 where
   pub same : e.events ≡ d.events
   pub reached : d.front ≤ front
   pub is_front : e.front ≡ front
   pub kept : Kept
   pub was_kept : IsKeptThen opening final front kept
-  pub shows : ShowsKept kept command reply
   pub not_due : is_revert_due kept answer ≡ false
 
+-- a show was answered from such a list, by which it was allowed
+pub record FollowsSeen (asker : Asker) (final : List Happened) (d : Known) (command : Command) (answer front : ℕ) (reply : Reply)
+    (e : Known) : Type 0 where
+  pub view : FollowsView asker.opening final d answer front e
+  pub shows : ShowsKept view.kept command reply
+  pub allowed : IsAllowed asker.asks view.kept [] command
+
+-- a show was denied by such a list
+pub record FollowsHidden (asker : Asker) (final : List Happened) (d : Known) (command : Command) (answer front : ℕ) (right : Right)
+    (e : Known) : Type 0 where
+  pub is_show : IsActiveShow command
+  pub view : FollowsView asker.opening final d answer front e
+  pub denied : IsDenied asker.asks view.kept [] command right
+
+-- a command became no event in its turn; what is kept after it is what its answer rests on, and reaches what had been answered from
+pub record FollowsRefused (asker : Asker) (final : List Happened) (d : Known) (command : Command) (answer front : ℕ) (e : Known)
+    : Type 0 where
+  pub turn : FollowsTurn asker.opening asker.caller d.events command answer Wanting e.events
+  pub reached : d.front ≤ front
+  pub is_front : e.front ≡ front
+  pub kept : Kept
+  pub was_kept : IsKeptThen asker.opening final front kept
+
+-- a command was denied in its turn, or it is a show, and was denied without one
+abbrev pub FollowsDenied : Asker → List Happened → Known → Command → ℕ → ℕ → Right → Known → Type 0
+FollowsDenied asker final d command answer front right e =
+    (FollowsRefused asker final d command answer front e × IsDeniedBehind asker e.events command front right)
+    ⊎ FollowsHidden asker final d command answer front right e
+
+-- a disk failed in a command's turn, before its rights were asked
+abbrev pub FollowsUnready : Asker → List Happened → Known → Command → ℕ → ℕ → Known → Type 0
+FollowsUnready asker final d command answer front e =
+    FollowsRefused asker final d command answer front e × IsUnreadyBehind asker e.events command front
+
 -- memory ran out for an answer
-pub record FollowsWanting (opening : State) (caller : ℕ) (d : Known) (command : Command) (answer : ℕ) (e : Known) : Type 0 where
-  pub turn : FollowsTurn opening caller d.events command answer Wanting e.events
+pub record FollowsWanting (asker : Asker) (d : Known) (command : Command) (answer : ℕ) (e : Known) : Type 0 where
+  pub turn : FollowsTurn asker.opening asker.caller d.events command answer Wanting e.events
   pub front : e.front ≡ d.front
 
--- what a caller knows of a run after one ask, where all the run's events are these; no command is denied, and none finds a disk
--- that isn't ready
-abbrev pub FollowsAsked : State → ℕ → List Happened → Known → Command → ℕ → Given0 → Known → Type 0
-FollowsAsked opening caller final d command answer (KeptAt place reply) e =
-    FollowsKept opening caller final d command answer (Done place reply) e
-FollowsAsked opening caller final d command answer (Seen front reply) e = FollowsSeen opening final d command answer front reply e
-FollowsAsked opening caller final d command answer (Denied front right) e = ⊥
-FollowsAsked opening caller final d command answer (Unready front) e = ⊥
-FollowsAsked opening caller final d command answer NoMemory e = FollowsWanting opening caller d command answer e
+-- what a caller knows of a run after one ask, where all the run's events are these
+abbrev pub FollowsAsked : Asker → List Happened → Known → Command → ℕ → Given0 → Known → Type 0
+FollowsAsked asker final d command answer (KeptAt place reply) e = FollowsKept asker final d command answer place reply e
+FollowsAsked asker final d command answer (Seen front reply) e = FollowsSeen asker final d command answer front reply e
+FollowsAsked asker final d command answer (Denied front right) e = FollowsDenied asker final d command answer front right e
+FollowsAsked asker final d command answer (Unready front) e = FollowsUnready asker final d command answer front e
+FollowsAsked asker final d command answer NoMemory e = FollowsWanting asker d command answer e
 
 -- what belongs to a command: its event, or a list that was kept at some moment of the run
 abbrev pub Names : State → ℕ → List Happened → Known → Command → ℕ → Given0 → Type 0
 Names opening caller final d command answer (KeptAt place reply) =
     HasEvent opening caller d.events command answer (Done place reply)
 Names opening caller final d command answer (Seen front reply) = HasView opening final command front reply
-Names opening caller final d command answer (Denied front right) = ⊥
-Names opening caller final d command answer (Unready front) = ⊥
+Names opening caller final d command answer (Denied front right) = Unit {0}
+Names opening caller final d command answer (Unready front) = Unit {0}
 Names opening caller final d command answer NoMemory = Unit {0}
 
 -- a session of a caller over a part of the events of a run, which has all events of that caller: its ends and its turns
-pub record HasSession (opening : State) (caller limit : ℕ) (events : List Happened) (how : How) (turns : List Turn)
-    (old new : EndView) : Type 0 where
+pub record HasSession (asker : Asker) (limit : ℕ) (events : List Happened) (how : How) (turns : List Turn) (old new : EndView)
+    : Type 0 where
   pub before : List Happened
   pub after : Known
   pub later : List Happened
   pub begins : events ≡ after.events ++ later
-  pub others_first : AllByRecursion (λ event. event.caller ≢ caller) before
-  pub none_later : AllByRecursion (λ event. event.caller ≢ caller) later
-  pub session : IsSession (FollowsAsked opening caller events) limit how turns old new (known_first opening before) after
+  pub others_first : AllByRecursion (λ event. event.caller ≢ asker.caller) before
+  pub none_later : AllByRecursion (λ event. event.caller ≢ asker.caller) later
+  pub session : IsSession (FollowsAsked asker events) limit how turns old new (known_first asker.opening before) after

@@ -1,4 +1,6 @@
+pub mod Access
 pub mod Adding
+pub mod Asking
 pub mod Begun
 pub mod Gates
 pub mod History

@@ -49,11 +49,11 @@ names_given d e command answer (Seen front reply) goes = record {
   view = goes.comes.answers.read.view;
   begins = IsPrefix-same e.reader.list;
   is_last = goes.comes.answers.read.is_last;
-  is_front = goes.comes.answers.is_front;
-  shows = goes.comes.answers.shows;
+  is_front = sym goes.comes.answers.gives.0;
+  shows = goes.comes.answers.gives.1;
 }
-names_given d e command answer (Denied front right) goes = absurd goes.comes
-names_given d e command answer (Unready front) goes = absurd goes.comes
+names_given d e command answer (Denied front right) goes = tt
+names_given d e command answer (Unready front) goes = tt
 names_given d e command answer NoMemory goes = tt
 
 pub keeps_names : (d e : GateView) (command : Command) (answer : ℕ) (given : Given0)
@@ -73,8 +73,8 @@ keeps_names d e command answer given goes asked when (Seen front reply) named = 
   is_front = named.is_front;
   shows = named.shows;
 }
-keeps_names d e command answer given goes asked when (Denied front right) named = absurd named
-keeps_names d e command answer given goes asked when (Unready front) named = absurd named
+keeps_names d e command answer given goes asked when (Denied front right) named = tt
+keeps_names d e command answer given goes asked when (Unready front) named = tt
 keeps_names d e command answer given goes asked when NoMemory named = tt
 
 pub shows_given : (d e : GateView) (command : Command) (answer : ℕ) (given : Given0)

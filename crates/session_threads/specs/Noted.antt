@@ -54,7 +54,7 @@ merged count (event ∷ events) notes =
 abbrev pub AreUpTo : ℕ → List Note → Type 0
 AreUpTo count notes = AllByRecursion (λ note. note.before ≤ count) notes
 
--- the history went on by events alone, of which this holds
-pub record GoesByEvents (Says : List Happened → List Happened → Type 0) (before after : List Noted) : Type 0 where
+-- the history went on by events of which this holds, and by notes of these callers
+pub record GoesOnBy (Says : List Happened → List Happened → Type 0) (more : List ℕ) (before after : List Noted) : Type 0 where
   pub said : Says (events_of before) (events_of after)
-  pub no_note : notes_of after ≡ notes_of before
+  pub noted : notes_of after ≡ notes_of before ++ more

@@ -1,5 +1,5 @@
 -- The pass of one caller, before and after its turns. This project's own.
-use Rattle.std.specs.Prelude.{◌≡◌, ◌<◌, ◌≤◌, ℕ, List, [], length, Some}
+use Rattle.std.specs.Prelude.{◌≡◌, ◌<◌, ◌≤◌, ◌+◌, ℕ, List, [], ◌∷◌, length, Some}
 use mathlib.Core.List.{IsPrefix}
 use Rattle.atomic_table.specs.Seated.{TableId}
 use Rattle.commands.specs.declared.command.Command.{Command}
@@ -7,11 +7,13 @@ use Rattle.config_db.specs.declared.answer.Answered.{Answered}
 use Rattle.config_db.specs.View.{DatabaseView, opened}
 use Rattle.session_history.specs.declared.history.Happened.{Happened}
 use Rattle.session_history.specs.Events.{IsLegal}
+use Rattle.session_shell.specs.declared.door.Given0.{Given0}
+use Rattle.session_shell.specs.declared.door.Given0.TheVariants.{Unready}
 use Rattle.turn_lock.specs.Histories.{entries_by}
 use Rattle.turn_lock.specs.Passes.{PassView}
 use Rattle.session_threads.specs.declared.noted.Noted.{Noted}
 use Rattle.session_threads.specs.History.{FollowsTurn}
-use Rattle.session_threads.specs.Noted.{caller_in, events_of}
+use Rattle.session_threads.specs.Noted.{caller_in, events_of, notes_of}
 
 -- a pass of a lock over a database
 abbrev pub CallerPass : Type 0
@@ -43,6 +45,16 @@ pub record WentOn (old new : CallerPass) : Type 0 where
   pub ended : new.ended ≡ old.ended
   pub later : IsPrefix old.seen new.seen
   pub own : KnowsOwn new
+
+-- whose notes a turn writes
+abbrev pub notes_given : ℕ → Given0 → List ℕ
+notes_given caller (Unready front) = caller ∷ []
+notes_given caller given = []
+
+-- a pass has as many notes more as its caller was told of, or more still
+abbrev pub CountsNotes : Given0 → CallerPass → CallerPass → Type 0
+CountsNotes given old new =
+    length (notes_of old.own) + length (notes_given old.caller given) ≤ length (notes_of new.own)
 
 -- events grew by what one turn of a caller made, and by nothing else
 pub record FollowsAlone (first : DatabaseView) (caller : ℕ) (events : List Happened) (command : Command)

@@ -1,5 +1,5 @@
 -- What results from the sessions of a run, and its status. This project's own.
-use Rattle.std.specs.Prelude.{◌≡◌, ◌≢◌, ◌⊎◌, ℕ, List, [], ◌∷◌, map}
+use Rattle.std.specs.Prelude.{◌≡◌, ◌≢◌, ◌⊎◌, ℕ, Bool, List, [], ◌∷◌, map}
 use Rattle.std.specs.List.{AllByRecursion}
 use Rattle.config_core.specs.State.{State}
 use Rattle.session_history.specs.declared.history.Happened.{Happened}
@@ -8,6 +8,7 @@ use Rattle.session_shell.specs.declared.turn.How.{How}
 use Rattle.session_shell.specs.declared.turn.How.TheVariants.{Clean, SourceFault, SinkFault, InputFull, NoMemory}
 use Rattle.session_shell.specs.declared.turn.Turn.{Turn}
 use Rattle.session_shell.specs.Transcript.{EndView}
+use Rattle.session_threads.specs.Access.{asks_of}
 use Rattle.session_threads.specs.History.{HasSession}
 
 -- the users of ends, in order
@@ -42,8 +43,9 @@ pub record IsUnbegun {E : Type 0} (events : List Happened) (caller : ℕ) (resul
   pub no_turns : result.turns ≡ []
   pub no_events : AllByRecursion (λ event. event.caller ≢ caller) events
 
--- the session of a caller, over a part of the events of a run, or none
-abbrev pub IsResult : {E : Type 0} → (E → EndView) → State → ℕ → List Happened → ℕ → SessionResult E → Type 0
-IsResult view opening limit events caller result =
-    HasSession opening caller limit events result.how result.turns (view result.old) (view result.new)
+-- the session of a caller, over a part of the events of a run, or none; where rights are asked, they are those of the end's user
+abbrev pub IsResult : {E : Type 0} → (E → EndView) → State → ℕ → Bool → List Happened → ℕ → SessionResult E → Type 0
+IsResult view opening limit access events caller result =
+    HasSession (record { opening = opening; caller = caller; asks = asks_of access (view result.old).user }) limit events result.how
+    result.turns (view result.old) (view result.new)
     ⊎ IsUnbegun events caller result

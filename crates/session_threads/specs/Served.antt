@@ -1,5 +1,5 @@
 -- The database under the lock, and what results from all sessions over it. This project's own.
-use Rattle.std.specs.Prelude.{◌≡◌, ◌≤◌, ◌+◌, ℕ, List, [], ◌∷◌, length, map}
+use Rattle.std.specs.Prelude.{◌≡◌, ◌≤◌, ◌+◌, ℕ, Bool, List, [], ◌∷◌, length, map}
 use Rattle.std.specs.List.{AllByRecursion}
 use Rattle.active_snapshot.specs.States.{ReaderView, first_read}
 use Rattle.commit_ledger.specs.Kept.{Kept}
@@ -8,7 +8,7 @@ use Rattle.session_history.specs.Events.{Leads}
 use Rattle.session_shell.specs.declared.turn.Turn.{Turn}
 use Rattle.session_shell.specs.Transcript.{EndView}
 use Rattle.session_threads.specs.declared.noted.Note.{Note}
-use Rattle.session_threads.specs.Adding.{AddsUp, NotesAreCounted}
+use Rattle.session_threads.specs.Adding.{AddsUp, NotesAreCounted, TurnsAreCounted}
 use Rattle.session_threads.specs.Looks.{HasTicked, TickerView}
 use Rattle.session_threads.specs.Noted.{AreUpTo}
 use Rattle.session_threads.specs.Results.{IsResult, SessionResult, status_of_all}
@@ -45,17 +45,19 @@ pub record SessionsView (E : Type 0) : Type 0 where
   pub database : DatabaseView
   pub status : ℕ
 
--- a database in which nothing had happened, and what came over it of the sessions of these ends and of the ticker
-pub record AreServed {E : Type 0} (view : E → EndView) (limit : ℕ) (first : DatabaseView) (ends : List E) (ticker : TickerView)
-    (after : SessionsView E) : Type 0 where
+-- a database in which nothing had happened, and what came over it of the sessions of these ends and of the ticker; rights are
+-- asked of each command, or aren't
+pub record AreServed {E : Type 0} (view : E → EndView) (limit : ℕ) (access : Bool) (first : DatabaseView) (ends : List E)
+    (ticker : TickerView) (after : SessionsView E) : Type 0 where
   pub leads : Leads (opened first) after.database.events after.database.state
   pub adds : AddsUp after.database.events first after.database
+  pub noted : TurnsAreCounted after.database.events after.turns first after.database
   -- the sessions of callers 1, 2 and so on
   pub results : List (SessionResult E)
   pub old : map (λ result. result.old) results ≡ ends
   pub new : map (λ result. result.new) results ≡ after.ends
   pub turned : map (λ result. result.turns) results ≡ after.turns
-  pub each : EachFrom (IsResult view (opened first) limit after.database.events) 1 results
+  pub each : EachFrom (IsResult view (opened first) limit access after.database.events) 1 results
   -- the ticker, which is caller 0
   pub ticked : HasTicked (opened first) ticker after.ticker after.database.events
   pub callers : AllByRecursion (λ event. event.caller ≤ length ends) after.database.events

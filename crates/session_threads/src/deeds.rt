@@ -1,41 +1,46 @@
 //! What is done in one turn: a command is asked, the time is looked at, a session ends.
 
-ghost use Rattle.std.specs.Prelude.{◌≡◌, ◌<◌, ◌≤◌, length, IfSome};
+ghost use Rattle.std.specs.Prelude.{◌≡◌, ◌<◌, ◌≤◌, [], length, IfSome};
 ghost use Rattle.std.specs.Arc.{arc_value};
 ghost use Rattle.active_snapshot.specs.Views.{IsLast};
 ghost use Rattle.commands.specs.Sound.{IsSound};
 ghost use Rattle.config_db.specs.View.{opened};
 ghost use Rattle.session_history.specs.Events.{StaysAccepted};
 ghost use Rattle.session_shell.specs.Shows.{PrintsWhole};
-ghost use Rattle.session_threads.specs.Adding.{given_of};
+ghost use Rattle.session_threads.specs.Access.{IsJudged};
+ghost use Rattle.session_threads.specs.Adding.{answered_of};
+ghost use Rattle.session_threads.specs.Asking.{asker_at};
 ghost use Rattle.session_threads.specs.Gates.{TellsKept};
 ghost use Rattle.session_threads.specs.Looks.{LooksAlone};
-ghost use Rattle.session_threads.specs.Noted.{GoesByEvents, events_of};
-ghost use Rattle.session_threads.specs.Passes.{FollowsAlone};
+ghost use Rattle.session_threads.specs.Noted.{GoesOnBy, events_of};
+ghost use Rattle.session_threads.specs.Passes.{FollowsAlone, notes_given};
 
 use crate::served::Served;
 use crate::waking::Waker;
 use active_snapshot::{Naming, Shown, SnapNote};
-use cfg_base::Moment;
+use cfg_base::{Moment, UserName};
 use commands::Command;
-use config_db::{Answered, Database};
+use config_db::Database;
 use disk_model::Disk;
 use session_history::histories_have_one_outcome;
+use session_shell::Given0;
 use std::alloc::Global;
 use std::sync::{Arc, Wait};
 use turn_lock::Deed;
 
-/// Asks a command, at an answer of the caller's clock.
+/// Asks a command, at an answer of the caller's clock, and first the rights of the caller's user, where they are asked.
 #[derive(Drop)]
-pub(crate) struct Ask {
+pub(crate) struct Ask<'u> {
+    pub alloc: Global,
     pub moment: Moment,
     pub command: Command,
+    pub user: &'u Option<UserName>,
 }
 
-/// What the database answered, how far its list of commits goes after that, and the last view of it.
+/// What was given for a command, how far the list of commits goes after that, and the last view of it.
 #[derive(Drop)]
 pub(crate) struct Asked<J: Naming> {
-    pub answered: Answered,
+    pub given: Given0,
     pub note: SnapNote<J>,
     /// None where there was no memory to count it once more.
     pub view: Option<Arc<Shown, Global>>,
@@ -55,29 +60,32 @@ fn tell_accepted<D: Disk, J: Naming>(database: &Database<D, J>)
     let _count = database.count();
 }
 
-impl<D: Disk, J: Naming> Deed<Served<D, J>> for Ask {
+impl<'u, D: Disk, J: Naming> Deed<Served<D, J>> for Ask<'u> {
     type Answer = Asked<J>;
 
     ghost may = { λ deed caller first. IsSound deed.command × (0 < caller) × (caller ≤ length first.users) };
 
     ghost says = { λ deed caller first before after asked.
-        GoesByEvents (λ were are. FollowsAlone first caller were deed.command deed.moment asked.answered are
+        GoesOnBy (λ were are. FollowsAlone first caller were deed.command deed.moment (answered_of asked.given) are
+        × (IsJudged (asker_at first caller deed.user.now) are deed.command asked.given
         × (TellsKept (opened first) are asked.note.list
         × (IfSome asked.view (λ view. IsLast asked.note.list (arc_value view))
-        × PrintsWhole deed.command (given_of asked.answered)))) before after };
+        × PrintsWhole deed.command asked.given)))) (notes_given caller asked.given) before after };
 
     fn act<R: Wait>(self, rt: &R, caller: u32, served: &mut Served<D, J>) -> Asked<J> {
-        let Ask { moment, command } = self;
+        let Ask {
+            alloc,
+            moment,
+            command,
+            user,
+        } = self;
         histories_have_one_outcome();
-        let answered = served.database.step(rt, caller, moment, command);
+        let given = served.ask(rt, alloc, caller, user, moment, command);
+        served.tell_underway();
         tell_accepted(&served.database);
         let note = served.database.note();
         let view = again(served.database.view());
-        Asked {
-            answered,
-            note,
-            view,
-        }
+        Asked { given, note, view }
     }
 }
 
@@ -92,7 +100,7 @@ impl<D: Disk, J: Naming> Deed<Served<D, J>> for Look {
 
     ghost may = { λ deed caller first. caller ≡ 0 };
 
-    ghost says = { λ deed caller first before after serves. GoesByEvents (LooksAlone (opened first) deed.moment) before after };
+    ghost says = { λ deed caller first before after serves. GoesOnBy (LooksAlone (opened first) deed.moment) [] before after };
 
     fn act<R: Wait>(self, rt: &R, _caller: u32, served: &mut Served<D, J>) -> bool {
         let _looked = served.database.tick(rt, self.moment);

@@ -1,5 +1,6 @@
 //! The lock with the pass and the reader of the caller that asks: the door of that caller's session. A show of the active
-//! configuration or of the commits is answered from the reader, without a turn.
+//! configuration or of the commits is answered from the reader, without a turn. Where rights are asked, a show is allowed by the
+//! view that it is read from, and any other command in its turn.
 
 ghost use Rattle.std.specs.Prelude.{◌≡◌, false, true, IfOk, IfSome};
 ghost use Rattle.std.specs.Arc.{arc_value};
@@ -9,22 +10,22 @@ ghost use Rattle.commands.specs.Sound.{IsSound};
 ghost use Rattle.commit_ledger.specs.Kept.{active_of};
 ghost use Rattle.config_db.specs.View.{DatabaseView};
 ghost use Rattle.session_shell.specs.Shows.{IsActiveShow, PrintsWhole, SaysWhole};
-ghost use Rattle.session_threads.specs.Adding.{given_of};
-ghost use Rattle.session_threads.specs.Gates.{FollowsIn, GivesView, Learns, LooksIn, NamesIn, ReadsShow, TookIn};
+ghost use Rattle.session_threads.specs.Gates.{FollowsIn, GivesView, HadNoMore, Held, Learns, LooksIn, NamesIn, ReadsShow, TookIn};
 ghost use Rattle.session_threads.specs.History.{ShowsKept};
 ghost use Rattle.session_threads.specs.Naming.{keeps_names, names_given, prints_given, shows_given};
 ghost use Rattle.session_threads.specs.Passes.{IsReady};
 
+use crate::asking::find;
 use crate::begun::Begun;
 use crate::deeds::{Ask, Asked};
 use crate::noted::Noted;
 use crate::served::Served;
+use access_rules::AccessFault;
 use active_snapshot::{Naming, Read, Shown, SnapNote, SnapReader};
-use cfg_base::{Moment, NoMemory};
+use cfg_base::{Moment, NoMemory, Path, UserName};
 use cfg_tree::Tree;
 use commands::Command;
 use config_core::{Reply, show_active};
-use config_db::Answered;
 use disk_model::Disk;
 use session_shell::{Door, Given0};
 use std::alloc::Global;
@@ -32,12 +33,13 @@ use std::marker::Model;
 use std::sync::{Arc, Wait};
 use turn_lock::{Pass, Turns};
 
-/// The lock, and the pass and the reader of the caller that asks.
+/// The lock, the pass and the reader of the caller that asks, and its user where rights are asked.
 pub(crate) struct Gate<'a, D: Disk, J: Naming> {
     alloc: Global,
     lock: &'a Turns<Served<D, J>>,
     pass: Pass<Noted, Begun<D>>,
     reader: SnapReader<J>,
+    user: Option<UserName>,
 }
 
 impl<'a, D: Disk, J: Naming> Model for Gate<'a, D, J> {
@@ -51,7 +53,7 @@ impl<'a, D: Disk, J: Naming> Model for Gate<'a, D, J> {
 
     ghost coded = { Prim.hlevel (codes, statements_code) };
 
-    ghost view = { λ g. record { pass = g.pass; reader = g.reader } };
+    ghost view = { λ g. record { pass = g.pass; reader = g.reader; asks = g.user } };
 
     ghost invariant = { λ g. (first : DatabaseView) × IsReady g.lock.now first g.pass };
 }
@@ -91,15 +93,25 @@ fn shown_in(alloc: Global, view: &Shown, command: &Command) -> Result<Reply, NoM
     }
 }
 
-/// The same, as a door gives it.
-fn given_in(alloc: Global, front: u64, view: &Shown, command: &Command) -> Given0
+/// The same, as a door gives it, where the view allows it.
+fn given_in(
+    alloc: Global,
+    user: &Option<UserName>,
+    front: u64,
+    view: &Shown,
+    command: &Command,
+) -> Given0
     requires { IsActiveShow command.now }
-    ensures gives { GivesView command.now front view.now result }
+    ensures gives { GivesView user.now command.now front view.now result }
     ensures prints { PrintsWhole command.now result }
 {
-    match shown_in(alloc, view, command) {
-        Ok(reply) => Given0::Seen { front, reply },
-        Err(NoMemory) => Given0::NoMemory,
+    match find(alloc, view, user, &Path::top(alloc), command) {
+        Ok(()) => match shown_in(alloc, view, command) {
+            Ok(reply) => Given0::Seen { front, reply },
+            Err(NoMemory) => Given0::NoMemory,
+        },
+        Err(AccessFault::Denied(right)) => Given0::Denied { front, right },
+        Err(AccessFault::NoMemory) => Given0::NoMemory,
     }
 }
 
@@ -107,42 +119,53 @@ fn given_in(alloc: Global, front: u64, view: &Shown, command: &Command) -> Given
 fn read_show<J: Naming>(
     alloc: Global,
     reader: &mut SnapReader<J>,
+    user: &Option<UserName>,
     moment: Moment,
     command: &Command,
 ) -> Option<Given0>
     requires { IsActiveShow command.now }
-    ensures { ReadsShow command.now moment result reader.old reader.new }
+    ensures { ReadsShow user.now command.now moment result reader.old reader.new }
 {
     match reader.read(moment) {
-        Ok(Read::At { front, view }) => Some(given_in(alloc, front, &view, command)),
+        Ok(Read::At { front, view }) => Some(given_in(alloc, user, front, &view, command)),
         Ok(Read::Due { .. }) => None,
         Err(NoMemory) => Some(Given0::NoMemory),
     }
 }
 
-/// Tells a reader what a command's turn reported, where the command became an event.
-fn learn<J: Naming>(
-    reader: &mut SnapReader<J>,
-    answered: &Answered,
-    note: &SnapNote<J>,
-    view: Option<Arc<Shown, Global>>,
-)
-    requires { IfSome view (λ view. IsLast note.now.list (arc_value view)) }
-    ensures { Learns answered.now note.now.list reader.old reader.new }
+/// What is told of what a turn gave. A refusal rests on the list as the turn left it, so it is told only to a reader that knew no
+/// more. None knows more, since a view is published in a turn; but no contract says that, and without it want of memory is told.
+fn held<J: Naming>(given: Given0, reader: &SnapReader<J>, note: &SnapNote<J>) -> Given0
+    ensures { Held given note.now.list reader.now result }
 {
-    match answered {
-        Answered::Kept { .. } => reader.learn(note, view),
-        Answered::NoMemory => {}
+    match given {
+        Given0::Denied { .. } | Given0::Unready { .. } => {
+            if reader.knows_no_more(note) {
+                given
+            } else {
+                Given0::NoMemory
+            }
+        }
+        Given0::Kept { .. } | Given0::Seen { .. } | Given0::NoMemory => given,
     }
 }
 
-/// What the database answered, as a door gives it.
-fn given(answered: Answered) -> Given0
-    ensures { result ≡ given_of answered }
+/// Tells a reader what a command's turn reported, unless memory ran out for it.
+fn learn<J: Naming>(
+    reader: &mut SnapReader<J>,
+    given: &Given0,
+    note: &SnapNote<J>,
+    view: Option<Arc<Shown, Global>>,
+)
+    requires view { IfSome view (λ view. IsLast note.now.list (arc_value view)) }
+    requires had { HadNoMore given.now note.now.list reader.old }
+    ensures { Learns given.now note.now.list reader.old reader.new }
 {
-    match answered {
-        Answered::Kept { place, reply } => Given0::Kept { place, reply },
-        Answered::NoMemory => Given0::NoMemory,
+    match given {
+        Given0::Kept { .. } | Given0::Denied { .. } | Given0::Unready { .. } => {
+            reader.learn(note, view);
+        }
+        Given0::Seen { .. } | Given0::NoMemory => {}
     }
 }
 
@@ -156,27 +179,30 @@ impl<'a, D: Disk, J: Naming> Gate<'a, D, J> {
         lock: &'a Turns<Served<D, J>>,
         pass: Pass<Noted, Begun<D>>,
         reader: SnapReader<J>,
+        user: Option<UserName>,
     ) -> Gate<'a, D, J>
         requires { (first : DatabaseView) × IsReady lock.now first pass }
-        ensures { result ≡ record { pass = pass; reader = reader } }
+        ensures { result ≡ record { pass = pass; reader = reader; asks = user } }
     {
         Gate {
             alloc,
             lock,
             pass,
             reader,
+            user,
         }
     }
 
     /// The pass and the reader.
     pub(crate) fn into_parts(self) -> (Pass<Noted, Begun<D>>, SnapReader<J>)
-        ensures { self.entry ≡ record { pass = result.0; reader = result.1 } }
+        ensures { self.entry ≡ record { pass = result.0; reader = result.1; asks = self.entry.asks } }
     {
         let Gate {
             alloc: _,
             lock: _,
             pass,
             reader,
+            user: _,
         } = self;
         (pass, reader)
     }
@@ -186,24 +212,27 @@ impl<'a, D: Disk, J: Naming> Gate<'a, D, J> {
         ensures { LooksIn self.old command.now moment result self.new }
     {
         if is_active_show(command) {
-            read_show(self.alloc, &mut self.reader, moment, command)
+            read_show(self.alloc, &mut self.reader, &self.user, moment, command)
         } else {
             None
         }
     }
 
     // The turn of a command.
-    fn take_turn<R: Wait>(&mut self, rt: &R, moment: Moment, command: Command) -> Answered
+    fn take_turn<R: Wait>(&mut self, rt: &R, moment: Moment, command: Command) -> Given0
         requires { IsSound command }
         ensures { TookIn self.old command moment result self.new }
     {
-        let Asked {
-            answered,
-            note,
-            view,
-        } = self.lock.turn(rt, &mut self.pass, Ask { moment, command });
-        learn(&mut self.reader, &answered, &note, view);
-        answered
+        let ask = Ask {
+            alloc: self.alloc,
+            moment,
+            command,
+            user: &self.user,
+        };
+        let Asked { given, note, view } = self.lock.turn(rt, &mut self.pass, ask);
+        let given = held(given, &self.reader, &note);
+        learn(&mut self.reader, &given, &note, view);
+        given
     }
 }
 
@@ -218,7 +247,7 @@ impl<'a, D: Disk, J: Naming> Door for Gate<'a, D, J> {
                 let_go(command);
                 given
             }
-            None => given(self.take_turn(rt, moment, command)),
+            None => self.take_turn(rt, moment, command),
         }
     }
 

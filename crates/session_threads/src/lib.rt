@@ -7,6 +7,7 @@
 //! are taken (`turn_lock`).
 #![tactic(auto)]
 
+mod asking;
 mod begun;
 mod deeds;
 mod gate;

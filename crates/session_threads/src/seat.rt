@@ -1,8 +1,9 @@
 //! One session, from its seat back to it.
 
-ghost use Rattle.std.specs.Prelude.{◌≡◌, true, Some};
+ghost use Rattle.std.specs.Prelude.{◌≡◌, true, [], Some, IfOk};
 ghost use Rattle.config_db.specs.View.{DatabaseView};
 ghost use Rattle.session_shell.specs.Opened.{end_view};
+ghost use Rattle.session_threads.specs.Access.{asks_of};
 ghost use Rattle.session_threads.specs.Passes.{CallerPass, IsReady, KnowsOwn, Waited};
 ghost use Rattle.session_threads.specs.Sessions.{CanServe, HasLeft, IsSeated, IsWithin, RunsOne, ServesOne, ServesSeat, gate_of, result_of};
 
@@ -12,9 +13,10 @@ use crate::gate::Gate;
 use crate::noted::Noted;
 use crate::served::Served;
 use active_snapshot::{Naming, SnapReader, fronts_never_fall};
-use cfg_base::Limits;
+use cfg_base::{Limits, NoMemory, UserName};
 use disk_model::Disk;
 use io_edge::{Clock, Sink, Source};
+use session_history::histories_have_one_outcome;
 use session_shell::{End, Ended, How, NoSession, Session, TurnList};
 use std::alloc::Global;
 use std::mem::replace;
@@ -30,7 +32,38 @@ pub(crate) struct Seat<S, K, C, F, J: Naming> {
     pub turns: TurnList,
 }
 
-/// Runs the session of a seat, whose turns are kept as values, or aren't. Without memory for it none begins.
+/// The user of an end, where rights are asked.
+fn user_of<S, K, C>(end: &End<S, K, C>, access: bool) -> Result<Option<UserName>, NoMemory>
+    ensures { IfOk result (λ user. user ≡ asks_of access end.now.user) }
+{
+    if access {
+        Ok(Some(end.user.clone()?))
+    } else {
+        Ok(None)
+    }
+}
+
+/// The seat of a session that didn't begin, since there was no memory for it.
+fn unbegun<S, K, C, F, J: Naming>(
+    alloc: Global,
+    pass: Pass<Noted, F>,
+    reader: SnapReader<J>,
+    end: End<S, K, C>,
+) -> Seat<S, K, C, F, J>
+    ensures same { (result.pass ≡ pass) × (result.reader ≡ reader) × (result.end ≡ end) }
+    ensures none { (result.how ≡ How.NoMemory) × (result.turns ≡ []) }
+{
+    Seat {
+        pass,
+        reader,
+        end,
+        how: How::NoMemory,
+        turns: TurnList::none(alloc),
+    }
+}
+
+/// Runs the session of a seat, whose turns are kept as values, or aren't, and whose user's rights are asked, or aren't. Without
+/// memory for it none begins.
 fn run_session<R: Wait, S: Source, K: Sink, C: Clock, D: Disk, J: Naming>(
     rt: &R,
     alloc: Global,
@@ -38,10 +71,11 @@ fn run_session<R: Wait, S: Source, K: Sink, C: Clock, D: Disk, J: Naming>(
     seat: Seat<S, K, C, Begun<D>, J>,
     limits: Limits,
     keeps: bool,
+    access: bool,
 ) -> Seat<S, K, C, Begun<D>, J>
     requires { (first : DatabaseView) × IsReady lock.now first seat.pass }
-    ensures { RunsOne (end_view S.view K.view C.coming) limits.input (gate_of seat) (gate_of result)
-        (result_of seat result) }
+    ensures { RunsOne (end_view S.view K.view C.coming) limits.input (gate_of access seat)
+        (record { pass = result.pass; reader = result.reader; asks = asks_of access seat.end.user }) (result_of seat result) }
 {
     let Seat {
         pass,
@@ -50,9 +84,12 @@ fn run_session<R: Wait, S: Source, K: Sink, C: Clock, D: Disk, J: Naming>(
         how: _,
         turns: _,
     } = seat;
+    let Ok(user) = user_of(&end, access) else {
+        return unbegun(alloc, pass, reader, end);
+    };
     match Session::new(alloc, pass.caller(), end, limits, keeps) {
         Ok(session) => {
-            let mut gate = Gate::of(alloc, lock, pass, reader);
+            let mut gate = Gate::of(alloc, lock, pass, reader, user);
             let Ended {
                 number: _,
                 how,
@@ -68,13 +105,7 @@ fn run_session<R: Wait, S: Source, K: Sink, C: Clock, D: Disk, J: Naming>(
                 turns,
             }
         }
-        Err(NoSession { end }) => Seat {
-            pass,
-            reader,
-            end,
-            how: How::NoMemory,
-            turns: TurnList::none(alloc),
-        },
+        Err(NoSession { end }) => unbegun(alloc, pass, reader, end),
     }
 }
 
@@ -124,14 +155,16 @@ fn serve_one<R: Wait, S: Source, K: Sink, C: Clock, D: Disk, J: Naming>(
     seat: Seat<S, K, C, Begun<D>, J>,
     limits: Limits,
     keeps: bool,
+    access: bool,
 ) -> Seat<S, K, C, Begun<D>, J>
-    requires { (first : DatabaseView) × CanServe lock.now first (gate_of seat) }
-    ensures { (first : DatabaseView) → CanServe lock.now first (gate_of seat)
-        → ServesOne (end_view S.view K.view C.coming) limits.input first seat.pass result.pass
+    requires { (first : DatabaseView) × CanServe lock.now first seat.pass seat.reader }
+    ensures { (first : DatabaseView) → CanServe lock.now first seat.pass seat.reader
+        → ServesOne (end_view S.view K.view C.coming) limits.input access first seat.pass result.pass
         (result_of seat result) }
 {
     fronts_never_fall();
-    let mut seat = run_session(rt, alloc, lock, seat, limits, keeps);
+    histories_have_one_outcome();
+    let mut seat = run_session(rt, alloc, lock, seat, limits, keeps, access);
     leave(rt, lock, &mut seat.pass, &seat.reader);
     seat
 }
@@ -144,15 +177,16 @@ pub(crate) fn serve_at<R: Wait, S: Source, K: Sink, C: Clock, D: Disk, J: Naming
     place: &mut Option<Seat<S, K, C, Begun<D>, J>>,
     limits: Limits,
     keeps: bool,
+    access: bool,
 )
     requires { (first : DatabaseView) × IsSeated lock.now first place.old }
     ensures { (first : DatabaseView) → IsSeated lock.now first place.old
-        → ServesSeat (end_view S.view K.view C.coming) limits.input first place.old place.new }
+        → ServesSeat (end_view S.view K.view C.coming) limits.input access first place.old place.new }
 {
     let Some(seat) = place.take() else {
         unreachable!()
     };
-    let served = serve_one(rt, alloc, lock, seat, limits, keeps);
+    let served = serve_one(rt, alloc, lock, seat, limits, keeps, access);
     let nothing = replace(place, Some(served));
     let None = nothing else { unreachable!() };
 }

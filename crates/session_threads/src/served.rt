@@ -22,7 +22,7 @@ pub(crate) struct Served<D: Disk, J: Naming> {
     pub(crate) database: Database<D, J>,
     /// How it began.
     first: Begun<D>,
-    notes: Vec<Note>,
+    pub(crate) notes: Vec<Note>,
     /// How many sessions have not ended.
     pub(crate) waiting: u32,
     /// What wakes the ticker, where it sleeps.

@@ -1,6 +1,6 @@
 //! Each session on a thread of its own, and the ticker beside them.
 
-ghost use Rattle.std.specs.Prelude.{◌≡◌, ℕ, All};
+ghost use Rattle.std.specs.Prelude.{◌≡◌, ℕ, Bool, All};
 ghost use Rattle.std.specs.Thread.{IsSend, IsSync};
 ghost use Rattle.atomic_table.specs.Seated.{TableId};
 ghost use Rattle.config_db.specs.View.{DatabaseView};
@@ -30,8 +30,8 @@ pub(crate) trait Serve<D: Disk, J: Naming> {
     /// It can be served over that lock, over a database that began so.
     ghost can_serve: { Self → TableId → DatabaseView → Type 0 };
 
-    /// It was served, with that many bytes of input at most, over a database that began so.
-    ghost serves: { ℕ → DatabaseView → Self → Self → Type 0 };
+    /// It was served, with that many bytes of input at most, and with rights asked or not, over a database that began so.
+    ghost serves: { ℕ → Bool → DatabaseView → Self → Self → Type 0 };
 
     fn serve<R: Wait>(
         &mut self,
@@ -40,17 +40,18 @@ pub(crate) trait Serve<D: Disk, J: Naming> {
         lock: &Turns<Served<D, J>>,
         limits: Limits,
         keeps: bool,
+        access: bool,
     )
         requires { (first : DatabaseView) × can_serve self.old lock.now first }
         ensures { (first : DatabaseView) → can_serve self.old lock.now first
-            → serves limits.input first self.old self.new };
+            → serves limits.input access first self.old self.new };
 }
 
 impl<S: Source, K: Sink, C: Clock, D: Disk, J: Naming> Serve<D, J>
     for Option<Seat<S, K, C, Begun<D>, J>> {
     ghost can_serve = { λ seat lock first. IsSeated lock first seat };
 
-    ghost serves = { λ limit first old new. ServesSeat (end_view S.view K.view C.coming) limit first old new };
+    ghost serves = { λ limit access first old new. ServesSeat (end_view S.view K.view C.coming) limit access first old new };
 
     fn serve<R: Wait>(
         &mut self,
@@ -59,8 +60,9 @@ impl<S: Source, K: Sink, C: Clock, D: Disk, J: Naming> Serve<D, J>
         lock: &Turns<Served<D, J>>,
         limits: Limits,
         keeps: bool,
+        access: bool,
     ) {
-        serve_at(rt, alloc, lock, self, limits, keeps);
+        serve_at(rt, alloc, lock, self, limits, keeps, access);
     }
 }
 
@@ -73,6 +75,7 @@ pub(crate) fn serve_seats<R, T, B, C, D, J>(
     lock: &Turns<Served<D, J>>,
     limits: Limits,
     keeps: bool,
+    access: bool,
     seats: &mut [T],
     pass: &mut Pass<Noted, Begun<D>>,
     ticker: &mut Ticker<B, C>,
@@ -88,7 +91,7 @@ where
         × All (λ seat. T.can_serve seat lock.now first) seats.old }
     ensures seats { (first : DatabaseView) → IsTickersPass lock.now first pass.old
         → All (λ seat. T.can_serve seat lock.now first) seats.old
-        → Pairs (T.serves limits.input first) seats.old seats.new }
+        → Pairs (T.serves limits.input access first) seats.old seats.new }
     ensures ticker { (first : DatabaseView) → IsTickersPass lock.now first pass.old
         → TicksOn first pass.old pass.new (ticker_view B.coming C.coming ticker.old)
         (ticker_view B.coming C.coming ticker.new) }
@@ -96,7 +99,9 @@ where
     match seats.split_first_mut() {
         None => tick_along(rt, lock, pass, ticker),
         Some((seat, others)) => {
-            serve_both(rt, alloc, lock, limits, keeps, seat, others, pass, ticker);
+            serve_both(
+                rt, alloc, lock, limits, keeps, access, seat, others, pass, ticker,
+            );
         }
     }
 }
@@ -109,6 +114,7 @@ fn serve_both<R, T, B, C, D, J>(
     lock: &Turns<Served<D, J>>,
     limits: Limits,
     keeps: bool,
+    access: bool,
     seat: &mut T,
     others: &mut [T],
     pass: &mut Pass<Noted, Begun<D>>,
@@ -124,10 +130,10 @@ where
     requires { (first : DatabaseView) × IsTickersPass lock.now first pass.old × T.can_serve seat.old lock.now first
         × All (λ seat. T.can_serve seat lock.now first) others.old }
     ensures seat { (first : DatabaseView) → T.can_serve seat.old lock.now first
-        → T.serves limits.input first seat.old seat.new }
+        → T.serves limits.input access first seat.old seat.new }
     ensures others { (first : DatabaseView) → IsTickersPass lock.now first pass.old
         → All (λ seat. T.can_serve seat lock.now first) others.old
-        → Pairs (T.serves limits.input first) others.old others.new }
+        → Pairs (T.serves limits.input access first) others.old others.new }
     ensures ticker { (first : DatabaseView) → IsTickersPass lock.now first pass.old
         → TicksOn first pass.old pass.new (ticker_view B.coming C.coming ticker.old)
         (ticker_view B.coming C.coming ticker.new) }
@@ -138,15 +144,15 @@ where
             × All (λ seat. T.can_serve seat lock.now first) others.now) }
         ensures { ((first : DatabaseView) → IsTickersPass lock.entry.now first pass.entry.now
             → All (λ seat. T.can_serve seat lock.entry.now first) others.entry.now
-            → Pairs (T.serves limits.input first) others.entry.now others.exit.now)
+            → Pairs (T.serves limits.input access first) others.entry.now others.exit.now)
             × ((first : DatabaseView) → IsTickersPass lock.entry.now first pass.entry.now
             → TicksOn first pass.entry.now pass.exit.now (ticker_view B.coming C.coming ticker.entry.now)
             (ticker_view B.coming C.coming ticker.exit.now)) }
-    { serve_seats(rt, alloc, lock, limits, keeps, others, pass, ticker) };
+    { serve_seats(rt, alloc, lock, limits, keeps, access, others, pass, ticker) };
     let mut here = move ||
         requires { (first : DatabaseView) × T.can_serve seat.now lock.now first }
         ensures { (first : DatabaseView) → T.can_serve seat.entry.now lock.entry.now first
-            → T.serves limits.input first seat.entry.now seat.exit.now }
-    { seat.serve(rt, alloc, lock, limits, keeps) };
+            → T.serves limits.input access first seat.entry.now seat.exit.now }
+    { seat.serve(rt, alloc, lock, limits, keeps, access) };
     join_mut(rt, &mut apart, &mut here);
 }

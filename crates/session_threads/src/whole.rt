@@ -195,8 +195,8 @@ fn none_served<S, K, C, B, D: Disk, J: Naming>(
 }
 
 /// Serves the sessions of all ends, as callers 1, 2 and so on, and runs the ticker beside them, over a database in
-/// which nothing happened yet, and which has a reader for each. The turns are kept as values, or aren't. Where memory runs out
-/// for the lock no session begins.
+/// which nothing happened yet, and which has a reader for each. The turns are kept as values, or aren't; the rights of each
+/// end's user are asked of each command, or aren't. Where memory runs out for the lock no session begins.
 pub fn serve_all<R, S, K, C, B, D, J>(
     rt: &R,
     alloc: Global,
@@ -205,6 +205,7 @@ pub fn serve_all<R, S, K, C, B, D, J>(
     ends: Vec<End<S, K, C>>,
     limits: Limits,
     keeps: bool,
+    access: bool,
     ticker: Ticker<B, C>,
 ) -> Sessions<S, K, C, B, D, J>
 where
@@ -220,7 +221,7 @@ where
     requires readers { HasReaders database.opening (length ends.items) database.readers }
     requires room { HasRoom (length ends.items) room }
     requires few { length ends.items ≤ 64 }
-    ensures { AreServed (end_view S.view K.view C.coming) limits.input database ends.items
+    ensures { AreServed (end_view S.view K.view C.coming) limits.input access database ends.items
         (ticker_view B.coming C.coming ticker) (record {
           ends = result.ends.items;
           ticker = ticker_view B.coming C.coming result.ticker;
@@ -254,6 +255,7 @@ where
         &lock,
         limits,
         keeps,
+        access,
         seats.as_mut_slice(),
         &mut pass,
         &mut ticker,

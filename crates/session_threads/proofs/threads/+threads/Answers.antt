@@ -33,6 +33,7 @@ send_others g κs rt seats beat clock disk name shared =
     ∷ ShrRef (named 9) ends.1.0 (lock_row (param 4 g.row.D) (param 5 g.row.J) g.D.Disk g.J.Naming)
     ∷ Limits.the_row
     ∷ bool
+    ∷ bool
     ∷ MutSlice (named 10) ends.1.1.0 (param 1 g.row.T)
     ∷ MutRef (named 11) ends.1.1.1.0 (pass_row (param 4 g.row.D) g.D.Disk)
     ∷ MutRef (named 12) ends.1.1.1.1.0 (Ticker.the_row (param 2 g.row.B) (param 3 g.row.C))
@@ -48,8 +49,11 @@ send_others g κs rt seats beat clock disk name shared =
             (
               search sendable depth 20,
               (
-                mut_slice_send _ _ _ seats,
-                (mut_send _ _ _ (pass_send (param 4 g.row.D) g.D.Disk), (mut_send _ _ _ tickers, tt)),
+                search sendable depth 20,
+                (
+                  mut_slice_send _ _ _ seats,
+                  (mut_send _ _ _ (pass_send (param 4 g.row.D) g.D.Disk), (mut_send _ _ _ tickers, tt)),
+                ),
               ),
             ),
           ),
@@ -120,7 +124,7 @@ serve_seats-returns-in-Some-clause-seats g t c first is all =
     let can : g.row.T.Denot → Type 0 = λ seat. g.T.Serve.can_serve seat c.args.lock.now first in
     let cut = c.in-Some.ensures.cases.0 in
     let both : All can (c.in-Some.seat.now ∷ c.in-Some.others.now) = subst (All can) cut all in
-    subst (λ seats. Pairs (g.T.Serve.serves c.args.limits.input first) seats (c.serve_both.new.seat ∷ c.serve_both.new.others)) (sym cut) (
+    subst (λ seats. Pairs (g.T.Serve.serves c.args.limits.input c.args.access first) seats (c.serve_both.new.seat ∷ c.serve_both.new.others)) (sym cut) (
       c.serve_both.ensures.seat first (All-head can c.in-Some.seat.now c.in-Some.others.now both),
       c.serve_both.ensures.others first is (All-tail can c.in-Some.seat.now c.in-Some.others.now both),
     )

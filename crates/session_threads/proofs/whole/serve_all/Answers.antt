@@ -17,11 +17,11 @@ use Rattle.session_threads.proofs.whole.serve_all.Goals as goal
 pub returns-in-Err : goal.returns-in-Err
 returns-in-Err g c =
     AreServed-handed g.row.J.Denot (end_view g.S.Source.view g.K.Sink.view g.C.Clock.coming)
-    c.args.limits.input c.args.database c.readers-readers.new.self c.readers-readers.ensures.rest
+    c.args.limits.input c.args.access c.args.database c.readers-readers.new.self c.readers-readers.ensures.rest
     c.args.ends.items c.none_served.result.ends.items (ticker_view g.B.Beat.coming g.C.Clock.coming c.args.ticker) (ticker_view g.B.Beat.coming g.C.Clock.coming c.none_served.result.ticker) c.none_served.result.turns.items
     c.none_served.result.database c.none_served.result.status
     (AreServed-none g.row.J.Denot (end_view g.S.Source.view g.K.Sink.view g.C.Clock.coming)
-    c.args.limits.input c.readers-readers.new.self
+    c.args.limits.input c.args.access c.readers-readers.new.self
     c.args.ends.items c.none_served.result.ends.items (ticker_view g.B.Beat.coming g.C.Clock.coming c.args.ticker) (ticker_view g.B.Beat.coming g.C.Clock.coming c.none_served.result.ticker) c.none_served.result.turns.items
     c.none_served.result.database c.none_served.result.status
     (ap (λ (v : DatabaseView). v.events) c.readers-readers.ensures.rest ∙ c.requires.fresh.0)
@@ -50,7 +50,7 @@ serve_seats-requires-send-T g c κs within =
 pub serve_seats-requires-after_bounds : goal.serve_seats-requires-after_bounds
 serve_seats-requires-after_bounds g c κs within =
     can_serve g.row.J.Denot (end_view g.S.Source.view g.K.Sink.view g.C.Clock.coming)
-    c.args.limits.input (start_of c.args.database) c.in-Ok.made.0 _ c.in-Ok.made.1 c.seat_all.new.pass c.readers-readers.new.self
+    c.args.limits.input c.args.access (start_of c.args.database) c.in-Ok.made.0 _ c.in-Ok.made.1 c.seat_all.new.pass c.readers-readers.new.self
     c.of.result (made_of c.args.database c.readers-readers.new.self c.of.result c.readers-readers.ensures.rest c.of.ensures)
     c.in-Ok.ensures.ok c.args.ends.items
     c.seat_all.ensures.pass c.seat_all.new.seats.items c.as_mut_slice.result.now (c.seat_all.ensures.seats c.args.database.opening
@@ -61,7 +61,7 @@ serve_seats-requires-after_bounds g c κs within =
 pub leave_all-status-requires-clause-pass : goal.leave_all-status-requires-clause-pass
 leave_all-status-requires-clause-pass g c =
     gone_here g.row.J.Denot (end_view g.S.Source.view g.K.Sink.view g.C.Clock.coming)
-    c.args.limits.input (start_of c.args.database) c.in-Ok.made.0 _ c.in-Ok.made.1 c.seat_all.new.pass c.readers-readers.new.self
+    c.args.limits.input c.args.access (start_of c.args.database) c.in-Ok.made.0 _ c.in-Ok.made.1 c.seat_all.new.pass c.readers-readers.new.self
     c.of.result (made_of c.args.database c.readers-readers.new.self c.of.result c.readers-readers.ensures.rest c.of.ensures)
     c.in-Ok.ensures.ok c.args.ends.items
     c.seat_all.ensures.pass c.seat_all.new.seats.items c.as_mut_slice.result.now (c.seat_all.ensures.seats c.args.database.opening
@@ -73,7 +73,7 @@ leave_all-status-requires-clause-pass g c =
 pub leave_all-status-requires-clause-seats : goal.leave_all-status-requires-clause-seats
 leave_all-status-requires-clause-seats g c =
     all_here g.row.J.Denot (end_view g.S.Source.view g.K.Sink.view g.C.Clock.coming)
-    c.args.limits.input (start_of c.args.database) c.in-Ok.made.0 _ c.in-Ok.made.1 c.seat_all.new.pass c.readers-readers.new.self
+    c.args.limits.input c.args.access (start_of c.args.database) c.in-Ok.made.0 _ c.in-Ok.made.1 c.seat_all.new.pass c.readers-readers.new.self
     c.of.result (made_of c.args.database c.readers-readers.new.self c.of.result c.readers-readers.ensures.rest c.of.ensures)
     c.in-Ok.ensures.ok c.args.ends.items
     c.seat_all.ensures.pass c.seat_all.new.seats.items c.as_mut_slice.result.now (c.seat_all.ensures.seats c.args.database.opening
@@ -88,7 +88,7 @@ leave_all-status-requires-clause-ends g c =
       c.seat_all.ensures.ends.0,
       subst (λ n. n ≤ vec_capacity c.seat_all.new.ends)
           (sym (as_many g.row.J.Denot (end_view g.S.Source.view g.K.Sink.view g.C.Clock.coming)
-          c.args.limits.input (start_of c.args.database) c.in-Ok.made.0 _ c.in-Ok.made.1 c.seat_all.new.pass c.readers-readers.new.self
+          c.args.limits.input c.args.access (start_of c.args.database) c.in-Ok.made.0 _ c.in-Ok.made.1 c.seat_all.new.pass c.readers-readers.new.self
           c.of.result (made_of c.args.database c.readers-readers.new.self c.of.result c.readers-readers.ensures.rest c.of.ensures)
           c.in-Ok.ensures.ok c.args.ends.items
           c.seat_all.ensures.pass c.seat_all.new.seats.items c.as_mut_slice.result.now (c.seat_all.ensures.seats c.args.database.opening
@@ -104,7 +104,7 @@ leave_all-status-requires-clause-turns g c = (
   c.requires.room.no_lists,
   subst (λ n. n ≤ vec_capacity c.args.room.lists)
       (sym (as_many g.row.J.Denot (end_view g.S.Source.view g.K.Sink.view g.C.Clock.coming)
-      c.args.limits.input (start_of c.args.database) c.in-Ok.made.0 _ c.in-Ok.made.1 c.seat_all.new.pass c.readers-readers.new.self
+      c.args.limits.input c.args.access (start_of c.args.database) c.in-Ok.made.0 _ c.in-Ok.made.1 c.seat_all.new.pass c.readers-readers.new.self
       c.of.result (made_of c.args.database c.readers-readers.new.self c.of.result c.readers-readers.ensures.rest c.of.ensures)
       c.in-Ok.ensures.ok c.args.ends.items
       c.seat_all.ensures.pass c.seat_all.new.seats.items c.as_mut_slice.result.now (c.seat_all.ensures.seats c.args.database.opening
@@ -118,7 +118,7 @@ leave_all-status-requires-clause-turns g c = (
 pub close-requires-clause-here : goal.close-requires-clause-here
 close-requires-clause-here g c =
     (closes g.row.J.Denot (end_view g.S.Source.view g.K.Sink.view g.C.Clock.coming)
-    c.args.limits.input (start_of c.args.database) c.in-Ok.made.0 _ c.in-Ok.made.1 c.seat_all.new.pass c.readers-readers.new.self
+    c.args.limits.input c.args.access (start_of c.args.database) c.in-Ok.made.0 _ c.in-Ok.made.1 c.seat_all.new.pass c.readers-readers.new.self
     c.of.result (made_of c.args.database c.readers-readers.new.self c.of.result c.readers-readers.ensures.rest c.of.ensures)
     c.in-Ok.ensures.ok c.args.ends.items
     c.seat_all.ensures.pass c.seat_all.new.seats.items c.as_mut_slice.result.now (c.seat_all.ensures.seats c.args.database.opening
@@ -132,7 +132,7 @@ close-requires-clause-here g c =
 pub close-requires-clause-first : goal.close-requires-clause-first
 close-requires-clause-first g c =
     (closes g.row.J.Denot (end_view g.S.Source.view g.K.Sink.view g.C.Clock.coming)
-    c.args.limits.input (start_of c.args.database) c.in-Ok.made.0 _ c.in-Ok.made.1 c.seat_all.new.pass c.readers-readers.new.self
+    c.args.limits.input c.args.access (start_of c.args.database) c.in-Ok.made.0 _ c.in-Ok.made.1 c.seat_all.new.pass c.readers-readers.new.self
     c.of.result (made_of c.args.database c.readers-readers.new.self c.of.result c.readers-readers.ensures.rest c.of.ensures)
     c.in-Ok.ensures.ok c.args.ends.items
     c.seat_all.ensures.pass c.seat_all.new.seats.items c.as_mut_slice.result.now (c.seat_all.ensures.seats c.args.database.opening
@@ -146,7 +146,7 @@ close-requires-clause-first g c =
 pub close-requires-clause-all : goal.close-requires-clause-all
 close-requires-clause-all g c =
     (closes g.row.J.Denot (end_view g.S.Source.view g.K.Sink.view g.C.Clock.coming)
-    c.args.limits.input (start_of c.args.database) c.in-Ok.made.0 _ c.in-Ok.made.1 c.seat_all.new.pass c.readers-readers.new.self
+    c.args.limits.input c.args.access (start_of c.args.database) c.in-Ok.made.0 _ c.in-Ok.made.1 c.seat_all.new.pass c.readers-readers.new.self
     c.of.result (made_of c.args.database c.readers-readers.new.self c.of.result c.readers-readers.ensures.rest c.of.ensures)
     c.in-Ok.ensures.ok c.args.ends.items
     c.seat_all.ensures.pass c.seat_all.new.seats.items c.as_mut_slice.result.now (c.seat_all.ensures.seats c.args.database.opening
@@ -160,10 +160,10 @@ close-requires-clause-all g c =
 pub returns : goal.returns
 returns g c =
     AreServed-begun g.row.J.Denot (end_view g.S.Source.view g.K.Sink.view g.C.Clock.coming)
-    c.args.limits.input c.args.database c.args.ends.items c.leave_all-status.new.ends.items (ticker_view g.B.Beat.coming g.C.Clock.coming c.args.ticker) (ticker_view g.B.Beat.coming g.C.Clock.coming c.serve_seats.new.ticker)
+    c.args.limits.input c.args.access c.args.database c.args.ends.items c.leave_all-status.new.ends.items (ticker_view g.B.Beat.coming g.C.Clock.coming c.args.ticker) (ticker_view g.B.Beat.coming g.C.Clock.coming c.serve_seats.new.ticker)
     c.leave_all-status.new.turns.items c.into_database-database.result c.leave_all-status.result
     (AreServed-of g.row.J.Denot (end_view g.S.Source.view g.K.Sink.view g.C.Clock.coming)
-    c.args.limits.input (start_of c.args.database) c.in-Ok.made.0 _ c.in-Ok.made.1 c.seat_all.new.pass c.readers-readers.new.self
+    c.args.limits.input c.args.access (start_of c.args.database) c.in-Ok.made.0 _ c.in-Ok.made.1 c.seat_all.new.pass c.readers-readers.new.self
     c.of.result (made_of c.args.database c.readers-readers.new.self c.of.result c.readers-readers.ensures.rest c.of.ensures)
     c.in-Ok.ensures.ok c.args.ends.items
     c.seat_all.ensures.pass c.seat_all.new.seats.items c.as_mut_slice.result.now (c.seat_all.ensures.seats c.args.database.opening

@@ -1,11 +1,11 @@
-use Rattle.std.proofs.Common.{subst, sym}
+use Rattle.std.proofs.Common.{[], subst, sym}
 use Rattle.config_db.specs.View.{opened}
 use Rattle.turn_lock.specs.Histories.{AddsOwn}
 use Rattle.session_threads.specs.Looks.{LooksAlone}
-use Rattle.session_threads.specs.Noted.{GoesByEvents, caller_in, merged}
+use Rattle.session_threads.specs.Noted.{GoesOnBy, caller_in, merged}
 use Rattle.session_threads.specs.Served.{ServedView}
 use Rattle.session_threads.proofs.LogLemmas.{AddsOwn-of, IsUnderway-then, LooksAlone-of}
-use Rattle.session_threads.proofs.NotedLemmas.{GoesByEvents-merged}
+use Rattle.session_threads.proofs.NotedLemmas.{GoesOnBy-events}
 use Rattle.session_threads.proofs.deeds.LookDeedServed.act.Goals as goal
 
 pub invariant_of-served : goal.invariant_of-served
@@ -32,9 +32,9 @@ returns-clause-adds g c =
 pub returns-clause-says : goal.returns-clause-says
 returns-clause-says g c =
     let notes = c.served.inside.notes.items in
-    subst (λ (s : ServedView). GoesByEvents (LooksAlone (opened s.first) c.args.self.moment) (merged 0 s.database.events s.notes)
+    subst (λ (s : ServedView). GoesOnBy (LooksAlone (opened s.first) c.args.self.moment) [] (merged 0 s.database.events s.notes)
     (merged 0 c.tick-looked.new.self.events notes)) c.served.view_is
-    (GoesByEvents-merged (LooksAlone (opened c.served.inside.first) c.args.self.moment) c.served.inside.database.events
+    (GoesOnBy-events (LooksAlone (opened c.served.inside.first) c.args.self.moment) c.served.inside.database.events
     c.tick-looked.new.self.events notes
     (LooksAlone-of c.served.inside.first c.served.inside.database c.tick-looked.new.self
     c.args.self.moment c.tick-looked.result c.served.invariant.leads c.tick-looked.ensures.way))

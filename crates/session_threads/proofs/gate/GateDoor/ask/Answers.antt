@@ -7,5 +7,5 @@ returns-in-Some g c =
 
 pub returns-in-None : goal.returns-in-None
 returns-in-None g c =
-    FollowsIn-took c.args.self.now c.look.new.self c.take_turn.new.self c.args.command c.args.moment c.take_turn.result c.given.result
-    c.in-None.ensures c.take_turn.ensures c.given.ensures
+    FollowsIn-took c.args.self.now c.look.new.self c.take_turn.new.self c.args.command c.args.moment c.in-None.ensures
+    c.take_turn.result c.take_turn.ensures
