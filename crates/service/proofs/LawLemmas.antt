@@ -1,8 +1,9 @@
 -- Sessions over histories that one caller made alone, and what views of one run show.
-use Rattle.std.proofs.Common.{◌≡◌, ◌≢◌, ◌+◌, if◌then◌else◌, false, max, ℕ, List, [], ◌∷◌, ◌++◌, map, take, refl, sym, ap, subst, ◌∙◌, arith, Some, Bool, true}
+use Rattle.std.proofs.Common.{◌≡◌, ◌≢◌, ◌+◌, if◌then◌else◌, false, max, ℕ, List, [], ◌∷◌, ◌++◌, map, take, refl, sym, ap, subst, ◌∙◌, arith, Some, Bool, true, inl, inr}
 use Rattle.std.proofs.lemmas.Bool.{false≢true}
 use Rattle.std.proofs.lemmas.List.{length-map, map-append, take-map}
 use Rattle.std.specs.List.{AllByRecursion}
+use Rattle.access_rules.specs.declared.right.Right.{Right}
 use Rattle.commands.specs.declared.command.Command.{Command}
 use Rattle.commit_ledger.specs.Kept.{Kept}
 use Rattle.config_core.specs.declared.reply.Reply.{Reply}
@@ -16,13 +17,13 @@ use Rattle.session_shell.specs.declared.door.Given0.{Given0}
 use Rattle.session_shell.specs.declared.door.Given0.TheVariants.{Kept as KeptAt, Seen, Denied, Unready, NoMemory}
 use Rattle.session_shell.specs.declared.reading.Reading.TheVariants.{Operational}
 use Rattle.session_shell.specs.declared.json_show.Manner.{Manner}
-use Rattle.session_shell.specs.Exchange.{Exchange, Asked, Refused, Wanted, IsWrittenIn, item_asked, asked_item, turn_taken}
+use Rattle.session_shell.specs.Exchange.{Exchange, Asked, Failure, Lack, Refused, Wanted, IsWrittenIn, item_asked, asked_item, turn_taken}
 use Rattle.session_shell.specs.Law.{Agree, SeeAlike, Undisturbed, basis_at, is_wanting}
 use Rattle.session_shell.specs.Transcript.{Following, GoesBy, SessionView, TakesAnswers, TakesTurns}
 use Rattle.session_shell.proofs.LawLemmas.{AllWere, Once, all_same, asked_is, not_dry, outcome_same, same_front}
-use Rattle.session_threads.specs.History.{FollowsAsked, FollowsTurn, HasEvent, HasView, IsTurn, Known, Names, ShowsKept, known_first, places_answered}
+use Rattle.session_threads.specs.History.{FollowsAsked, FollowsDenied, FollowsTurn, FollowsUnready, HasEvent, HasView, IsTurn, Known, Names, ShowsKept, known_first, places_answered}
 use Rattle.session_threads.proofs.ListLemmas.{all_back, some_is}
-use Rattle.service.specs.Alone.{AreAlike, IsAlone, IsCalm, uncounted}
+use Rattle.service.specs.Alone.{AreAlike, IsAlone, IsCalm, unasked, uncounted}
 use Rattle.service.proofs.AloneLemmas.{FollowsPlain, IsPlain, Leads-split}
 use Rattle.service.proofs.BlindLemmas.{BeganAlike, FollowsBlind, all_written, blind, blind_given, blind_item, blind_logs_out, blind_manner, blind_moments, blind_peels, blind_reads, blind_turns, texts_of, view_of}
 use Rattle.service.proofs.GrowthLemmas.{more_events}
@@ -135,14 +136,22 @@ IsViewed opening final (Asked moment command given manner) = IsViewGiven opening
 IsViewed opening final (Refused moment fault) = Unit {0}
 IsViewed opening final (Wanted moment) = Unit {0}
 
+-- where nobody's rights are asked no command is denied, and none finds a disk not ready
+none_denied : (opening : State) (caller : ℕ) (final : List Happened) (d e : Known) (command : Command) (answer front : ℕ) (right : Right) → FollowsDenied (unasked opening caller) final d command answer front right e → ⊥
+none_denied opening caller final d e command answer front right (inl refused) = refused.1.denied
+none_denied opening caller final d e command answer front right (inr hidden) = hidden.denied
+
+none_unready : (opening : State) (caller : ℕ) (final : List Happened) (d e : Known) (command : Command) (answer front : ℕ) → FollowsUnready (unasked opening caller) final d command answer front e → ⊥
+none_unready opening caller final d e command answer front follows = follows.1.needs
+
 -- each of these items that was answered from a view
-pub all_viewed : (opening : State) (caller : ℕ) (final : List Happened) (exchanges : List Exchange) (d e : Known) → GoesBy (FollowsAsked opening caller final) exchanges d e → AllByRecursion (IsViewed opening (plain final)) exchanges
+pub all_viewed : (opening : State) (caller : ℕ) (final : List Happened) (exchanges : List Exchange) (d e : Known) → GoesBy (FollowsAsked (unasked opening caller) final) exchanges d e → AllByRecursion (IsViewed opening (plain final)) exchanges
 all_viewed opening caller final [] d e goes = tt
 all_viewed opening caller final (Asked moment command (KeptAt place reply) manner ∷ exchanges) d e goes = (tt, all_viewed opening caller final exchanges goes.0 e goes.2)
 all_viewed opening caller final (Asked moment command (Seen front reply) manner ∷ exchanges) d e goes =
-    (plain_view opening final command front reply (record { kept = goes.1.kept; was_kept = goes.1.was_kept; shows = goes.1.shows }), all_viewed opening caller final exchanges goes.0 e goes.2)
-all_viewed opening caller final (Asked moment command (Denied front right) manner ∷ exchanges) d e goes = absurd goes.1
-all_viewed opening caller final (Asked moment command (Unready front) manner ∷ exchanges) d e goes = absurd goes.1
+    (plain_view opening final command front reply (record { kept = goes.1.view.kept; was_kept = goes.1.view.was_kept; shows = goes.1.shows }), all_viewed opening caller final exchanges goes.0 e goes.2)
+all_viewed opening caller final (Asked moment command (Denied front right) manner ∷ exchanges) d e goes = absurd (none_denied opening caller final d goes.0 command moment front right goes.1)
+all_viewed opening caller final (Asked moment command (Unready front) manner ∷ exchanges) d e goes = absurd (none_unready opening caller final d goes.0 command moment front goes.1)
 all_viewed opening caller final (Asked moment command NoMemory manner ∷ exchanges) d e goes = (tt, all_viewed opening caller final exchanges goes.0 e goes.2)
 all_viewed opening caller final (Refused moment fault ∷ exchanges) d e goes = (tt, all_viewed opening caller final exchanges d e goes)
 all_viewed opening caller final (Wanted moment ∷ exchanges) d e goes = (tt, all_viewed opening caller final exchanges d e goes)
@@ -162,25 +171,25 @@ module _ (opening : State) (caller : ℕ) where
       }
 
   module _ (final : List Happened) where
-    alone_before : (exchanges : List Exchange) (d e : Known) → GoesBy (FollowsAsked opening caller final) exchanges d e → IsAlone opening caller e.events → IsAlone opening caller d.events
+    alone_before : (exchanges : List Exchange) (d e : Known) → GoesBy (FollowsAsked (unasked opening caller) final) exchanges d e → IsAlone opening caller e.events → IsAlone opening caller d.events
     alone_before exchanges d e goes alone =
-        let more = more_events opening caller final exchanges d e goes in alone_front opening caller d.events more.0 (subst (IsAlone opening caller) more.1 alone)
+        let more = more_events (unasked opening caller) final exchanges d e goes in alone_front opening caller d.events more.0 (subst (IsAlone opening caller) more.1 alone)
 
-    goes_blind : (exchanges : List Exchange) (d e : Known) → IsAlone opening caller e.events → GoesBy (FollowsAsked opening caller final) exchanges d e → GoesBy (FollowsBlind opening caller) (map blind exchanges) (plain d.events) (plain e.events)
+    goes_blind : (exchanges : List Exchange) (d e : Known) → IsAlone opening caller e.events → GoesBy (FollowsAsked (unasked opening caller) final) exchanges d e → GoesBy (FollowsBlind opening caller) (map blind exchanges) (plain d.events) (plain e.events)
     goes_blind [] d e alone goes = ap (λ (k : Known). plain k.events) goes
     goes_blind (Asked moment command (KeptAt place reply) manner ∷ exchanges) d e alone goes =
         (plain goes.0.events, follows_alone d.events command moment (DoneAt place reply) goes.0.events (alone_before exchanges goes.0 e goes.2 alone) goes.1.turn, goes_blind exchanges goes.0 e alone goes.2)
     goes_blind (Asked moment command (Seen front reply) manner ∷ exchanges) d e alone goes =
-        (plain goes.0.events, (ap plain goes.1.same, refl), goes_blind exchanges goes.0 e alone goes.2)
-    goes_blind (Asked moment command (Denied front right) manner ∷ exchanges) d e alone goes = absurd goes.1
-    goes_blind (Asked moment command (Unready front) manner ∷ exchanges) d e alone goes = absurd goes.1
+        (plain goes.0.events, (ap plain goes.1.view.same, refl), goes_blind exchanges goes.0 e alone goes.2)
+    goes_blind (Asked moment command (Denied front right) manner ∷ exchanges) d e alone goes = absurd (none_denied opening caller final d goes.0 command moment front right goes.1)
+    goes_blind (Asked moment command (Unready front) manner ∷ exchanges) d e alone goes = absurd (none_unready opening caller final d goes.0 command moment front goes.1)
     goes_blind (Asked moment command NoMemory manner ∷ exchanges) d e alone goes =
         (plain goes.0.events, follows_alone d.events command moment Wanting goes.0.events (alone_before exchanges goes.0 e goes.2 alone) goes.1.turn, goes_blind exchanges goes.0 e alone goes.2)
     goes_blind (Refused moment fault ∷ exchanges) d e alone goes = goes_blind exchanges d e alone goes
     goes_blind (Wanted moment ∷ exchanges) d e alone goes = goes_blind exchanges d e alone goes
 
   module _ (limit : ℕ) (bytes : List ℕ) (coming : ℕ → ℕ) (after : Known) (view : SessionView)
-      (quiet : Undisturbed (FollowsAsked opening caller after.events) limit bytes coming (known_first opening []) after view)
+      (quiet : Undisturbed (FollowsAsked (unasked opening caller) after.events) limit bytes coming (known_first opening []) after view)
       (alone : IsAlone opening caller after.events) where
     abbrev pub blind_view : SessionView
     blind_view = view_of (map blind quiet.session.asked) (map blind quiet.session.final) view
@@ -277,6 +286,13 @@ said_all given (Denied front' right') no_view is = is
 said_all given (Unready front') no_view is = is
 said_all given NoMemory no_view is = is
 
+-- what was denied for one right, and what a disk failed for, over lists of as many entries
+same_denial : (front front' : ℕ) (right right' : Right) → Some (Lack front right) ≡ Some (Lack front' right') → Denied front right ≡ Denied front' right'
+same_denial front front' right right' is = cc
+
+same_failure : (front front' : ℕ) → Some (Failure front) ≡ Some (Failure front') → Unready front ≡ Unready front'
+same_failure front front' is = cc
+
 module _ (opening : State) (kept_once : (events : List Happened) (one other : Kept) → WasKept opening events one → WasKept opening events other → one.count ≡ other.count → one ≡ other)
     (shows_once : (kept : Kept) (command : Command) (one other : Reply) → ShowsKept kept command one → ShowsKept kept command other → one ≡ other) where
   -- views of as many entries show one thing
@@ -331,28 +347,36 @@ module _ (opening : State) (kept_once : (events : List Happened) (one other : Ke
   names_agree caller events d at_once command moment (Seen front reply) (Seen front' reply') named named' is basis =
       let same : front ≡ front' = same_front front front' basis in
       ap (λ f. Seen f reply) same ∙ ap (Seen front') (view_once events command front front' reply reply' named named' same)
+  names_agree caller events d at_once command moment (Denied front right) (Denied front' right') named named' is basis = same_denial front front' right right' basis
+  names_agree caller events d at_once command moment (Unready front) (Unready front') named named' is basis = same_failure front front' basis
   names_agree caller events d at_once command moment NoMemory NoMemory named named' is basis = refl
+  names_agree caller events d at_once command moment (KeptAt place reply) (Seen front' reply') named named' is basis = cc
+  names_agree caller events d at_once command moment (KeptAt place reply) (Denied front' right') named named' is basis = cc
+  names_agree caller events d at_once command moment (KeptAt place reply) (Unready front') named named' is basis = cc
   names_agree caller events d at_once command moment (KeptAt place reply) NoMemory named named' is basis = cc
-  names_agree caller events d at_once command moment NoMemory (KeptAt place reply) named named' is basis = cc
-  names_agree caller events d at_once command moment (Seen seen reply) (KeptAt place reply') named named' is basis = cc
-  names_agree caller events d at_once command moment (Seen seen reply) NoMemory named named' is basis = cc
-  names_agree caller events d at_once command moment (KeptAt place reply) (Seen seen reply') named named' is basis = cc
-  names_agree caller events d at_once command moment NoMemory (Seen seen reply') named named' is basis = cc
-  names_agree caller events d at_once command moment (Denied front right) given' named named' is basis = absurd named
-  names_agree caller events d at_once command moment (Unready front) given' named named' is basis = absurd named
-  names_agree caller events d at_once command moment (KeptAt place reply) (Denied front' right') named named' is basis = absurd named'
-  names_agree caller events d at_once command moment (KeptAt place reply) (Unready front') named named' is basis = absurd named'
-  names_agree caller events d at_once command moment (Seen front reply) (Denied front' right') named named' is basis = absurd named'
-  names_agree caller events d at_once command moment (Seen front reply) (Unready front') named named' is basis = absurd named'
-  names_agree caller events d at_once command moment NoMemory (Denied front' right') named named' is basis = absurd named'
-  names_agree caller events d at_once command moment NoMemory (Unready front') named named' is basis = absurd named'
+  names_agree caller events d at_once command moment (Seen front reply) (KeptAt place' reply') named named' is basis = cc
+  names_agree caller events d at_once command moment (Seen front reply) (Denied front' right') named named' is basis = cc
+  names_agree caller events d at_once command moment (Seen front reply) (Unready front') named named' is basis = cc
+  names_agree caller events d at_once command moment (Seen front reply) NoMemory named named' is basis = cc
+  names_agree caller events d at_once command moment (Denied front right) (KeptAt place' reply') named named' is basis = cc
+  names_agree caller events d at_once command moment (Denied front right) (Seen front' reply') named named' is basis = cc
+  names_agree caller events d at_once command moment (Denied front right) (Unready front') named named' is basis = cc
+  names_agree caller events d at_once command moment (Denied front right) NoMemory named named' is basis = cc
+  names_agree caller events d at_once command moment (Unready front) (KeptAt place' reply') named named' is basis = cc
+  names_agree caller events d at_once command moment (Unready front) (Seen front' reply') named named' is basis = cc
+  names_agree caller events d at_once command moment (Unready front) (Denied front' right') named named' is basis = cc
+  names_agree caller events d at_once command moment (Unready front) NoMemory named named' is basis = cc
+  names_agree caller events d at_once command moment NoMemory (KeptAt place' reply') named named' is basis = cc
+  names_agree caller events d at_once command moment NoMemory (Seen front' reply') named named' is basis = cc
+  names_agree caller events d at_once command moment NoMemory (Denied front' right') named named' is basis = cc
+  names_agree caller events d at_once command moment NoMemory (Unready front') named named' is basis = cc
 
   module _ (caller : ℕ) (once : Once)
       (leads_once : (events : List Happened) (one other : State) → Leads opening events one → Leads opening events other → one ≡ other)
       (at_once : (events : List Happened) (place : ℕ) (before again : State) (event same : Happened) (one other : Reply) → IsAt opening events place before event one → IsAt opening events place again same other → (event ≡ same) × (before ≡ again) × (one ≡ other))
       (limit : ℕ) (bytes : List ℕ) (coming : ℕ → ℕ) (after after' : Known) (one other : SessionView)
-      (first : Undisturbed (FollowsAsked opening caller after.events) limit bytes coming (known_first opening []) after one) (alone : IsAlone opening caller after.events)
-      (second : Undisturbed (FollowsAsked opening caller after'.events) limit bytes coming (known_first opening []) after' other) (alone' : IsAlone opening caller after'.events)
+      (first : Undisturbed (FollowsAsked (unasked opening caller) after.events) limit bytes coming (known_first opening []) after one) (alone : IsAlone opening caller after.events)
+      (second : Undisturbed (FollowsAsked (unasked opening caller) after'.events) limit bytes coming (known_first opening []) after' other) (alone' : IsAlone opening caller after'.events)
       (seen : SeeAlike one.turns other.turns) where
     abbrev xs : List Exchange
     xs = first.session.asked ++ first.session.final
@@ -395,6 +419,6 @@ module _ (opening : State) (kept_once : (events : List Happened) (one other : Ke
     pub one_text : (one.turns ≡ other.turns) × (one.held ≡ other.held) × AreAlike after.events after'.events
     one_text =
         let out = outcome_same FollowsAny once limit bytes coming (known_first opening []) after (known_first opening []) after' one other
-        (of_any (FollowsAsked opening caller after.events) limit bytes coming (known_first opening []) after one first)
-        (of_any (FollowsAsked opening caller after'.events) limit bytes coming (known_first opening []) after' other second) all_one in
+        (of_any (FollowsAsked (unasked opening caller) after.events) limit bytes coming (known_first opening []) after one first)
+        (of_any (FollowsAsked (unasked opening caller) after'.events) limit bytes coming (known_first opening []) after' other second) all_one in
         (out.0, out.1, alike)

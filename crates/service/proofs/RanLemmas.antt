@@ -1,5 +1,5 @@
 -- What a run comes to, of whatever its words ask.
-use Rattle.std.proofs.Common.{◌≡◌, ◌≢◌, ◌⊎◌, inl, inr, ℕ, List, Option, None, Some, refl, sym, subst, arith, slice_get}
+use Rattle.std.proofs.Common.{◌≡◌, ◌≢◌, ◌⊎◌, inl, inr, ℕ, List, Option, None, Some, refl, sym, ap, subst, arith, slice_get}
 use Rattle.cfg_base.specs.Counts.{Rose}
 use Rattle.command_line.specs.Asked.{Asks}
 use Rattle.command_line.specs.declared.asked.Asked.{Asked}
@@ -9,6 +9,7 @@ use Rattle.commit_ledger.specs.Kept.{Kept}
 use Rattle.stored_ledger.specs.declared.why.StartWhy.{StartWhy}
 use Rattle.stored_ledger.specs.Starting.{Explains, IsByBytes}
 use Rattle.stored_ledger.specs.Stored.{SpellsKept}
+use Rattle.session_threads.specs.Adding.{unready_in}
 use Rattle.service.specs.Modes.{RunsMode}
 use Rattle.service.specs.Run.{WordsAsk, EachEnd, IsAsking, IsFaultless, IsUndone, NothingWasDone}
 use Rattle.service.specs.Running.{IsRunOf, Ran, RanIn, IsServeRun}
@@ -62,13 +63,13 @@ module _ {E T D : Type 0} (see : Views E T D) (SinkAlone : E → E → Type 0) (
   ran_without words is untouched None also = (inr is, untouched)
   ran_without words is untouched (Some other) asks = inl (is, untouched)
 
-  -- without a fault and within the limit mode serve comes to the status 0 or 9
+  -- without a fault and within the limit mode serve comes to the status 0 or 9, and no turn finds a disk not ready
   pub ran_complete : ((a b : List ℕ) (kept : Kept) (why : StartWhy) → SpellsKept a b kept → IsByBytes why → Explains a b why → ⊥)
       → (asked : Asked) → asked.mode ≡ Serve → Ran see SinkAlone (Some asked) before after told
       → HaveNoFault (see.disks before.a before.b) (see.disks after.a after.b)
       → EachEnd (λ old new. IsFaultless asked.limits.input (see.end old) (see.end new)) before.ends after.ends
-      → (told.status ≡ 0) ⊎ (told.status ≡ 9)
-  ran_complete spelled_once asked is (inl undone) sound each = inr undone.0
+      → ((told.status ≡ 0) ⊎ (told.status ≡ 9)) × (unready_in told.turns ≡ 0)
+  ran_complete spelled_once asked is (inl undone) sound each = (inr undone.0, ap unready_in undone.1.idle.no_turns)
   ran_complete spelled_once asked is (inr ran) sound each =
       serves_complete see asked before after told spelled_once
       (subst (λ (m : RunMode). RanIn see SinkAlone m asked before after told) is ran) sound each
@@ -133,6 +134,6 @@ module _ {E T D : Type 0} (see : Views E T D) (SinkAlone : E → E → Type 0) (
   run_without words is untouched = record {
     ran = ran_without words is untouched;
     usage = (λ one. absurd (omega (arith, is, one)), λ both. absurd (both.0 is));
-    complete = λ asked asks serve sound each. inr is;
+    complete = λ asked asks serve sound each. (inr is, ap unready_in untouched.idle.no_turns);
     complete_mode = λ asked asks other disks each. inr is;
   }

@@ -1,5 +1,5 @@
 -- What a run hands back of its sessions.
-use Rattle.std.proofs.Common.{◌≡◌, ◌⊎◌, ◌≤◌, ℕ, zero, suc, List, [], ◌∷◌, length, map, max, replicate, refl, sym, ap, subst, ◌∙◌, arith, Option, None, Some, slice_get, inl, inr}
+use Rattle.std.proofs.Common.{◌≡◌, ◌⊎◌, ◌≤◌, ℕ, Bool, zero, suc, List, [], ◌∷◌, length, map, max, replicate, refl, sym, ap, subst, arith, Option, None, Some, slice_get, inl, inr}
 use Rattle.std.proofs.Math.Nat.{le-max_right}
 use Rattle.std.proofs.lemmas.List.{length-append, length-map, length-replicate}
 use Rattle.std.specs.List.{AllByRecursion}
@@ -63,10 +63,10 @@ within how (Some a) (Some b) limit lines reading fit tells full =
     omega (arith, fit, tells.full.0 full, ap length tells.first.split, length-append tells.first.taken tells.left, ap length tells.is_left, length-append tells.ahead b)
 
 -- how a session ends that no fault disturbs, within the limit
-pub quiet : {E : Type 0} (view : E → EndView) (limit : ℕ) (opening : State) (events : List Happened) (caller : ℕ)
-    (result : SessionResult E) → IsResult view opening limit events caller result
+pub quiet : {E : Type 0} (view : E → EndView) (limit : ℕ) (access : Bool) (opening : State) (events : List Happened) (caller : ℕ)
+    (result : SessionResult E) → IsResult view opening limit access events caller result
     → IsFaultless limit (view result.old) (view result.new) → (result.how ≡ Clean) ⊎ (result.how ≡ NoMemory)
-quiet view limit opening events caller result (inl h) faultless = by_how result.how refl
+quiet view limit access opening events caller result (inl h) faultless = by_how result.how refl
   where
     by_how : (how : How) → how ≡ result.how → (result.how ≡ Clean) ⊎ (result.how ≡ NoMemory)
     by_how Clean at = inl (sym at)
@@ -75,4 +75,4 @@ quiet view limit opening events caller result (inl h) faultless = by_how result.
     by_how InputFull at = absurd (within result.how (view result.old).source.left (view result.new).source.left limit
         h.session.transcript.lines h.session.transcript.reading faultless.fits h.session.transcript.input (sym at))
     by_how NoMemory at = inr (sym at)
-quiet view limit opening events caller result (inr u) faultless = inr u.how
+quiet view limit access opening events caller result (inr u) faultless = inr u.how

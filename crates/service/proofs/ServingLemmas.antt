@@ -1,8 +1,9 @@
 -- A run of mode serve, put together from the start, the sessions and the closing.
-use Rattle.std.proofs.Common.{◌≡◌, ◌⊎◌, ◌≤◌, ◌<◌, ◌+◌, ⊎_elim, ℕ, Bool, true, false, IsTrue, is_some, List, [], ◌++◌, length, map, refl, sym, ap, subst, ◌∙◌, arith, Option, Some, slice_get, inl, inr}
+use Rattle.std.proofs.Common.{◌≡◌, ◌⊎◌, ◌≤◌, ◌<◌, ◌+◌, ⊎_elim, ℕ, zero, suc, Bool, true, false, cond, IsTrue, is_some, List, [], ◌++◌, length, map, refl, sym, ap, subst, ◌∙◌, arith, Some, slice_get, inl, inr}
 use Rattle.std.specs.List.{AllByRecursion}
 use Rattle.std.proofs.lemmas.Bool.{cases_lt}
 use Rattle.std.proofs.lemmas.List.{append-nil, length-map}
+use Rattle.std.proofs.lemmas.List.Sums.{sum_by-append}
 use Rattle.std.specs.Prelude.{IsSome, count_by, ◌^◌, ◌-◌}
 use Rattle.command_line.specs.declared.asked.Asked.{Asked}
 use Rattle.commit_journal.specs.Journal.{Tell, calls_a, calls_b, disk_a, disk_b, disks_of}
@@ -31,13 +32,13 @@ use Rattle.stored_ledger.specs.declared.why.StartWhy.{StartWhy}
 use Rattle.stored_ledger.specs.declared.why.StartWhy.TheVariants.{Exists, NotAJournal, Damaged, BadRecord, DiskFault, NoMemory}
 use Rattle.stored_ledger.specs.Starting.{Explains, IsByBytes, IsFound, IsNotFound}
 use Rattle.stored_ledger.specs.Stored.{SpellsKept}
-use Rattle.session_threads.specs.Adding.{AddsUp}
+use Rattle.session_threads.specs.Adding.{AddsUp, unready_in}
 use Rattle.session_threads.specs.Looks.{HasTicked}
 use Rattle.session_threads.specs.Results.{IsResult, status_of_all}
 use Rattle.session_threads.specs.Served.{AreServed}
 use Rattle.session_threads.proofs.ListLemmas.{All-weaker}
 use Rattle.io_edge.proofs.RoseLemmas.{rose_since}
-use Rattle.session_threads.proofs.LogLemmas.{AddsUp-then}
+use Rattle.session_threads.proofs.LogLemmas.{AddsUp-then, rose_on}
 use Rattle.service.specs.Run.{EachEnd, IsFaultless}
 use Rattle.service.specs.ServedOver.{IsServedOver, status_over}
 use Rattle.service.specs.Running.{IsServeRun}
@@ -72,6 +73,18 @@ rose_once_more many p q r fell (inr (inr rises)) (inl (inr full)) = inl (omega (
 rose_once_more many p q r fell (inr (inr rises)) (inr (inl up)) = inr (inr (omega (arith, rises, up, fell.0)))
 rose_once_more many p q r fell (inr (inr rises)) (inr (inr full)) = inr (inl (omega (arith, full, fell.1)))
 
+-- counts that rose by so many rose so since a moment before, too
+rose_before : (many : ℕ) (p q r : DiskPair) → NoneFell p q → RoseBy many q r → RoseBy many p r
+rose_before many p q r fell (inl full) = inl full
+rose_before many p q r fell (inr (inl full)) = inr (inl full)
+rose_before many p q r fell (inr (inr rises)) = inr (inr (omega (arith, rises, fell.0, fell.1)))
+
+-- counts that didn't rise rose by none
+none_rose : (many more : ℕ) (p q : DiskPair) → NoneFell p q → (FaultOnEither p q → ⊥) → RoseBy (many + more) p q → more ≡ 0
+none_rose many zero p q fell quiet rose = refl
+none_rose many (suc more) p q fell quiet rose =
+    absurd (quiet (rose_by_more (many + more) p q fell (subst (λ n. RoseBy n p q) (omega arith) rose)))
+
 -- the status at the end, of the status that the sessions came to
 status_over_is : (fault : Bool) (status : ℕ) (hows : List How) → status ≡ status_of_all hows → status_over fault status ≡ status_at_end fault hows
 status_over_is true status hows is = refl
@@ -95,7 +108,7 @@ refused_for_memory spelled_once before after NoMemory not sound = inr refl
 
 -- calls from a number on are calls from 0 on
 called_from : (h h' : DiskHistory) (m number : ℕ) → m ≡ 0 → CallsOn h h' m number → HasCalled h h' number
-called_from h h' m number zero (more, goes, told) = (more, goes, λ few. let is : number ≡ m + length more = told few (omega (arith, zero)) in omega (arith, zero, is))
+called_from h h' m number at_0 (more, goes, told) = (more, goes, λ few. let is : number ≡ m + length more = told few (omega (arith, at_0)) in omega (arith, at_0, is))
 
 zero_first : (b : Bool) (m n : ℕ) → m ≡ 0 → n ≡ 0 → first_of b m n ≡ 0
 zero_first true m n one two = two
@@ -115,7 +128,7 @@ module _ {E T D : Type 0} (see : Views E T D) (asked : Asked) (before after : Wo
 
   module _ (first : DatabaseView) (theirs : map (λ end. (see.end end).user) before.ends ≡ asked.users)
       (begun : IsBegun given asked.users asked.limits.journal first)
-      (over : IsServedOver see asked.limits.input before.ends before.ticker first after told)
+      (over : IsServedOver see asked.limits.input asked.access before.ends before.ticker first after told)
       (one_state : (kept : Kept) (users : List (List ℕ)) (events : List Happened) (one other : State) → Leads (opening_of kept users) events one → Leads (opening_of kept users) events other → one ≡ other) where
     abbrev v : DatabaseView
     v = over.v
@@ -135,7 +148,7 @@ module _ {E T D : Type 0} (see : Views E T D) (asked : Asked) (before after : Wo
     handed : IsHandedBack last told.history back
     handed = over.closes.handed
 
-    abbrev served : AreServed see.end asked.limits.input first before.ends (see.ticker before.ticker)
+    abbrev served : AreServed see.end asked.limits.input asked.access first before.ends (see.ticker before.ticker)
         (record { ends = after.ends; ticker = see.ticker after.ticker; turns = told.turns; database = v; status = over.status })
     served = over.served
 
@@ -154,17 +167,17 @@ module _ {E T D : Type 0} (see : Views E T D) (asked : Asked) (before after : Wo
     nobodys : AllByRecursion (λ (event : Happened). event.caller ≡ 0) settles.own
     nobodys = All-weaker _ (λ (event : Happened). event.caller ≡ 0) settles.own (λ event made. made.0) settles.extends.made
 
-    sessions : HaveSessions see.end opening asked.limits.input before.ends after.ends told.turns told.history.events.items hows
+    sessions : HaveSessions see.end opening asked before.ends after.ends told.turns told.history.events.items hows
     sessions = record {
       results = served.results;
       old = served.old;
       new = served.new;
       turned = served.turned;
       ended = refl;
-      each = λ k result is. subst (λ l. IsResult see.end opening asked.limits.input l (k + 1) result) (sym events_are)
-          (longer see.end opening asked.limits.input v.events settles.own (k + 1) result (not_theirs (k + 1) 0 settles.own (λ none. omega (arith, none)) nobodys)
-          (subst (λ o. IsResult see.end o asked.limits.input v.events (k + 1) result) opens_first
-          (EachFrom-at (IsResult see.end (opened first) asked.limits.input v.events) 1 served.results k (k + 1) result served.each is (omega arith))));
+      each = λ k result is. subst (λ l. IsResult see.end opening asked.limits.input asked.access l (k + 1) result) (sym events_are)
+          (longer see.end opening asked.limits.input asked.access v.events settles.own (k + 1) result (not_theirs (k + 1) 0 settles.own (λ none. omega (arith, none)) nobodys)
+          (subst (λ o. IsResult see.end o asked.limits.input asked.access v.events (k + 1) result) opens_first
+          (EachFrom-at (IsResult see.end (opened first) asked.limits.input asked.access v.events) 1 served.results k (k + 1) result served.each is (omega arith))));
     }
 
     as_many_users : length before.ends ≡ length asked.users
@@ -200,7 +213,7 @@ module _ {E T D : Type 0} (see : Views E T D) (asked : Asked) (before after : Wo
     fronts : AllByRecursion (FrontsGo first.opening.count last.state.kept.count) told.turns
     fronts = subst (AllByRecursion (FrontsGo first.opening.count last.state.kept.count)) sessions.turned
         (each_turns (FrontsGo first.opening.count last.state.kept.count) sessions.results (λ k result is.
-        result_fronts see.end asked.limits.input opening told.history.events.items last.state.kept.count
+        result_fronts see.end asked.limits.input asked.access opening told.history.events.items last.state.kept.count
         (λ kept was. WasKept-last_count opening (one_state first.opening asked.users) told.history.events.items last.state kept leads_last was) (k + 1) result (sessions.each k result is)))
 
     tells_a : back.a.tells ≡ given.a.tells
@@ -255,7 +268,21 @@ module _ {E T D : Type 0} (see : Views E T D) (asked : Asked) (before after : Wo
     counted = subst (λ l. FaultsAreCounted l given back) (sym events_are)
         (subst (λ (d : DiskPair). FaultsAreCounted (v.events ++ settles.own) given d) (sym handed.disks_are) (counted_by (v.events ++ settles.own) last whole))
 
-    causes : HaveCauses given back told.history.events.items
+    -- and neither are those commands together with the turns that found a disk not ready, of which the closing has none
+    unready : RoseBy (count_by is_failed_command told.history.events.items + unready_in told.turns) given back
+    unready =
+        let both : count_by is_failed_command (v.events ++ settles.own) ≡ count_by is_failed_command v.events + count_by is_failed_command settles.own =
+        sum_by-append (λ (event : Happened). cond (is_failed_command event) 1 0) v.events settles.own in
+        let many : (count_by is_failed_command v.events + unready_in told.turns) + count_by is_failed_command settles.own ≡ count_by is_failed_command (v.events ++ settles.own) + unready_in told.turns =
+        omega (arith, both) in
+        subst (λ l. RoseBy (count_by is_failed_command l + unready_in told.turns) given back) (sym events_are)
+        (subst (λ (d : DiskPair). RoseBy (count_by is_failed_command (v.events ++ settles.own) + unready_in told.turns) given d) (sym handed.disks_are)
+        (subst (λ n. RoseBy n given (disks_of last.journal)) many
+        (rose_before ((count_by is_failed_command v.events + unready_in told.turns) + count_by is_failed_command settles.own) given (disks_of first.journal) (disks_of last.journal) to_start
+        (rose_on (count_by is_failed_command v.events + unready_in told.turns) (count_by is_failed_command settles.own) (disks_of first.journal) (disks_of v.journal) (disks_of last.journal)
+        (settles.extends.goes.faults_a, settles.extends.goes.faults_b) served.noted settles.extends.counted.commands))))
+
+    causes : HaveCauses given back told.history.events.items told.turns
     causes = record {
       later = (omega (arith, to_start.0, from_start.0), omega (arith, to_start.1, from_start.1));
       causes = subst (AllByRecursion (λ (event : Happened). event.outcome ≡ Fault → FaultOnEither given back)) (sym events_are)
@@ -263,6 +290,7 @@ module _ {E T D : Type 0} (see : Views E T D) (asked : Asked) (before after : Wo
           (λ event cause fault. rose_later given (disks_of first.journal) back to_start from_start
           (subst (FaultOnEither (disks_of first.journal)) (sym handed.disks_are) (cause fault))) whole.causes);
       counted = counted;
+      unready = unready;
     }
 
     -- one call more failed than the events account for, where an entry is in flight still
@@ -312,12 +340,12 @@ module _ {E T D : Type 0} (see : Views E T D) (asked : Asked) (before after : Wo
       → (told.status ≡ 0) ⊎ (told.status ≡ 9)
   served_quietly served sound each = subst (λ n. (n ≡ 0) ⊎ (n ≡ 9)) (sym served.ended.status_is) (by_flight (is_some served.happened.last.flight) refl)
     where
-      s : HaveSessions see.end (opening_of served.kept asked.users) asked.limits.input before.ends after.ends told.turns told.history.events.items served.hows
+      s : HaveSessions see.end (opening_of served.kept asked.users) asked before.ends after.ends told.turns told.history.events.items served.hows
       s = served.sessions
 
       each_quiet : (status_of_all served.hows ≡ 0) ⊎ (status_of_all served.hows ≡ 9)
       each_quiet = subst (λ hows. (status_of_all hows ≡ 0) ⊎ (status_of_all hows ≡ 9)) s.ended (quiet_status s.results (λ k result is.
-          quiet see.end asked.limits.input (opening_of served.kept asked.users) told.history.events.items (k + 1) result (s.each k result is)
+          quiet see.end asked.limits.input asked.access (opening_of served.kept asked.users) told.history.events.items (k + 1) result (s.each k result is)
           (each k result.old result.new (subst (λ l. slice_get l k ≡ Some result.old) s.old (slice_get-map (λ r. r.old) s.results k result is))
           (subst (λ l. slice_get l k ≡ Some result.new) s.new (slice_get-map (λ r. r.new) s.results k result is)))))
 
@@ -326,10 +354,15 @@ module _ {E T D : Type 0} (see : Views E T D) (asked : Asked) (before after : Wo
       by_flight false is = each_quiet
 
   module _ (spelled_once : (a b : List ℕ) (kept : Kept) (why : StartWhy) → SpellsKept a b kept → IsByBytes why → Explains a b why → ⊥) where
-    -- without a fault and within the limit the status is 0 or 9
+    -- without a fault and within the limit the status is 0 or 9, and no turn finds a disk not ready
     pub serves_complete : IsServeRun see asked before after told → HaveNoFault given back
         → EachEnd (λ old new. IsFaultless asked.limits.input (see.end old) (see.end new)) before.ends after.ends
-        → (told.status ≡ 0) ⊎ (told.status ≡ 9)
-    serves_complete (inl refused) sound each = subst (λ n. (n ≡ 0) ⊎ (n ≡ 9)) (sym refused.status_is)
-        (refused_for_memory spelled_once given back refused.cause refused.disks sound)
-    serves_complete (inr served) sound each = served_quietly served sound each
+        → ((told.status ≡ 0) ⊎ (told.status ≡ 9)) × (unready_in told.turns ≡ 0)
+    serves_complete (inl refused) sound each = (
+      subst (λ n. (n ≡ 0) ⊎ (n ≡ 9)) (sym refused.status_is) (refused_for_memory spelled_once given back refused.cause refused.disks sound),
+      ap unready_in refused.idle.no_turns,
+    )
+    serves_complete (inr served) sound each = (
+      served_quietly served sound each,
+      none_rose (count_by is_failed_command told.history.events.items) (unready_in told.turns) given back served.causes.later sound.no_fault served.causes.unready,
+    )

@@ -1,5 +1,5 @@
 -- Histories that one caller made alone, in which no disk failed. This project's own.
-use Rattle.std.specs.Prelude.{◌≡◌, ℕ, List, map, Bool, true, false}
+use Rattle.std.specs.Prelude.{◌≡◌, ℕ, List, map, Bool, true, false, None}
 use Rattle.std.specs.List.{AllByRecursion}
 use Rattle.config_core.specs.declared.event.Event.{Event}
 use Rattle.config_core.specs.declared.event.Event.TheVariants.{Settle, Revert, Command as CommandOf}
@@ -7,6 +7,11 @@ use Rattle.config_core.specs.declared.event.Outcome.TheVariants.{Done}
 use Rattle.config_core.specs.State.{State}
 use Rattle.session_history.specs.declared.history.Happened.{Happened}
 use Rattle.session_history.specs.Events.{IsLegal}
+use Rattle.session_threads.specs.Access.{Asker}
+
+-- a caller of a run whose words ask for nobody's rights
+abbrev pub unasked : State → ℕ → Asker
+unasked opening caller = record { opening = opening; caller = caller; asks = None }
 
 -- an event settles what is in flight
 abbrev pub is_settling : Event → Bool

@@ -5,6 +5,7 @@ use Rattle.command_line.specs.Asked.{Asks}
 use Rattle.command_line.specs.declared.asked.Asked.{Asked}
 use Rattle.command_line.specs.declared.asked.RunMode.{RunMode}
 use Rattle.command_line.specs.declared.asked.RunMode.TheVariants.{Init, Serve, Check, Gen}
+use Rattle.session_threads.specs.Adding.{unready_in}
 use Rattle.service.specs.Modes.{RunsMode}
 use Rattle.service.specs.Run.{WordsAsk, EachEnd, IsAsking, IsFaultless, IsUsageRefused, IsUndone}
 use Rattle.service.specs.Serving.{HasDisksFor, HaveNoFault, IsNotStarted, IsServed}
@@ -34,11 +35,11 @@ pub record IsRunOf {E T D : Type 0} (see : Views E T D) (SinkAlone : E → E →
   pub ran : (asked : Option Asked) → WordsAsk words asked → Ran see SinkAlone asked before after told
   pub usage : (told.status ≡ 1) ↔ ((told.status ≢ 9) × (IsAsking words → ⊥))
   -- where the disks spell a list, no disk, no source and no sink has a fault, and each input is told and within the limit, all
-  -- sessions end clean
+  -- sessions end clean, and no turn finds a disk not ready
   pub complete : (asked : Asked) → Asks words asked → asked.mode ≡ Serve
       → HaveNoFault (see.disks before.a before.b) (see.disks after.a after.b)
       → EachEnd (λ old new. IsFaultless asked.limits.input (see.end old) (see.end new)) before.ends after.ends
-      → (told.status ≡ 0) ⊎ (told.status ≡ 9)
+      → ((told.status ≡ 0) ⊎ (told.status ≡ 9)) × (unready_in told.turns ≡ 0)
   -- in each other mode, where the disks are such as it needs, and no disk and no sink has a fault, what was asked is done
   pub complete_mode : (asked : Asked) → Asks words asked → asked.mode ≢ Serve
       → HasDisksFor asked.mode (see.disks before.a before.b) (see.disks after.a after.b)

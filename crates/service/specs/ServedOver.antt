@@ -11,13 +11,13 @@ abbrev pub status_over : Bool → ℕ → ℕ
 status_over true status = 4
 status_over false status = status
 
--- all sessions were served over a database, and it was closed
-pub record IsServedOver {E T D : Type 0} (see : Views E T D) (limit : ℕ) (ends : List E) (ticker : T) (first : DatabaseView)
-    (after : World E T D) (told : Told) : Type 0 where
+-- all sessions were served over a database, with rights asked of each command or not, and it was closed
+pub record IsServedOver {E T D : Type 0} (see : Views E T D) (limit : ℕ) (access : Bool) (ends : List E) (ticker : T)
+    (first : DatabaseView) (after : World E T D) (told : Told) : Type 0 where
   pub v : DatabaseView
   pub status : ℕ
   pub fault : Bool
-  pub served : AreServed see.end limit first ends (see.ticker ticker) (record {
+  pub served : AreServed see.end limit access first ends (see.ticker ticker) (record {
     ends = after.ends;
     ticker = see.ticker after.ticker;
     turns = told.turns;

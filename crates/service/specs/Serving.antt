@@ -29,6 +29,7 @@ use Rattle.session_shell.specs.Transcript.{EndView}
 use Rattle.stored_ledger.specs.declared.why.StartWhy.{StartWhy}
 use Rattle.stored_ledger.specs.Starting.{IsFound, IsNotFound}
 use Rattle.stored_ledger.specs.Stored.{HoldsKept, SpellsKept}
+use Rattle.session_threads.specs.Adding.{unready_in}
 use Rattle.session_threads.specs.Looks.{HasTicked, TickerView}
 use Rattle.session_threads.specs.Results.{IsResult, SessionResult, status_of_all}
 use Rattle.service.specs.Run.{NothingHappened}
@@ -45,8 +46,9 @@ pub record IsNotStarted {E T D : Type 0} (see : Views E T D) (before after : Wor
   pub ticker_same : after.ticker ≡ before.ticker
   pub disks : IsNotFound (see.disks before.a before.b) cause (see.disks after.a after.b)
 
--- the sessions of these ends, as callers 1, 2 and so on, over these events: they ended so
-pub record HaveSessions {E : Type 0} (view : E → EndView) (opening : State) (limit : ℕ) (ends ends' : List E)
+-- the sessions of these ends, as callers 1, 2 and so on, over these events: they ended so; their users' rights are asked of each
+-- command where the words ask for that
+pub record HaveSessions {E : Type 0} (view : E → EndView) (opening : State) (asked : Asked) (ends ends' : List E)
     (turns : List (List Turn)) (events : List Happened) (hows : List How) : Type 0 where
   pub results : List (SessionResult E)
   pub old : map (λ result. result.old) results ≡ ends
@@ -54,7 +56,7 @@ pub record HaveSessions {E : Type 0} (view : E → EndView) (opening : State) (l
   pub turned : map (λ result. result.turns) results ≡ turns
   pub ended : map (λ result. result.how) results ≡ hows
   pub each : (k : ℕ) (result : SessionResult E) → slice_get results k ≡ Some result
-      → IsResult view opening limit events (k + 1) result
+      → IsResult view opening asked.limits.input asked.access events (k + 1) result
 
 -- the lists of commits by which turns were answered without an event have no fewer entries from turn to turn, none less than so
 -- many, and none more than so many
@@ -106,10 +108,12 @@ pub record AreStored (before start : DiskPair) (opening last : State) (happened 
 
 -- an event has the outcome of a fault only where a disk's count of faults rose in this run, and no count falls; the commands
 -- that have it are at most as many as the counts rose by, and so are the other events
-pub record HaveCauses (before after : DiskPair) (events : List Happened) : Type 0 where
+pub record HaveCauses (before after : DiskPair) (events : List Happened) (turns : List (List Turn)) : Type 0 where
   pub later : NoneFell before after
   pub causes : AllByRecursion (λ event. event.outcome ≡ Fault → FaultOnEither before after) events
   pub counted : FaultsAreCounted events before after
+  -- and so are those commands together with the turns of all sessions that found a disk not ready
+  pub unready : RoseBy (count_by is_failed_command events + unready_in turns) before after
 
 -- the status of a run whose sessions ended so, by whether an entry is in flight at its end
 abbrev pub status_at_end : Bool → List How → ℕ
@@ -130,14 +134,14 @@ pub record IsServed {E T D : Type 0} (see : Views E T D) (asked : Asked) (before
   pub start : DiskPair
   pub found : IsFound (see.disks before.a before.b) start kept
   pub hows : List How
-  pub sessions : HaveSessions see.end (opening_of kept asked.users) asked.limits.input before.ends after.ends told.turns
+  pub sessions : HaveSessions see.end (opening_of kept asked.users) asked before.ends after.ends told.turns
       told.history.events.items hows
   pub happened : HasHappened kept asked.users (see.ticker before.ticker) (see.ticker after.ticker) told.history
   -- what each session was shown has no fewer entries than the list at the opening, and no more than that at the end
   pub fronts : AllByRecursion (FrontsGo kept.count happened.last.kept.count) told.turns
   pub stored : AreStored (see.disks before.a before.b) start (opening_of kept asked.users) happened.last told.history
       (see.disks after.a after.b)
-  pub causes : HaveCauses (see.disks before.a before.b) (see.disks after.a after.b) told.history.events.items
+  pub causes : HaveCauses (see.disks before.a before.b) (see.disks after.a after.b) told.history.events.items told.turns
   pub ended : IsEnded (see.disks before.a before.b) (see.disks after.a after.b) happened.last told.history.events.items hows
       told.status
   pub why : told.why ≡ NoWhy

@@ -11,7 +11,7 @@ ghost use Rattle.session_history.specs.declared.history.History.{History};
 ghost use Rattle.session_shell.specs.Law.{Agree, SeeAlike, Undisturbed};
 ghost use Rattle.session_shell.specs.Transcript.{SessionView};
 ghost use Rattle.session_threads.specs.History.{FollowsAsked, IsKeptThen, Known, Names, ShowsKept, known_first};
-ghost use Rattle.service.specs.Alone.{AreAlike, IsAlone};
+ghost use Rattle.service.specs.Alone.{AreAlike, IsAlone, unasked};
 ghost use Rattle.service.specs.Generating.{IsGenerated};
 
 use config_core::steps_have_one_outcome;
@@ -22,17 +22,17 @@ use json_text::texts_have_one_answer;
 use session_history::histories_have_one_outcome;
 use shell_words::lines_are_read_in_one_way;
 
-/// Two sessions over the same bytes and the same clock that nothing disturbs, that each made all the events of their history
-/// while no disk failed, and of which the same turns were answered from views of as many entries, have the same turns and the
-/// same text, and their histories are one but for the numbers of calls, which are the disks'. At a place a history names one
-/// reply, and of so many entries a run names one reply to a show.
+/// In a run whose words don't ask for rights: two sessions over the same bytes and the same clock that nothing disturbs, that
+/// each made all the events of their history while no disk failed, and of which the same turns were answered from views of as
+/// many entries, have the same turns and the same text, and their histories are one but for the numbers of calls, which are the
+/// disks'. In any run a history names one reply at a place, and of so many entries a run names one reply to a show.
 pub fn sessions_have_one_text()
     ensures alone { (kept : Kept) (users : List (List ℕ)) (caller limit : ℕ) (bytes : List ℕ) (coming : ℕ → ℕ)
         (after after' : Known) (one other : SessionView)
-        → Undisturbed (FollowsAsked (opening_of kept users) caller after.events) limit bytes coming
+        → Undisturbed (FollowsAsked (unasked (opening_of kept users) caller) after.events) limit bytes coming
         (known_first (opening_of kept users) []) after one
         → IsAlone (opening_of kept users) caller after.events
-        → Undisturbed (FollowsAsked (opening_of kept users) caller after'.events) limit bytes coming
+        → Undisturbed (FollowsAsked (unasked (opening_of kept users) caller) after'.events) limit bytes coming
         (known_first (opening_of kept users) []) after' other
         → IsAlone (opening_of kept users) caller after'.events
         → SeeAlike one.turns other.turns

@@ -97,7 +97,8 @@ fn status_over(fault: bool, status: u8) -> u8
     if fault { 4 } else { status }
 }
 
-/// Serves the sessions of ends for which there is room, over a database in which nothing happened yet, and closes it.
+/// Serves the sessions of ends for which there is room, over a database in which nothing happened yet, and closes it. The rights
+/// of each end's user are asked of each command, or aren't.
 fn serve<R, S, K, C, B, D, J>(
     rt: &R,
     alloc: Global,
@@ -106,6 +107,7 @@ fn serve<R, S, K, C, B, D, J>(
     ends: Vec<End<S, K, C>>,
     limits: Limits,
     keeps: bool,
+    access: bool,
     ticker: Ticker<B, C>,
 ) -> Closed<S, K, C, B, D>
 where
@@ -122,7 +124,7 @@ where
     requires few { length ends.items ≤ 64 }
     requires readers { HasReaders database.opening (length ends.items) database.readers }
     ensures { let see : Views _ _ _ = views S.view K.view C.coming B.coming D.view in
-        IsServedOver see limits.input ends.items ticker database (world_of result) (told_of result) }
+        IsServedOver see limits.input access ends.items ticker database (world_of result) (told_of result) }
 {
     let Sessions {
         database,
@@ -130,7 +132,9 @@ where
         turns,
         ticker,
         status,
-    } = serve_all(rt, alloc, database, room, ends, limits, keeps, ticker);
+    } = serve_all(
+        rt, alloc, database, room, ends, limits, keeps, access, ticker,
+    );
     let ClosedBook {
         history,
         fault,
@@ -181,6 +185,7 @@ where
 {
     histories_have_one_outcome();
     let limits = asked.limits;
+    let access = asked.access;
     match Database::<D, J>::start(
         alloc,
         shelf,
@@ -191,7 +196,9 @@ where
         limits,
         keeps,
     ) {
-        Ok(database) => serve(rt, alloc, database, room, ends, limits, keeps, ticker),
+        Ok(database) => serve(
+            rt, alloc, database, room, ends, limits, keeps, access, ticker,
+        ),
         Err(fault) => {
             room.destroy_empty();
             refused(alloc, fault, ends, ticker)
