@@ -32,6 +32,9 @@ fn say_asked(out: &mut Text, asked: &Asked) {
     out.put_number(asked.limits.input);
     out.put(" journal ");
     out.put_number(asked.limits.journal);
+    if asked.access {
+        out.put(" access");
+    }
     out.put("\n");
 }
 
