@@ -2,8 +2,8 @@
 # Shows of the active configuration a second, by 1 and by 4 sessions at once, alone and beside a session each of whose commits is kept
 # on the disk, and what that session keeps of the rate that it has alone. A show takes no turn, so none waits for a commit. What shows
 # keep beside commits of another service, which shares nothing with theirs but the machine, is reported beside it. One line has the shows a
-# second of a session that is asked and answers over named pipes. The folder named, or this one, decides which file system keeps the
-# commits.
+# second of a session that is asked and answers over named pipes. Two have those of a user with a class, with rights and without: a show
+# costs at most a tenth more with them. The folder named, or this one, decides which file system keeps the commits.
 set -eu
 place=$(cd "${1:-.}" && pwd)
 . "$(dirname "$0")/measure.sh"
@@ -34,6 +34,20 @@ journal() {
     mkdir "$1"
     "$program" init "$1" > "$work/output"
     printf 'configure\nset system host-name r1\ncommit\n' | "$program" serve "$1" > "$work/output"
+}
+
+# a new journal, with one commit of so many interfaces, and of a user with a class that may see all
+journal_of_class() {
+    local number
+    mkdir "$1"
+    "$program" init "$1" > "$work/output"
+    {
+        printf 'configure\nset system login class seer permissions view-configuration\nset system login user reader class seer\n'
+        for ((number = 1; number <= $2; number++)); do
+            printf 'set interfaces ge-0/0/%d description "turn"\n' "$number"
+        done
+        echo commit
+    } | "$program" serve "$1" > "$work/output"
 }
 
 # how many interrupts of devices each processor has taken
@@ -119,6 +133,26 @@ piped() {
     echo $(($1 * 1000000000 / (ended - begun)))
 }
 
+# shows a second of a session of a user with a class, with so many, over so many interfaces, and with the words that follow
+by_class() {
+    local each=$1 interfaces=$2 begun service
+    shift 2
+    rm -rf "$folder"/* "$work"/reader*
+    journal_of_class "$folder/journal" "$interfaces"
+    shows "$each" > "$work/reader"
+    begun=$(date +%s.%N)
+    "$program" --input "$input" "$@" serve "$folder/journal" "reader:$work/reader" &
+    service=$!
+    if [ "${#free[@]}" -gt 0 ]; then
+        place_sessions "$service" "${free[0]}"
+    fi
+    if ! wait "$service" || grep -q error "$work/reader.out"; then
+        echo "a line was refused" >&2
+        exit 1
+    fi
+    stat -c %.9Y "$work/reader.out" | awk -v begun="$begun" -v shows="$each" '{ printf "%.0f\n", shows / ($1 - begun) }'
+}
+
 # of five rates that were noted the one in the middle
 middle() {
     sort -n "$work/$1" | sed -n 3p
@@ -154,6 +188,18 @@ for readers in 1 4; do
         printf "%d that show: %d shows a second, beside commits %d, ratio %.2f, beside those of another service %d, ratio %.2f; ",
             readers, few, both, both / few, apart, apart / few
         printf "commits %d a second, beside shows %d, ratio %.2f\n", alone, beside, beside / alone }'
+done
+# with rights and without, over the same journal, in turns: a session of some two seconds
+for interfaces in 0 64; do
+    rm -f "$work"/*.rates
+    each=$((2 * $(by_class 20000 "$interfaces")))
+    for round in 1 2 3 4 5; do
+        by_class "$each" "$interfaces" >> "$work/without.rates"
+        by_class "$each" "$interfaces" --access >> "$work/with.rates"
+    done
+    awk -v interfaces="$interfaces" -v without="$(middle without.rates)" -v with="$(middle with.rates)" 'BEGIN {
+        printf "one that shows, of a class, interfaces %d: %d shows a second, with rights %d, ratio %.2f\n",
+            interfaces, without, with, with / without }'
 done
 few=$(piped 200000)
 echo "over pipes: $(piped $((3 * few))) shows a second"

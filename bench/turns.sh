@@ -3,7 +3,7 @@
 # Turns are taken one at a time, so several sessions make no more of them than one does: the ratios show what waiting for one another
 # costs, by the clock and in the processor's time. After them stands when the first session had ended, of the time that the last one
 # took: no session that waits is left behind. Then the commits once more beside as many busy processes as there are processors, and by
-# one session beside 63 that are idle, since a run has at most 64.
+# one session beside 63 that are idle, since a run has at most 64. Last those of one session whose user has a class, with rights by without.
 set -eu
 # also where what is printed is taken
 shopt -s inherit_errexit
@@ -12,6 +12,9 @@ shopt -s inherit_errexit
 patience=900
 # the busy processes
 spinning=()
+# lines of what is configured besides, and words of a run besides
+login=
+options=()
 trap 'stop_spinning; rm -rf "$work"' EXIT
 
 # a session that shows its candidate so many times
@@ -54,7 +57,7 @@ journal() {
     mkdir "$work/journal"
     "$program" init "$work/journal" > "$work/output"
     {
-        printf 'configure\nset system host-name r1\n'
+        printf 'configure\nset system host-name r1\n%s' "$login"
         for ((number = 1; number <= 64; number++)); do
             printf 'set interfaces ge-0/0/%d description "turn"\n' "$number"
         done
@@ -65,7 +68,7 @@ journal() {
 # serves the sessions of these words, and notes the processor's time, in seconds
 serve_timed() {
     local TIMEFORMAT='%U %S'
-    { time "$program" serve "$work/journal" "$@" 2> "$work/errors"; } 2> "$work/spent"
+    { time "$program" "${options[@]}" serve "$work/journal" "$@" 2> "$work/errors"; } 2> "$work/spent"
 }
 
 # the turns a second since that moment, when the first session had ended, of the time that the last one took, and the nanoseconds of
@@ -167,3 +170,16 @@ start_spinning
 compare_rates "commits beside ${#spinning[@]} busy processes" commits 2560 1 64
 print_ratios "the same, one session, by one on free processors" "$one" "$alone"
 stop_spinning
+login='set system login class member permissions [ configure view-configuration interface-control ]
+set system login user user1 class member
+'
+for kind in shows commits; do
+    options=()
+    rounds=2560
+    [ "$kind" = commits ] || rounds=128000
+    one=$(best_of_three rate "$kind" 1 "$rounds")
+    options=(--access)
+    now=$(best_of_three rate "$kind" 1 "$rounds")
+    print_ratios "$kind, one session of a class, without rights" "$one" "$one"
+    print_ratios "$kind, the same with rights" "$now" "$one"
+done
