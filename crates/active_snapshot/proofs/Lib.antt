@@ -1,5 +1,5 @@
 mod AddingLemmas
-mod PrefixLemmas
+pub mod PrefixLemmas
 mod PublishLemmas
 mod ReadLemmas
 pub mod SendLemmas

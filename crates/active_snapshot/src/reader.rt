@@ -213,6 +213,13 @@ impl<J: Naming> SnapReader<J> {
         }
     }
 
+    /// How many views there are, up to the kept one.
+    pub fn kept(&self) -> u64
+        ensures { result ≡ length self.now.list }
+    {
+        self.slot.len()
+    }
+
     /// Whether all that was read is in the list that a note reports.
     pub fn is_within(&self, note: &SnapNote<J>) -> bool
         ensures within { result ≡ true → IsPrefix self.now.list note.now.list }
