@@ -1,14 +1,24 @@
-//! The rights that a command needs.
+//! The rights that a command needs, and which of them is missing.
 
-ghost use Rattle.std.specs.Prelude.{◌≡◌, ◌≢◌, true, false, [], ◌∷◌, ◌++◌, IfOk, option_map};
-ghost use Rattle.access_rules.specs.Needs.{alter_needs, changed_words, form_needs, needs_of, replace_needs, see_needs, top_word};
+ghost use Rattle.std.specs.Prelude.{◌≡◌, ◌≢◌, true, false, [], ◌∷◌, ◌++◌, option_map};
+ghost use Rattle.access_rules.specs.Needs.{alter_needs, changed_words, first_missing, form_needs, needs_of, see_needs, top_word};
 ghost use Rattle.access_rules.specs.declared.right.Right.TheVariants.{Configure};
 
 use crate::right::Right;
+use crate::rights::Rights;
 use crate::section::{Section, section_of};
-use cfg_base::{NoMemory, Path, Words};
+use cfg_base::{Path, Words};
 use commands::{Command, Form, Op};
-use std::alloc::Global;
+
+/// The first word of the statement at the top that words are of.
+fn first_word(words: &Words) -> Option<&[u8]>
+    ensures { option_map (λ word. word.now) result ≡ top_word [] words.now }
+{
+    match words.as_slice() {
+        [word, ..] => Some(word.as_bytes()),
+        [] => None,
+    }
+}
 
 /// The first word of the statement at the top that words from a level on are of.
 fn top_word<'a>(level: &'a Path, words: &'a Words) -> Option<&'a [u8]>
@@ -16,10 +26,7 @@ fn top_word<'a>(level: &'a Path, words: &'a Words) -> Option<&'a [u8]>
 {
     match level.steps() {
         [step, ..] => Some(step.head.as_bytes()),
-        [] => match words.as_slice() {
-            [word, ..] => Some(word.as_bytes()),
-            [] => None,
-        },
+        [] => first_word(words),
     }
 }
 
@@ -39,93 +46,90 @@ fn changed_words(op: &Op) -> &Words
     }
 }
 
-/// What is needed to see statements at the top that a word begins; without a word all.
-fn see_needs(alloc: Global, word: Option<&[u8]>) -> Result<Vec<Right>, NoMemory>
-    ensures { IfOk result (λ needs. needs.items ≡ see_needs (option_map (λ word. word.now) word.entry)) }
-{
-    match word {
-        None => Ok(Vec::from_slice(
-            alloc,
-            &[
+impl Rights {
+    /// The first of these rights that isn't among them.
+    fn first_missing(&self, needs: &[Right]) -> Option<Right>
+        ensures { result ≡ first_missing self.now needs.now }
+    {
+        needs.iter().copied().find(|&right| !self.has(right))
+    }
+
+    /// What is missing to see statements at the top that a word begins; without a word all.
+    fn missing_to_see(&self, word: Option<&[u8]>) -> Option<Right>
+        ensures { result ≡ first_missing self.now (see_needs (option_map (λ word. word.now) word.entry)) }
+    {
+        match word {
+            None => self.first_missing(&[
                 Right::See(Section::System),
                 Right::See(Section::Interface),
                 Right::See(Section::Routing),
                 Right::See(Section::Firewall),
-            ],
-        )?),
-        Some(word) => match section_of(word) {
-            Some(section) => Ok(Vec::from_slice(alloc, &[Right::See(section)])?),
-            None => Ok(Vec::new(alloc)),
-        },
-    }
-}
-
-/// What a show needs.
-fn show_needs(alloc: Global, word: Option<&[u8]>, form: Form) -> Result<Vec<Right>, NoMemory>
-    ensures { IfOk result (λ needs. needs.items ≡ form_needs form ++ see_needs (option_map (λ word. word.now) word.entry)) }
-{
-    let seen = see_needs(alloc, word)?;
-    match form {
-        Form::Curly | Form::SetLines => Ok(seen),
-        Form::Inherited => {
-            let mut needs = Vec::from_slice(alloc, &[Right::See(Section::System)])?;
-            needs.extend_from_slice(&seen)?;
-            Ok(needs)
+            ]),
+            Some(word) => match section_of(word) {
+                Some(section) => self.first_missing(&[Right::See(section)]),
+                None => None,
+            },
         }
     }
-}
 
-/// What a change needs of statements at the top that a word begins.
-fn change_needs(alloc: Global, word: Option<&[u8]>) -> Result<Vec<Right>, NoMemory>
-    ensures { IfOk result (λ needs. needs.items ≡ Configure ∷ alter_needs (option_map (λ word. word.now) word.entry)) }
-{
-    let mut needs = Vec::from_slice(alloc, &[Right::Configure])?;
-    let Some(word) = word else {
-        return Ok(needs);
-    };
-    if let Some(section) = section_of(word) {
-        needs.push(Right::Alter(section))?;
-    }
-    Ok(needs)
-}
-
-/// What a change of all statements needs.
-fn replace_needs(alloc: Global) -> Result<Vec<Right>, NoMemory>
-    ensures { IfOk result (λ needs. needs.items ≡ replace_needs) }
-{
-    Ok(Vec::from_slice(
-        alloc,
-        &[
-            Right::Configure,
-            Right::Alter(Section::System),
-            Right::Alter(Section::Interface),
-            Right::Alter(Section::Routing),
-            Right::Alter(Section::Firewall),
-        ],
-    )?)
-}
-
-/// The rights that a command needs at a level, in their order.
-pub fn needs_of(alloc: Global, level: &Path, command: &Command) -> Result<Vec<Right>, NoMemory>
-    ensures { IfOk result (λ needs. needs.items ≡ needs_of level.now command.now) }
-{
-    match command {
-        Command::ShowCommits | Command::Status => Ok(Vec::from_slice(alloc, &[Right::View])?),
-        Command::ShowActive { words, form } => {
-            let top = Path::top(alloc);
-            show_needs(alloc, top_word(&top, words), *form)
+    /// What is missing for a show.
+    fn missing_to_show(&self, word: Option<&[u8]>, form: Form) -> Option<Right>
+        ensures { result ≡ first_missing self.now (form_needs form ++ see_needs (option_map (λ word. word.now) word.entry)) }
+    {
+        match form {
+            Form::Curly | Form::SetLines => self.missing_to_see(word),
+            Form::Inherited => {
+                if !self.has(Right::See(Section::System)) {
+                    return Some(Right::See(Section::System));
+                }
+                self.missing_to_see(word)
+            }
         }
-        Command::Show { words, form } => show_needs(alloc, top_word(level, words), *form),
-        Command::Configure(_)
-        | Command::Edit(_)
-        | Command::Up(_)
-        | Command::Top
-        | Command::CheckOnly
-        | Command::Commit { .. }
-        | Command::Update => Ok(Vec::from_slice(alloc, &[Right::Configure])?),
-        Command::Change(op) => change_needs(alloc, top_word(level, changed_words(op))),
-        Command::Load { .. } | Command::Rollback(_) => replace_needs(alloc),
-        Command::Exit | Command::ExitAll | Command::Logout => Ok(Vec::new(alloc)),
+    }
+
+    /// What is missing for a change of statements at the top that a word begins.
+    fn missing_to_change(&self, word: Option<&[u8]>) -> Option<Right>
+        ensures { result ≡ first_missing self.now (Configure ∷ alter_needs (option_map (λ word. word.now) word.entry)) }
+    {
+        if !self.has(Right::Configure) {
+            return Some(Right::Configure);
+        }
+        match word {
+            None => None,
+            Some(word) => match section_of(word) {
+                Some(section) => self.first_missing(&[Right::Alter(section)]),
+                None => None,
+            },
+        }
+    }
+
+    /// The first of the rights that a command needs at a level and that isn't among these; none where the command is allowed.
+    pub fn missing(&self, level: &Path, command: &Command) -> Option<Right>
+        ensures { result ≡ first_missing self.now (needs_of level.now command.now) }
+    {
+        match command {
+            Command::ShowCommits | Command::Status => self.first_missing(&[Right::View]),
+            Command::ShowActive { words, form } => {
+                self.missing_to_show(first_word(words), *form)
+            }
+            Command::Show { words, form } => self.missing_to_show(top_word(level, words), *form),
+            Command::Configure(_)
+            | Command::Edit(_)
+            | Command::Up(_)
+            | Command::Top
+            | Command::CheckOnly
+            | Command::Commit { .. }
+            | Command::Update => self.first_missing(&[Right::Configure]),
+            Command::Change(op) => self.missing_to_change(top_word(level, changed_words(op))),
+            Command::Load { .. } | Command::Rollback(_) => self.first_missing(&[
+                Right::Configure,
+                Right::Alter(Section::System),
+                Right::Alter(Section::Interface),
+                Right::Alter(Section::Routing),
+                Right::Alter(Section::Firewall),
+            ]),
+            Command::Exit | Command::ExitAll | Command::Logout => None,
+        }
     }
 }
 
@@ -149,9 +153,7 @@ pub fn needs_no_right(level: &Path, command: &Command) -> bool
     ensures some { result ≡ false → needs_of level.now command.now ≢ [] }
 {
     match command {
-        Command::ShowActive { words, form } => {
-            shows_for_nothing(words.as_slice().first().map(|word| word.as_bytes()), *form)
-        }
+        Command::ShowActive { words, form } => { shows_for_nothing(first_word(words), *form) }
         Command::Show { words, form } => shows_for_nothing(top_word(level, words), *form),
         Command::Exit | Command::ExitAll | Command::Logout => true,
         Command::ShowCommits
