@@ -1,4 +1,5 @@
 pub mod KeptLemmas
+pub mod DateLemmas
 pub mod ListingLemmas
 pub mod FieldLemmas
 pub mod TextLemmas

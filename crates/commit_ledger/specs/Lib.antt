@@ -1,6 +1,7 @@
 pub mod Kept
 pub mod Ready
 pub mod Rules
+pub mod Date
 pub mod Listing
 pub mod Payload
 pub mod Form

@@ -1,7 +1,9 @@
 //! The date and time of a moment, in UTC. The calendar is jiff's.
 
-ghost use Rattle.std.specs.Prelude.{◌≡◌, ◌++◌, OnOk};
-ghost use Rattle.commit_ledger.specs.Listing.{two, four, day_text, time_text, date_text, IsShownAt, Adds, IsDateOf};
+ghost use Rattle.std.specs.Prelude.{◌≡◌, ◌++◌, ◌*ℤ◌, OnOk, pos, unsigned_abs};
+ghost use Rattle.jiff_core.specs.DateTime.{civil_nanos};
+ghost use Rattle.jiff_core.specs.Time.{time_seconds};
+ghost use Rattle.commit_ledger.specs.Date.{two, four, day_text, time_text, date_text_at};
 
 use crate::text::push_bytes;
 use cfg_base::{Moment, NoMemory};
@@ -10,7 +12,7 @@ use jiff::civil::DateTime;
 use jiff::tz::Offset;
 
 fn shown_at(moment: Moment) -> DateTime
-    ensures { IsShownAt moment result }
+    ensures { civil_nanos result ≡ pos moment *ℤ pos 1_000_000_000 }
 {
     let instant = Timestamp::from_second(moment.seconds() as i64).unwrap();
     Offset::UTC.to_datetime(instant)
@@ -47,7 +49,8 @@ fn push_two_behind(text: &mut Vec<u8>, mark: &[u8], number: u32) -> Result<(), N
 }
 
 fn push_day(text: &mut Vec<u8>, shown: DateTime) -> Result<(), NoMemory>
-    ensures { OnOk result (text.new.items ≡ text.old.items ++ day_text shown) }
+    ensures { OnOk result (text.new.items ≡ text.old.items
+        ++ day_text (record { year = unsigned_abs shown.date.year; month = shown.date.month; day = shown.date.day })) }
 {
     push_four(text, u32::from(shown.year().unsigned_abs()))?;
     push_two_behind(text, b"-", u32::from(shown.month().unsigned_abs()))?;
@@ -55,24 +58,19 @@ fn push_day(text: &mut Vec<u8>, shown: DateTime) -> Result<(), NoMemory>
 }
 
 fn push_time(text: &mut Vec<u8>, shown: DateTime) -> Result<(), NoMemory>
-    ensures { OnOk result (text.new.items ≡ text.old.items ++ time_text shown) }
+    ensures { OnOk result (text.new.items ≡ text.old.items ++ time_text (time_seconds shown.time)) }
 {
     push_two(text, u32::from(shown.hour().unsigned_abs()))?;
     push_two_behind(text, b":", u32::from(shown.minute().unsigned_abs()))?;
     push_two_behind(text, b":", u32::from(shown.second().unsigned_abs()))
 }
 
-fn push_shown(text: &mut Vec<u8>, shown: DateTime) -> Result<(), NoMemory>
-    ensures { OnOk result (text.new.items ≡ text.old.items ++ date_text shown) }
+/// Puts the date and time of a moment at the end of a text, in UTC.
+pub(crate) fn push_date(text: &mut Vec<u8>, moment: Moment) -> Result<(), NoMemory>
+    ensures { OnOk result (text.new.items ≡ text.old.items ++ date_text_at moment) }
 {
+    let shown = shown_at(moment);
     push_day(text, shown)?;
     push_bytes(text, b" ")?;
     push_time(text, shown)
-}
-
-/// Puts the date and time of a moment at the end of a text, in UTC.
-pub(crate) fn push_date(text: &mut Vec<u8>, moment: Moment) -> Result<(), NoMemory>
-    ensures { OnOk result (Adds (IsDateOf moment) text.old.items text.new.items) }
-{
-    push_shown(text, shown_at(moment))
 }

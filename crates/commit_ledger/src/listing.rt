@@ -1,7 +1,7 @@
 //! The list of commits as it is shown.
 
 ghost use Rattle.std.specs.Prelude.{◌≡◌, ◌++◌, OnOk, IfOk, codes, decimal};
-ghost use Rattle.commit_ledger.specs.Listing.{via_text, confirmed_text, comment_text, line_end, line_rest, Adds, AreLinesOf, IsListing};
+ghost use Rattle.commit_ledger.specs.Listing.{via_text, confirmed_text, comment_text, line_end, line_rest, lines_of, IsListing};
 
 use crate::date::push_date;
 use crate::entry::{Commit, Via};
@@ -69,7 +69,7 @@ fn push_end(text: &mut Vec<u8>, commit: &Commit) -> Result<(), NoMemory>
 
 /// Puts the lines of a commit at the end of a text.
 fn push_commit(text: &mut Vec<u8>, n: u32, commit: &Commit) -> Result<(), NoMemory>
-    ensures { OnOk result (Adds (AreLinesOf n commit.now) text.old.items text.new.items) }
+    ensures { OnOk result (text.new.items ≡ text.old.items ++ lines_of n commit.now) }
 {
     push_place(text, n)?;
     push_date(text, commit.moment)?;

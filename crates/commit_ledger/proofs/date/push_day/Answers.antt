@@ -1,7 +1,7 @@
 use Rattle.std.proofs.Common.{rules}
 use Rattle.std.proofs.lemmas.Result.{on_ok_weaker}
 use Rattle.std.specs.Prelude.{codes, unsigned_abs, ◌++◌}
-use Rattle.commit_ledger.specs.Listing.{two, four}
+use Rattle.commit_ledger.specs.Date.{two, four}
 use Rattle.commit_ledger.proofs.ListingLemmas.{three}
 use Rattle.commit_ledger.proofs.date.push_day.Goals as goal
 
