@@ -1,6 +1,7 @@
 mod AskedLemmas
 mod AskingLemmas
 mod CountLemmas
+mod FoundLemmas
 mod GateLemmas
 pub mod LaterLemmas
 pub mod ListLemmas

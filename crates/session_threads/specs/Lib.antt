@@ -2,6 +2,7 @@ pub mod Access
 pub mod Adding
 pub mod Asking
 pub mod Begun
+pub mod Found
 pub mod Gates
 pub mod History
 pub mod Looks

@@ -10,19 +10,20 @@ ghost use Rattle.commands.specs.Sound.{IsSound};
 ghost use Rattle.commit_ledger.specs.Kept.{active_of};
 ghost use Rattle.config_db.specs.View.{DatabaseView};
 ghost use Rattle.session_shell.specs.Shows.{IsActiveShow, PrintsWhole, SaysWhole};
+ghost use Rattle.session_threads.specs.Found.{KnowsRights};
 ghost use Rattle.session_threads.specs.Gates.{FollowsIn, GivesView, HadNoMore, Held, Learns, LooksIn, NamesIn, ReadsShow, TookIn};
 ghost use Rattle.session_threads.specs.History.{ShowsKept};
 ghost use Rattle.session_threads.specs.Naming.{keeps_names, names_given, prints_given, shows_given};
 ghost use Rattle.session_threads.specs.Passes.{IsReady};
 
-use crate::asking::find;
 use crate::begun::Begun;
 use crate::deeds::{Ask, Asked};
+use crate::found::{FoundRights, find_by_reader};
 use crate::noted::Noted;
 use crate::served::Served;
 use access_rules::AccessFault;
 use active_snapshot::{Naming, Read, Shown, SnapNote, SnapReader};
-use cfg_base::{Moment, NoMemory, Path, UserName};
+use cfg_base::{Moment, NoMemory, UserName};
 use cfg_tree::Tree;
 use commands::Command;
 use config_core::{Reply, show_active};
@@ -33,19 +34,21 @@ use std::marker::Model;
 use std::sync::{Arc, Wait};
 use turn_lock::{Pass, Turns};
 
-/// The lock, the pass and the reader of the caller that asks, and its user where rights are asked.
+/// The lock, the pass and the reader of the caller that asks, and its user where rights are asked, with what was found of them.
 pub(crate) struct Gate<'a, D: Disk, J: Naming> {
     alloc: Global,
     lock: &'a Turns<Served<D, J>>,
     pass: Pass<Noted, Begun<D>>,
     reader: SnapReader<J>,
     user: Option<UserName>,
+    found: Option<FoundRights>,
 }
 
 impl<'a, D: Disk, J: Naming> Model for Gate<'a, D, J> {
     ghost use Rattle.std.specs.Coded.{codes};
     ghost use Rattle.cfg_tree.specs.Statements.{statements_code};
     ghost use Rattle.config_db.specs.View.{DatabaseView};
+    ghost use Rattle.session_threads.specs.Found.{KnowsRights};
     ghost use Rattle.session_threads.specs.Gates.{GateView};
     ghost use Rattle.session_threads.specs.Passes.{IsReady};
 
@@ -55,7 +58,7 @@ impl<'a, D: Disk, J: Naming> Model for Gate<'a, D, J> {
 
     ghost view = { λ g. record { pass = g.pass; reader = g.reader; asks = g.user } };
 
-    ghost invariant = { λ g. (first : DatabaseView) × IsReady g.lock.now first g.pass };
+    ghost invariant = { λ g. ((first : DatabaseView) × IsReady g.lock.now first g.pass) × KnowsRights g.user g.reader.list g.found };
 }
 
 /// Whether a command shows the active configuration or the commits.
@@ -93,19 +96,24 @@ fn shown_in(alloc: Global, view: &Shown, command: &Command) -> Result<Reply, NoM
     }
 }
 
-/// The same, as a door gives it, where the view allows it.
-fn given_in(
+/// The same, as a door gives it, where the view, which is the last one of a reader, allows it.
+fn given_in<J: Naming>(
     alloc: Global,
+    found: &mut Option<FoundRights>,
     user: &Option<UserName>,
+    reader: &SnapReader<J>,
     front: u64,
     view: &Shown,
     command: &Command,
 ) -> Given0
-    requires { IsActiveShow command.now }
+    requires show { IsActiveShow command.now }
+    requires last { IsLast reader.now.list view.now }
+    requires knows { KnowsRights user.now reader.now.list found.old }
     ensures gives { GivesView user.now command.now front view.now result }
     ensures prints { PrintsWhole command.now result }
+    ensures knows { KnowsRights user.now reader.now.list found.new }
 {
-    match find(alloc, view, user, &Path::top(alloc), command) {
+    match find_by_reader(alloc, found, user, reader, view, command) {
         Ok(()) => match shown_in(alloc, view, command) {
             Ok(reply) => Given0::Seen { front, reply },
             Err(NoMemory) => Given0::NoMemory,
@@ -119,15 +127,20 @@ fn given_in(
 fn read_show<J: Naming>(
     alloc: Global,
     reader: &mut SnapReader<J>,
+    found: &mut Option<FoundRights>,
     user: &Option<UserName>,
     moment: Moment,
     command: &Command,
 ) -> Option<Given0>
-    requires { IsActiveShow command.now }
-    ensures { ReadsShow user.now command.now moment result reader.old reader.new }
+    requires show { IsActiveShow command.now }
+    requires knows { KnowsRights user.now reader.old.list found.old }
+    ensures reads { ReadsShow user.now command.now moment result reader.old reader.new }
+    ensures knows { KnowsRights user.now reader.new.list found.new }
 {
     match reader.read(moment) {
-        Ok(Read::At { front, view }) => Some(given_in(alloc, user, front, &view, command)),
+        Ok(Read::At { front, view }) => {
+            Some(given_in(alloc, found, user, reader, front, &view, command))
+        }
         Ok(Read::Due { .. }) => None,
         Err(NoMemory) => Some(Given0::NoMemory),
     }
@@ -190,6 +203,7 @@ impl<'a, D: Disk, J: Naming> Gate<'a, D, J> {
             pass,
             reader,
             user,
+            found: None,
         }
     }
 
@@ -203,6 +217,7 @@ impl<'a, D: Disk, J: Naming> Gate<'a, D, J> {
             pass,
             reader,
             user: _,
+            found: _,
         } = self;
         (pass, reader)
     }
@@ -212,7 +227,14 @@ impl<'a, D: Disk, J: Naming> Gate<'a, D, J> {
         ensures { LooksIn self.old command.now moment result self.new }
     {
         if is_active_show(command) {
-            read_show(self.alloc, &mut self.reader, &self.user, moment, command)
+            read_show(
+                self.alloc,
+                &mut self.reader,
+                &mut self.found,
+                &self.user,
+                moment,
+                command,
+            )
         } else {
             None
         }

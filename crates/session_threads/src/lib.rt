@@ -10,6 +10,7 @@
 mod asking;
 mod begun;
 mod deeds;
+mod found;
 mod gate;
 mod noted;
 mod seat;
