@@ -5,7 +5,7 @@ use Rattle.std.specs.Prelude.{slice_get}
 use Rattle.std.specs.List.{last_or}
 use mathlib.Core.List.{IsPrefix}
 use Rattle.commit_ledger.specs.declared.entry.Entry.{Entry}
-use Rattle.commit_ledger.specs.declared.entry.Entry.TheVariants.{Commit as CommitOf, Confirm as ConfirmOf}
+use Rattle.commit_ledger.specs.declared.entry.Entry.TheVariants.{Commit as CommitOf, Confirm as ConfirmOf, Scheduled as ScheduledOf, Cleared as ClearedOf}
 use Rattle.commit_ledger.specs.Kept.{Kept, append_entry, after_entries}
 use Rattle.commit_ledger.specs.declared.limit.TheConstants.{MAX_ENTRIES}
 use Rattle.active_snapshot.specs.Views.{AreViews, ComesNext, FollowsOn, IsLast, IsNextView}
@@ -37,6 +37,8 @@ AreViews-added (opening ∷ more) next are (last, is_last, is_next) = FollowsOn-
 count-append_entry : (view : Kept) (entry : Entry) → (append_entry view entry).count ≡ view.count + 1
 count-append_entry view (CommitOf commit) = refl
 count-append_entry view (ConfirmOf confirm) = refl
+count-append_entry view (ScheduledOf waiting) = refl
+count-append_entry view (ClearedOf cleared) = refl
 
 count-next : (view next : Kept) → IsNextView view next → next.count ≡ view.count + 1
 count-next view next (entry, is) = ap (λ (k : Kept). k.count) is ∙ count-append_entry view entry

@@ -4,7 +4,7 @@ ghost use Rattle.std.specs.Prelude.{◌≡◌, ◌≤◌, ◌+◌, IfOk, IfSome}
 ghost use Rattle.std.specs.Arc.{arc_value};
 ghost use Rattle.std.specs.Option.{option_map};
 ghost use Rattle.cfg_tree.specs.Full.{IsWithin};
-ghost use Rattle.commit_ledger.specs.Kept.{active_of, append_entry, is_revert_due, NumberFits, RoomFor};
+ghost use Rattle.commit_ledger.specs.Kept.{active_of, append_entry, is_revert_due, HasOneWaiting, NumberFits, RoomFor};
 ghost use Rattle.commit_ledger.specs.Listing.{IsListing};
 ghost use Rattle.commit_ledger.specs.declared.limit.TheConstants.{MAX_ENTRIES};
 ghost use Rattle.active_snapshot.specs.Expanded.{ComesWith, IsExpanded};
@@ -54,10 +54,11 @@ impl Shown {
         })
     }
 
-    /// The view after one more entry. A confirmation leaves the expansion as it was, and shares it.
+    /// The view after one more entry. One that is no commit leaves the expansion as it was, and shares it.
     pub fn then(&self, alloc: Global, entry: &Entry, full: Option<Full>) -> Result<Shown, NoMemory>
         requires room { RoomFor self.now entry.now }
         requires number { NumberFits self.now entry.now }
+        requires one { HasOneWaiting (append_entry self.now entry.now) }
         requires full { ComesWith entry.now full }
         requires within { IfSome full (λ full. IsWithin full) }
         ensures { IfOk result (λ view. view ≡ append_entry self.now entry.now) }
@@ -71,6 +72,7 @@ impl Shown {
     fn ledger_with(&self, alloc: Global, entry: &Entry) -> Result<Ledger, NoMemory>
         requires room { RoomFor self.now entry.now }
         requires number { NumberFits self.now entry.now }
+        requires one { HasOneWaiting (append_entry self.now entry.now) }
         ensures { IfOk result (λ ledger. ledger ≡ append_entry self.now entry.now) }
     {
         let mut ledger = self.ledger.copy(alloc)?;

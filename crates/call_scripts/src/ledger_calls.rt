@@ -6,7 +6,9 @@ ghost use Rattle.commit_ledger.specs.Payload.{HasShortText, most_text, text_of};
 use cfg_base::{Bytes, Moment, NoMemory, Word};
 use cfg_tree::Tree;
 use commit_check::Judge;
-use commit_ledger::{Commit, Confirm, Entry, Ledger, LedgerFault, Via, payload_of};
+use commit_ledger::{
+    Cleared, Commit, Confirm, Entry, Ledger, LedgerFault, Scheduled, Via, payload_of,
+};
 use curly_print::text_len;
 use record_code::{Payloads, Placed};
 use script_lines::{
@@ -61,6 +63,33 @@ fn confirm_of(alloc: Global, args: &[Arg]) -> Result<Confirm, Fault> {
     })
 }
 
+/// NUMBER USER SECONDS AT COMMENT: the script's tree, set for that time
+fn scheduled_of(alloc: Global, tree: &Tree, args: &[Arg]) -> Result<Scheduled, Fault> {
+    let [count, user, moment, at, comment] = args else {
+        return Err(Fault::Script("scheduled NUMBER USER SECONDS AT COMMENT"));
+    };
+    Ok(Scheduled {
+        number: number(count)?,
+        user: user_of(alloc, user)?,
+        moment: Moment::of(number(moment)?),
+        at: Moment::of(number(at)?),
+        comment: Word::of(alloc, comment)?,
+        tree: tree.copy()?,
+    })
+}
+
+/// NUMBER USER SECONDS
+fn cleared_of(alloc: Global, args: &[Arg]) -> Result<Cleared, Fault> {
+    let [count, user, moment] = args else {
+        return Err(Fault::Script("cleared NUMBER USER SECONDS"));
+    };
+    Ok(Cleared {
+        number: number(count)?,
+        user: user_of(alloc, user)?,
+        moment: Moment::of(number(moment)?),
+    })
+}
+
 fn entry_of(alloc: Global, tree: &Tree, args: &[Arg]) -> Result<Entry, Fault> {
     match args {
         [kind, fields @ ..] if kind.as_slice() == b"commit".as_slice() => {
@@ -69,7 +98,13 @@ fn entry_of(alloc: Global, tree: &Tree, args: &[Arg]) -> Result<Entry, Fault> {
         [kind, fields @ ..] if kind.as_slice() == b"confirm".as_slice() => {
             Ok(Entry::Confirm(confirm_of(alloc, fields)?))
         }
-        _ => Err(Fault::Script("an entry is a commit or confirm")),
+        [kind, fields @ ..] if kind.as_slice() == b"scheduled".as_slice() => {
+            Ok(Entry::Scheduled(scheduled_of(alloc, tree, fields)?))
+        }
+        [kind, fields @ ..] if kind.as_slice() == b"cleared".as_slice() => {
+            Ok(Entry::Cleared(cleared_of(alloc, fields)?))
+        }
+        _ => Err(Fault::Script("an entry is a commit, confirm, scheduled or cleared")),
     }
 }
 
@@ -78,7 +113,8 @@ fn is_short(entry: &Entry) -> bool
 {
     match entry {
         Entry::Commit(commit) => has_short_text(&commit.tree),
-        Entry::Confirm(_) => true,
+        Entry::Scheduled(waiting) => has_short_text(&waiting.tree),
+        Entry::Confirm(_) | Entry::Cleared(_) => true,
     }
 }
 
@@ -121,6 +157,9 @@ fn say_ledger(alloc: Global, out: &mut Text, ledger: &Ledger) {
     match ledger.pending() {
         Some(pending) => say_pending(out, pending.target, pending.deadline),
         None => say(out, "none"),
+    }
+    if let Some(waiting) = ledger.scheduled() {
+        say_counted(out, "scheduled at", waiting.at.seconds());
     }
     match ledger.history_lines(alloc) {
         Ok(lines) => say_text(out, lines.as_slice()),

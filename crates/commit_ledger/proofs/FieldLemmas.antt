@@ -6,10 +6,12 @@ use Rattle.std.proofs.lemmas.Nat.{from_be_bytes-to_be_bytes_4, from_be_bytes-to_
 use Rattle.commit_ledger.specs.declared.entry.Via.TheVariants.{Cli, Other}
 use Rattle.commit_ledger.specs.declared.entry.Via.{Via}
 use Rattle.cfg_tree.specs.Statements.{Statements}
+use Rattle.commit_ledger.specs.declared.entry.Cleared.{Cleared}
 use Rattle.commit_ledger.specs.declared.entry.Commit.{Commit}
 use Rattle.commit_ledger.specs.declared.entry.Confirm.{Confirm}
-use Rattle.commit_ledger.specs.Rules.{IsCommit, IsConfirm}
-use Rattle.commit_ledger.specs.Payload.{form_of, confirm_form, CommitForm, ConfirmForm, commit_bytes, confirm_bytes, CommitFits, ConfirmFits, short, via_byte}
+use Rattle.commit_ledger.specs.declared.entry.Scheduled.{Scheduled}
+use Rattle.commit_ledger.specs.Rules.{IsCommit, IsConfirm, IsScheduled, IsCleared}
+use Rattle.commit_ledger.specs.Payload.{form_of, confirm_form, scheduled_form, cleared_form, CommitForm, ConfirmForm, ScheduledForm, commit_bytes, confirm_bytes, scheduled_bytes, CommitFits, ConfirmFits, ScheduledFits, short, long, via_byte}
 
 -- two texts of one length, and what stands after them
 pub same_cut : (xs ys r s : List ℕ) → length xs ≡ length ys → xs ++ r ≡ ys ++ s → (xs ≡ ys) × (r ≡ s)
@@ -50,12 +52,8 @@ user_left bytes r1 r2 r3 r4 number moment minutes via f e1 e2 e3 e4 is =
     let three : r3 ≡ s3 = behind_one (via_byte via) (via_byte f.via) r3 s3 (sym e3 ∙ two) in
     behind_32 minutes f.minutes r4 s4 (sym e4 ∙ three)
 
-pub comment_left : (r4 r5 user : List ℕ) (f : CommitForm) → r4 ≡ short user ++ r5 → r4 ≡ short f.user ++ (short f.comment ++ (to_be_bytes w32 (length f.text) ++ f.text))
-    → r5 ≡ short f.comment ++ (to_be_bytes w32 (length f.text) ++ f.text)
-comment_left r4 r5 user f e is = (same_short user f.user r5 _ (sym e ∙ is)).1
-
-pub text_left : (r5 r6 comment : List ℕ) (f : CommitForm) → r5 ≡ short comment ++ r6 → r5 ≡ short f.comment ++ (to_be_bytes w32 (length f.text) ++ f.text) → r6 ≡ to_be_bytes w32 (length f.text) ++ f.text
-text_left r5 r6 comment f e is = (same_short comment f.comment r6 _ (sym e ∙ is)).1
+pub short_left : (bytes rest text other more : List ℕ) → bytes ≡ short text ++ rest → bytes ≡ short other ++ more → rest ≡ more
+short_left bytes rest text other more e is = (same_short text other rest more (sym e ∙ is)).1
 
 -- one payload is of one form
 number_64 : (m n : ℕ) → m < 2 ^ 64 → n < 2 ^ 64 → to_be_bytes w64 m ≡ to_be_bytes w64 n → m ≡ n
@@ -94,6 +92,36 @@ one_form f g ff fg is =
     same_form f g (number_64 f.number g.number ff.number fg.number first.0) (number_64 f.moment g.moment ff.moment fg.moment second.0) (one_via f.via g.via third)
     (number_32 f.minutes g.minutes ff.minutes fg.minutes fourth.0) fifth.0 sixth.0 (behind_32 _ _ _ _ sixth.1)
 
+-- a scheduled commit
+pub waiting_left : (bytes r1 r2 r3 : List ℕ) (number moment at : ℕ) (f : ScheduledForm) → bytes ≡ to_be_bytes w64 number ++ r1 → r1 ≡ to_be_bytes w64 moment ++ r2 → r2 ≡ to_be_bytes w64 at ++ r3
+    → bytes ≡ scheduled_bytes f → r3 ≡ short f.user ++ (short f.comment ++ long f.text)
+waiting_left bytes r1 r2 r3 number moment at f e1 e2 e3 is =
+    let s3 : List ℕ = short f.user ++ (short f.comment ++ long f.text) in
+    let s2 : List ℕ = to_be_bytes w64 f.at ++ s3 in
+    let s1 : List ℕ = to_be_bytes w64 f.moment ++ s2 in
+    let one : r1 ≡ s1 = behind_64 number f.number r1 s1 (sym e1 ∙ is) in
+    let two : r2 ≡ s2 = behind_64 moment f.moment r2 s2 (sym e2 ∙ one) in
+    behind_64 at f.at r3 s3 (sym e3 ∙ two)
+
+same_scheduled : (f g : ScheduledForm) → f.number ≡ g.number → f.moment ≡ g.moment → f.at ≡ g.at → f.user ≡ g.user → f.comment ≡ g.comment → f.text ≡ g.text → f ≡ g
+same_scheduled f g a b c d e h =
+    let path : f ≡ g = ap (λ (z : ℕ). record { number = z; moment = f.moment; at = f.at; user = f.user; comment = f.comment; text = f.text }) a
+    ∙ ap (λ (z : ℕ). record { number = g.number; moment = z; at = f.at; user = f.user; comment = f.comment; text = f.text }) b
+    ∙ ap (λ (z : ℕ). record { number = g.number; moment = g.moment; at = z; user = f.user; comment = f.comment; text = f.text }) c
+    ∙ ap (λ (z : List ℕ). record { number = g.number; moment = g.moment; at = g.at; user = z; comment = f.comment; text = f.text }) d
+    ∙ ap (λ (z : List ℕ). record { number = g.number; moment = g.moment; at = g.at; user = g.user; comment = z; text = f.text }) e
+    ∙ ap (λ (z : List ℕ). record { number = g.number; moment = g.moment; at = g.at; user = g.user; comment = g.comment; text = z }) h in path
+
+pub one_scheduled : (f g : ScheduledForm) → ScheduledFits f → ScheduledFits g → scheduled_bytes f ≡ scheduled_bytes g → f ≡ g
+one_scheduled f g ff fg is =
+    let first = same_cut (to_be_bytes w64 f.number) (to_be_bytes w64 g.number) _ _ refl is in
+    let second = same_cut (to_be_bytes w64 f.moment) (to_be_bytes w64 g.moment) _ _ refl first.1 in
+    let third = same_cut (to_be_bytes w64 f.at) (to_be_bytes w64 g.at) _ _ refl second.1 in
+    let fourth = same_short f.user g.user _ _ third.1 in
+    let fifth = same_short f.comment g.comment _ _ fourth.1 in
+    same_scheduled f g (number_64 f.number g.number ff.number fg.number first.0) (number_64 f.moment g.moment ff.moment fg.moment second.0) (number_64 f.at g.at ff.at fg.at third.0)
+    fourth.0 fifth.0 (behind_32 _ _ _ _ fifth.1)
+
 -- a confirm
 pub confirm_left : (bytes r1 r2 : List ℕ) (number moment : ℕ) (f : ConfirmForm) → bytes ≡ to_be_bytes w64 number ++ r1 → r1 ≡ to_be_bytes w64 moment ++ r2 → bytes ≡ confirm_bytes f → r2 ≡ short f.user
 confirm_left bytes r1 r2 number moment f e1 e2 is =
@@ -125,3 +153,16 @@ commit_fits P c is = record {
 
 pub confirm_fits : (c : Confirm) → IsConfirm c → ConfirmFits (confirm_form c)
 confirm_fits c is = record { number = is.number.1; moment = omega (arith, is.moment); user = omega (arith, is.user.1) }
+
+pub scheduled_fits : (P : Statements → Type 0) (w : Scheduled) → IsScheduled P w → ScheduledFits (scheduled_form w)
+scheduled_fits P w is = record {
+  number = is.number.1;
+  moment = omega (arith, is.moment);
+  at = omega (arith, is.at);
+  user = omega (arith, is.user.1);
+  comment = omega (arith, is.comment.short);
+  text = omega (arith, is.text);
+}
+
+pub cleared_fits : (c : Cleared) → IsCleared c → ConfirmFits (cleared_form c)
+cleared_fits c is = record { number = is.number.1; moment = omega (arith, is.moment); user = omega (arith, is.user.1) }

@@ -1,6 +1,6 @@
 -- What holds of every list that was read or grew from one that was: so its checkpoint is read as what it keeps.
 use Rattle.std.proofs.Common.{◌≡◌, ◌≢◌, ◌≤◌, ◌<◌, ◌⊎◌, inl, inr, ⊎_elim, ℕ, zero, suc, ◌+◌, ◌-◌, ◌==◌, Bool, true, false, cond, nat_lt, List, [], ◌∷◌, ◌++◌, length, map, take, drop, Option, Some, None, refl, sym, ◌∙◌, ap, subst, arith, append_assoc, length-append, length-drop, take-append-drop, true≢false}
-use Rattle.std.specs.Prelude.{IfSome, IsSome}
+use Rattle.std.specs.Prelude.{IfSome, IsSome, is_some}
 use Rattle.std.specs.List.{AllByRecursion}
 use Rattle.std.proofs.lemmas.Bool.Decides.{nat_tests}
 use Rattle.std.proofs.lemmas.List.{drop-append-le}
@@ -9,11 +9,15 @@ use Rattle.confirm_timer.specs.Deadline.{after_minutes}
 use Rattle.commit_ledger.specs.declared.entry.Commit.{Commit}
 use Rattle.commit_ledger.specs.declared.entry.Confirm.{Confirm}
 use Rattle.commit_ledger.specs.declared.entry.Entry.{Entry}
-use Rattle.commit_ledger.specs.declared.entry.Entry.TheVariants.{Commit as CommitOf, Confirm as ConfirmOf}
+use Rattle.commit_ledger.specs.declared.entry.Cleared.{Cleared}
+use Rattle.commit_ledger.specs.declared.entry.Scheduled.{Scheduled}
+use Rattle.commit_ledger.specs.declared.entry.Entry.TheVariants.{Commit as CommitOf, Confirm as ConfirmOf, Scheduled as ScheduledOf, Cleared as ClearedOf}
 use Rattle.commit_ledger.specs.declared.limit.TheConstants.{MAX_ENTRIES}
-use Rattle.commit_ledger.specs.Kept.{Kept, Unconfirmed, opened, commits_of, append_entry, append_commit, append_confirm, target_in, target_of}
-use Rattle.commit_ledger.specs.Rules.{IsCommit, IsEntry, Follows}
-use Rattle.commit_ledger.specs.Checkpoint.{first_of, first_number, far_target, listed, checkpoint, commit_record, AreConsecutive, AreInTime, IsAmong, IsRunAmong, IsRestorable, Restores, Agrees, as_read}
+use Rattle.commit_ledger.specs.Kept.{Kept, Unconfirmed, opened, commits_of, append_entry, append_commit, append_confirm, append_scheduled, append_cleared, target_in, target_of}
+use Rattle.commit_ledger.specs.Rules.{IsCommit, IsEntry, IsScheduled, IsWaiting, Follows, new_after}
+use Rattle.commit_ledger.specs.Checkpoint.{first_of, first_number, far_target, listed, checkpoint, plain_checkpoint, commit_record, told_by, waiting_records, without, AreConsecutive, AreInTime, IsAmong, IsRunAmong, IsRestorable, Restores, Agrees, as_read}
+use Rattle.commit_ledger.specs.Payload.{entry_record}
+use Rattle.commit_ledger.specs.Reading.{GoesOn, ReadsAs}
 use Rattle.commit_ledger.proofs.RecordLemmas.{all_written}
 
 -- numbers that rise and moments that don't fall
@@ -34,6 +38,7 @@ pub record IsGrown (accepted : Statements → Type 0) (kept : Kept) : Type 0 whe
   pub room : kept.count ≤ MAX_ENTRIES + 1
   pub no_later : kept.last.moment ≤ kept.moment
   pub run : IfSome kept.pending (IsRunAmong (early ++ commits_of kept) kept)
+  pub waits : IfSome kept.scheduled (IsWaiting accepted kept)
 
 pub below : (m n : ℕ) → nat_lt m n ≡ true → m < n
 below m n told = grind (arith, nat_tests)
@@ -204,8 +209,12 @@ module _ (P : Statements → Type 0) (kept : Kept) (grown : IsGrown P kept) wher
           high : o.first.number ≤ run.target.number
           high = omega (arith, o.number, not_below run.target.number (first_number kept) told)
 
-  pub is_restorable : IsRestorable P kept
-  is_restorable =
+  -- each commit that a checkpoint lists keeps to its own rules
+  pub listed_each : AllByRecursion (IsCommit P) (listed kept)
+  listed_each = (lists kept.pending refl grown.run).each
+
+  pub is_restorable : kept.scheduled ≡ None → IsRestorable P kept
+  is_restorable unscheduled =
       let l = lists kept.pending refl grown.run in
       record {
         each = l.each;
@@ -217,6 +226,7 @@ module _ (P : Statements → Type 0) (kept : Kept) (grown : IsGrown P kept) wher
         number = grown.number;
         room = grown.room;
         run = l.run;
+        unscheduled = unscheduled;
       }
 
 -- a checkpoint's values
@@ -245,6 +255,7 @@ restored_is_grown P kept rules later = record {
   room = rules.room;
   no_later = later;
   run = rules.run;
+  waits = subst (λ o. IfSome o (IsWaiting P kept)) (sym rules.unscheduled) tt;
 }
   where
     size : length (commits_of kept) ≡ length kept.older + 1
@@ -281,6 +292,7 @@ opened_is_grown P commit is number = record {
   room = omega arith;
   no_later = omega arith;
   run = tt;
+  waits = tt;
 }
 
 -- one more commit
@@ -318,6 +330,7 @@ module _ (P : Statements → Type 0) (kept : Kept) (grown : IsGrown P kept) (com
     room = omega (arith, follows.room.0);
     no_later = omega arith;
     run = run (commit.minutes == 0) refl;
+    waits = tt;
   }
     where
       size : length (commits_of kept) ≡ length kept.older + 1
@@ -362,27 +375,86 @@ module _ (P : Statements → Type 0) (kept : Kept) (grown : IsGrown P kept) (com
           waits : commit.minutes ≢ 0
           waits none = absurd (true≢false (sym (equal commit.minutes none) ∙ told))
 
-pub confirm_grows : (P : Statements → Type 0) (kept : Kept) → IsGrown P kept → (confirm : Confirm) → Follows kept (ConfirmOf confirm) → IsGrown P (append_confirm kept confirm)
-confirm_grows P kept grown confirm follows = record {
-  early = grown.early;
-  each = grown.each;
-  rising = grown.rising;
-  numbers = grown.numbers;
-  few = grown.few;
-  whole = grown.whole;
-  number = omega (arith, grown.number);
-  room = omega (arith, room kept.pending follows.waits grown.run);
-  no_later = omega (arith, grown.no_later, follows.moment);
-  run = tt;
-}
-  where
-    room : (pending : Option Unconfirmed) → IsSome pending → IfSome pending (IsRunAmong (grown.early ++ commits_of kept) kept) → kept.count ≤ MAX_ENTRIES
-    room None some run = absurd (cc)
-    room (Some r) some run = run.room
+some_or_none : {A : Type 0} (o : Option A) → o ≡ None → IsSome o → ⊥
+some_or_none {A} o none some = let e : false ≡ true = ap (λ (p : Option A). is_some p) (sym none) ∙ some in cc
+
+-- where no run waits, nothing is asked of it
+no_run_is : (Q : Unconfirmed → Type 0) (kept : Kept) → kept.pending ≡ None → IfSome kept.pending Q
+no_run_is Q kept none = subst (λ p. IfSome p Q) (sym none) tt
+
+-- other entries
+module _ (P : Statements → Type 0) (kept : Kept) (grown : IsGrown P kept) where
+  confirm_grows : (confirm : Confirm) → Follows kept (ConfirmOf confirm) → IsGrown P (append_confirm kept confirm)
+  confirm_grows confirm follows = record {
+    early = grown.early;
+    each = grown.each;
+    rising = grown.rising;
+    numbers = grown.numbers;
+    few = grown.few;
+    whole = grown.whole;
+    number = omega (arith, grown.number);
+    room = omega (arith, room kept.pending follows.waits grown.run);
+    no_later = omega (arith, grown.no_later, follows.moment);
+    run = tt;
+    waits = waits kept.scheduled grown.waits;
+  }
+    where
+      room : (pending : Option Unconfirmed) → IsSome pending → IfSome pending (IsRunAmong (grown.early ++ commits_of kept) kept) → kept.count ≤ MAX_ENTRIES
+      room None some run = absurd (cc)
+      room (Some r) some run = run.room
+
+      waits : (scheduled : Option Scheduled) → IfSome scheduled (IsWaiting P kept) → IfSome scheduled (IsWaiting P (append_confirm kept confirm))
+      waits None is = tt
+      waits (Some w) is = absurd (some_or_none kept.pending is.no_run follows.waits)
+
+  scheduled_grows : (waiting : Scheduled) → IsScheduled P waiting → Follows kept (ScheduledOf waiting) → IsGrown P (append_scheduled kept waiting)
+  scheduled_grows waiting own follows = record {
+    early = grown.early;
+    each = grown.each;
+    rising = grown.rising;
+    numbers = grown.numbers;
+    few = grown.few;
+    whole = grown.whole;
+    number = omega (arith, grown.number);
+    room = omega (arith, follows.room);
+    no_later = omega (arith, grown.no_later, follows.moment);
+    run = no_run_is _ kept follows.no_run;
+    waits = record {
+      is_scheduled = own;
+      number = follows.number;
+      last = refl;
+      later = follows.later;
+      within = follows.within;
+      no_run = follows.no_run;
+      room = omega (arith, follows.room);
+      counted = omega (arith, grown.number);
+    };
+  }
+
+  cleared_grows : (cleared : Cleared) → Follows kept (ClearedOf cleared) → IsGrown P (append_cleared kept cleared)
+  cleared_grows cleared follows = by kept.scheduled follows.waits grown.waits
+    where
+      by : (scheduled : Option Scheduled) → IsSome scheduled → IfSome scheduled (IsWaiting P kept) → IsGrown P (append_cleared kept cleared)
+      by None some is = absurd (cc)
+      by (Some w) some is = record {
+        early = grown.early;
+        each = grown.each;
+        rising = grown.rising;
+        numbers = grown.numbers;
+        few = grown.few;
+        whole = grown.whole;
+        number = omega (arith, grown.number);
+        room = omega (arith, is.room);
+        no_later = omega (arith, grown.no_later, follows.moment);
+        run = no_run_is _ kept is.no_run;
+        waits = tt;
+      }
 
 pub entry_grows : (P : Statements → Type 0) (kept : Kept) (entry : Entry) → IsGrown P kept → IsEntry P entry → Follows kept entry → IsGrown P (append_entry kept entry)
 entry_grows P kept (CommitOf commit) grown is follows = commit_grows P kept grown commit is follows
 entry_grows P kept (ConfirmOf confirm) grown is follows = confirm_grows P kept grown confirm follows
+entry_grows P kept (ScheduledOf waiting) grown is follows = scheduled_grows P kept grown waiting is follows
+entry_grows P kept (ClearedOf cleared) grown is follows = cleared_grows P kept grown cleared follows
 
 -- a value that agrees
 pub agreeing_is_grown : (P : Statements → Type 0) (one other : Kept) → Agrees one other → IsGrown P one → IsGrown P other
@@ -397,30 +469,115 @@ agreeing_is_grown P one other agrees grown = subst (IsGrown P) (sym agrees.is) (
   room = grown.room;
   no_later = omega (arith, grown.no_later, agrees.no_later);
   run = run one.pending grown.run;
+  waits = waits one.scheduled agrees.exact grown.waits;
 })
   where
     run : (pending : Option Unconfirmed) → IfSome pending (IsRunAmong (grown.early ++ commits_of one) one) → IfSome pending (IsRunAmong (grown.early ++ commits_of one) (record one { moment = other.moment }))
     run None is = tt
     run (Some r) is = record { deadline = is.deadline; among = is.among; before = is.before; waits = is.waits; room = is.room }
 
--- the checkpoint of a list that grew is read as what the list keeps, but for the last moment
-pub checkpoint_is_read : (P : Statements → Type 0) (kept : Kept) → IsGrown P kept → Restores P (checkpoint kept) (as_read kept)
-checkpoint_is_read P kept grown =
-    let rules = is_restorable P kept grown in
+    waits : (scheduled : Option Scheduled) → (IsSome scheduled → one.moment ≡ other.moment) → IfSome scheduled (IsWaiting P one) → IfSome scheduled (IsWaiting P (record one { moment = other.moment }))
+    waits None exact is = tt
+    waits (Some w) exact is = record {
+      is_scheduled = is.is_scheduled;
+      number = is.number;
+      last = omega (arith, exact refl, is.last);
+      later = is.later;
+      within = is.within;
+      no_run = is.no_run;
+      room = is.room;
+      counted = is.counted;
+    }
+
+-- the checkpoint of a list that grew, where no commit is scheduled, is read as what the list keeps, but for the last moment
+plain_is_read : (P : Statements → Type 0) (kept : Kept) → IsGrown P kept → kept.scheduled ≡ None → Restores P (plain_checkpoint kept) (record kept { moment = kept.last.moment })
+plain_is_read P kept grown unscheduled =
+    let rules = is_restorable P kept grown unscheduled in
     record {
       commits = map commit_record (listed kept);
       is = refl;
       are = all_written false (listed kept);
-      rules = record { each = rules.each; numbers = rules.numbers; few = rules.few; whole = rules.whole; moments = rules.moments; counted = rules.counted; number = rules.number; room = rules.room; run = run kept.pending rules.run };
+      rules = record { each = rules.each; numbers = rules.numbers; few = rules.few; whole = rules.whole; moments = rules.moments; counted = rules.counted; number = rules.number; room = rules.room; run = run kept.pending rules.run; unscheduled = unscheduled };
       moment = refl;
     }
   where
-    run : (pending : Option Unconfirmed) → IfSome pending (IsRunAmong (listed kept) kept) → IfSome pending (IsRunAmong (listed kept) (as_read kept))
+    run : (pending : Option Unconfirmed) → IfSome pending (IsRunAmong (listed kept) kept) → IfSome pending (IsRunAmong (listed kept) (record kept { moment = kept.last.moment }))
     run None is = tt
     run (Some r) is = record { deadline = is.deadline; among = is.among; before = is.before; waits = is.waits; room = is.room }
 
+-- a list with a scheduled commit
+module _ (P : Statements → Type 0) (kept : Kept) (grown : IsGrown P kept) (waiting : Scheduled) (is : IsWaiting P kept waiting) where
+  -- without that entry
+  bare_is_grown : IsGrown P (without (Some waiting) kept)
+  bare_is_grown = record {
+    early = grown.early;
+    each = grown.each;
+    rising = grown.rising;
+    numbers = grown.numbers;
+    few = grown.few;
+    whole = grown.whole;
+    number = omega (arith, is.counted);
+    room = omega (arith, grown.room);
+    no_later = grown.no_later;
+    run = no_run_is _ kept is.no_run;
+    waits = tt;
+  }
+
+  -- that entry comes next, and leaves the list
+  comes_next : kept.scheduled ≡ Some waiting → GoesOn P (new_after false (plain_checkpoint (without (Some waiting) kept))) (record kept { count = kept.count - 1; scheduled = None; moment = kept.last.moment }) (entry_record (ScheduledOf waiting)) (record kept { moment = waiting.moment })
+  comes_next same = record {
+    entry = ScheduledOf waiting;
+    is_record = record { is = refl; is_entry = is.is_scheduled };
+    follows = record {
+      number = is.number;
+      moment = omega (arith, grown.no_later, is.last);
+      later = is.later;
+      within = is.within;
+      no_run = is.no_run;
+      alone = refl;
+      room = omega (arith, is.room, is.counted);
+    };
+    is =
+        let count : kept.count ≡ kept.count - 1 + 1 = omega (arith, is.counted) in
+        let path : record kept { moment = waiting.moment } ≡ append_scheduled (record kept { count = kept.count - 1; scheduled = None; moment = kept.last.moment }) waiting =
+        ap (λ (n : ℕ). record kept { count = n; moment = waiting.moment }) count
+        ∙ ap (λ (o : Option Scheduled). record kept { count = kept.count - 1 + 1; scheduled = o; moment = waiting.moment }) same in
+        path;
+  }
+
+-- the checkpoint of a list that grew is read as what the list keeps, but for the last moment where no commit is scheduled
+pub checkpoint_is_read : (P : Statements → Type 0) (kept : Kept) → IsGrown P kept → ReadsAs P (checkpoint kept) (as_read kept)
+checkpoint_is_read P kept grown = by kept.scheduled refl grown.waits
+  where
+    by : (scheduled : Option Scheduled) → kept.scheduled ≡ scheduled → IfSome scheduled (IsWaiting P kept)
+        → ReadsAs P (plain_checkpoint (without scheduled kept) ++ waiting_records scheduled) (record kept { moment = told_by scheduled kept.last.moment })
+    by None same is = record {
+      front = plain_checkpoint kept;
+      rest = [];
+      cut = refl;
+      first = record kept { moment = kept.last.moment };
+      begins = inr (plain_is_read P kept grown same);
+      reads = refl;
+    }
+    by (Some w) same is = record {
+      front = plain_checkpoint (without (Some w) kept);
+      rest = entry_record (ScheduledOf w) ∷ [];
+      cut = refl;
+      first = record kept { count = kept.count - 1; scheduled = None; moment = kept.last.moment };
+      begins = inr (plain_is_read P (without (Some w) kept) (bare_is_grown P kept grown w is) refl);
+      reads = (record kept { moment = w.moment }, comes_next P kept grown w is same, refl);
+    }
+
 pub reads_agree : (P : Statements → Type 0) (kept : Kept) → IsGrown P kept → Agrees (as_read kept) kept
-reads_agree P kept grown = record { is = refl; no_later = grown.no_later }
+reads_agree P kept grown = record { is = refl; no_later = no_later kept.scheduled grown.waits; exact = exact kept.scheduled grown.waits }
+  where
+    no_later : (scheduled : Option Scheduled) → IfSome scheduled (IsWaiting P kept) → told_by scheduled kept.last.moment ≤ kept.moment
+    no_later None is = grown.no_later
+    no_later (Some w) is = omega (arith, is.last)
+
+    exact : (scheduled : Option Scheduled) → IfSome scheduled (IsWaiting P kept) → IsSome scheduled → told_by scheduled kept.last.moment ≡ kept.moment
+    exact None is some = absurd (cc)
+    exact (Some w) is some = sym is.last
 
 -- of a number there is one commit
 one_number : (xs : List Commit) → AreRising xs → (c d : Commit) → IsAmong c xs → IsAmong d xs → c.number ≡ d.number → c ≡ d

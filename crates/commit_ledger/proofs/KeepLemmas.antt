@@ -60,6 +60,7 @@ module _ (P : Statements → Type 0) (f : KeepForm) (rs : List Record) (cs : Lis
         number = restores.rules.number;
         run = moved kept.pending lists restores.rules.run;
         numbered = above kept.pending restores.rules.run;
+        unscheduled = restores.rules.unscheduled;
       }
     where
       first_of : {r s : Record} {xs ys : List Record} → r ∷ xs ≡ s ∷ ys → r ≡ s
@@ -93,6 +94,7 @@ module _ (P : Statements → Type 0) (f : KeepForm) (rs : List Record) (cs : Lis
           number = restored.number;
           room = omega (arith, restored.count, room);
           run = moved kept.pending restored.run;
+          unscheduled = restored.unscheduled;
         };
         moment = restored.moment;
       }

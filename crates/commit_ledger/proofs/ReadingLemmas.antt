@@ -1,7 +1,7 @@
 -- Records have one reading or a bad record, and what is read or grew from it has a checkpoint that is read.
 use Rattle.std.proofs.Common.{◌≡◌, ◌≤◌, inl, inr, ℕ, Bool, false, List, [], ◌∷◌, ◌++◌, length, Option, Some, None, refl, sym, ◌∙◌, ap, subst, arith, append_assoc, length-append}
-use Rattle.std.specs.Prelude.{IfSome, IsSome}
-use Rattle.std.proofs.lemmas.List.{append-nil, length-map, map-append}
+use Rattle.std.specs.Prelude.{IfSome, IsSome, ◌||◌, is_some}
+use Rattle.std.proofs.lemmas.List.{length-map, map-append}
 use Rattle.std.proofs.lemmas.List.Elements.{All-from_recursion}
 use Rattle.std.specs.List.{AllByRecursion}
 use Rattle.cfg_tree.specs.Statements.{Statements}
@@ -11,15 +11,16 @@ use Rattle.record_code.specs.Record.{Record}
 use Rattle.commit_ledger.specs.declared.limit.TheConstants.{MAX_ENTRIES}
 use Rattle.commit_ledger.specs.declared.entry.Commit.{Commit}
 use Rattle.commit_ledger.specs.declared.entry.Entry.{Entry}
-use Rattle.commit_ledger.specs.declared.entry.Entry.TheVariants.{Commit as CommitOf, Confirm as ConfirmOf}
+use Rattle.commit_ledger.specs.declared.entry.Scheduled.{Scheduled}
+use Rattle.commit_ledger.specs.declared.entry.Entry.TheVariants.{Commit as CommitOf, Confirm as ConfirmOf, Scheduled as ScheduledOf, Cleared as ClearedOf}
 use Rattle.commit_ledger.specs.Kept.{Kept, KeepsMaps, Unconfirmed, append_entry, commits_of}
-use Rattle.commit_ledger.specs.Payload.{entry_record}
-use Rattle.commit_ledger.specs.Rules.{IsCommit, IsEntry, Follows, new_after}
+use Rattle.commit_ledger.specs.Payload.{HasShortText, entry_record}
+use Rattle.commit_ledger.specs.Rules.{IsCommit, IsEntry, Follows, IsWaiting, new_after}
 use Rattle.commit_ledger.specs.Reading.{Begins, BeginsBadly, GoesOn, GoesThrough, IsBadBehind, IsBegun, IsFirstBad, IsUnread, Opens, ReadsAs}
-use Rattle.commit_ledger.specs.Checkpoint.{keep_form, keep_record, listed, checkpoint, HaveShortTexts, IsRunAmong, Restores, Agrees, as_read}
+use Rattle.commit_ledger.specs.Checkpoint.{keep_form, keep_record, listed, checkpoint, HasShortMaps, HaveShortTexts, IsRunAmong, Restores, Agrees, as_read}
 use Rattle.commit_ledger.proofs.RecordLemmas.{goes_push, one_more, one_opening, written_now}
 use Rattle.commit_ledger.proofs.BadLemmas.{bad_not_begun, one_bad_checkpoint, opens_kind}
-use Rattle.commit_ledger.proofs.GrownLemmas.{IsGrown, all_among, all_back, among_back, entry_grows, opened_is_grown, restored_is_grown, agreeing_is_grown, checkpoint_is_read, is_restorable, reads_agree}
+use Rattle.commit_ledger.proofs.GrownLemmas.{IsGrown, all_among, all_back, among_back, entry_grows, listed_each, opened_is_grown, restored_is_grown, agreeing_is_grown, checkpoint_is_read, reads_agree}
 use Rattle.commit_ledger.proofs.RestoreLemmas.{as_many, one_restored, same_size}
 
 -- one more entry that may come next is read after the others
@@ -33,7 +34,7 @@ appended_is_read P rs kept entry reads is follows = record {
   reads = goes_push P (new_after false reads.front) reads.first reads.rest kept (entry_record entry) (append_entry kept entry) reads.reads
       (record {
         entry = entry;
-        is_record = record { is = written_now (new_after (new_after false reads.front) reads.rest) entry; is_entry = is };
+        is_record = record { is = written_now (new_after (new_after false reads.front) reads.rest || is_some kept.scheduled) entry; is_entry = is };
         follows = follows;
         is = refl;
       });
@@ -44,8 +45,18 @@ pub agrees_follow : (one other : Kept) (entry : Entry) → Agrees one other → 
 agrees_follow one other entry agrees follows = by entry (subst (λ k. Follows k entry) agrees.is follows)
   where
     by : (e : Entry) → Follows (record one { moment = other.moment }) e → Follows one e
-    by (CommitOf c) f = record { number = f.number; moment = omega (arith, f.moment, agrees.no_later); room = f.room }
+    by (CommitOf c) f = record { number = f.number; moment = omega (arith, f.moment, agrees.no_later); room = f.room; carries = f.carries }
     by (ConfirmOf c) f = record { number = f.number; moment = omega (arith, f.moment, agrees.no_later); waits = f.waits }
+    by (ScheduledOf w) f = record {
+      number = f.number;
+      moment = omega (arith, f.moment, agrees.no_later);
+      later = f.later;
+      within = f.within;
+      no_run = f.no_run;
+      alone = f.alone;
+      room = f.room;
+    }
+    by (ClearedOf c) f = record { number = f.number; moment = omega (arith, f.moment, agrees.no_later); waits = f.waits }
 
 pub agrees_append : (one other : Kept) (entry : Entry) → Agrees one other → append_entry one entry ≡ append_entry other entry
 agrees_append one other entry agrees = by entry ∙ ap (λ k. append_entry k entry) (sym agrees.is)
@@ -53,6 +64,8 @@ agrees_append one other entry agrees = by entry ∙ ap (λ k. append_entry k ent
     by : (e : Entry) → append_entry one e ≡ append_entry (record one { moment = other.moment }) e
     by (CommitOf c) = refl
     by (ConfirmOf c) = refl
+    by (ScheduledOf w) = refl
+    by (ClearedOf c) = refl
 
 -- what is read has grown
 first_commit : (P : Statements → Type 0) (r : Record) (kept : Kept) (opens : Opens P r kept) → IsCommit P opens.commit
@@ -74,18 +87,21 @@ reads_grown P rs kept reads = goes_grown P (new_after false reads.front) reads.f
 -- the checkpoint of what is kept, where records are read as it or as what agrees with it, is read as what agrees with it
 pub checkpoint_reads : (P : Statements → Type 0) (rs : List Record) (one kept : Kept) → ReadsAs P rs one → Agrees one kept → ReadsAs P (checkpoint kept) (as_read kept) × Agrees (as_read kept) kept
 checkpoint_reads P rs one kept reads agrees =
-    let grown = agreeing_is_grown P one kept agrees (reads_grown P rs one reads) in (
-      record { front = checkpoint kept; rest = []; cut = sym (append-nil (checkpoint kept)); first = as_read kept; begins = inr (checkpoint_is_read P kept grown); reads = refl },
-      reads_agree P kept grown,
-    )
+    let grown = agreeing_is_grown P one kept agrees (reads_grown P rs one reads) in (checkpoint_is_read P kept grown, reads_agree P kept grown)
 
--- each commit of a checkpoint has a short text
+-- each map of a checkpoint has a short text
 each_short : (P : Statements → Type 0) (commits : List Commit) → AllByRecursion (IsCommit P) commits → HaveShortTexts commits
 each_short P [] each = tt
 each_short P (c ∷ commits) each = (each.0.text, each_short P commits each.1)
 
-pub texts_are_short : (P : Statements → Type 0) (rs : List Record) (one kept : Kept) → ReadsAs P rs one → Agrees one kept → HaveShortTexts (listed kept)
-texts_are_short P rs one kept reads agrees = each_short P (listed kept) (is_restorable P kept (agreeing_is_grown P one kept agrees (reads_grown P rs one reads))).each
+pub texts_are_short : (P : Statements → Type 0) (rs : List Record) (one kept : Kept) → ReadsAs P rs one → Agrees one kept → HasShortMaps kept
+texts_are_short P rs one kept reads agrees =
+    let grown = agreeing_is_grown P one kept agrees (reads_grown P rs one reads) in
+    record { commits = each_short P (listed kept) (listed_each P kept grown); waiting = waiting kept.scheduled grown.waits }
+  where
+    waiting : (scheduled : Option Scheduled) → IfSome scheduled (IsWaiting P kept) → IfSome scheduled (λ (w : Scheduled). HasShortText (ScheduledOf w))
+    waiting None is = tt
+    waiting (Some w) is = is.is_scheduled.text
 
 -- two rows of one length, and what stands after them
 same_rows : (xs ys r s : List Record) → length xs ≡ length ys → xs ++ r ≡ ys ++ s → (xs ≡ ys) × (r ≡ s)
@@ -161,6 +177,7 @@ maps_are_accepted P kept grown =
       last = (all_among (IsCommit P) (commits_of kept) kept.last all (among_back kept.last kept.older (kept.last ∷ []) (inl refl))).passes;
       older = All-from_recursion (λ (c : Commit). P c.tree) kept.older (passes kept.older (kept.last ∷ []) all);
       target = target kept.pending grown.run;
+      waiting = waiting kept.scheduled grown.waits;
     }
   where
     passes : (xs ys : List Commit) → AllByRecursion (IsCommit P) (xs ++ ys) → AllByRecursion (λ (c : Commit). P c.tree) xs
@@ -171,8 +188,16 @@ maps_are_accepted P kept grown =
     target None run = tt
     target (Some run) is = (all_among (IsCommit P) (grown.early ++ commits_of kept) run.target grown.each is.among).passes
 
+    waiting : (scheduled : Option Scheduled) → IfSome scheduled (IsWaiting P kept) → IfSome scheduled (λ (w : Scheduled). P w.tree)
+    waiting None is = tt
+    waiting (Some w) is = is.is_scheduled.passes
+
 pub read_maps_are_accepted : (P : Statements → Type 0) (rs : List Record) (kept : Kept) → ReadsAs P rs kept → KeepsMaps P kept
 read_maps_are_accepted P rs kept reads = maps_are_accepted P kept (reads_grown P rs kept reads)
+
+-- a scheduled commit waits as its last entry
+pub read_waits : (P : Statements → Type 0) (rs : List Record) (kept : Kept) → ReadsAs P rs kept → IfSome kept.scheduled (IsWaiting P kept)
+read_waits P rs kept reads = (reads_grown P rs kept reads).waits
 
 -- its commits are numbered from 1, and an unconfirmed run has room for its revert
 pub read_is_numbered : (P : Statements → Type 0) (rs : List Record) (kept : Kept) → ReadsAs P rs kept → 1 ≤ kept.last.number

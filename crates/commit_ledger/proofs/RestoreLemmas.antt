@@ -8,6 +8,7 @@ use Rattle.cfg_tree.specs.Statements.{Statements}
 use Rattle.confirm_timer.specs.Deadline.{after_minutes}
 use Rattle.record_code.specs.Record.{Record}
 use Rattle.commit_ledger.specs.declared.entry.Commit.{Commit}
+use Rattle.commit_ledger.specs.declared.entry.Scheduled.{Scheduled}
 use Rattle.commit_ledger.specs.declared.entry.Entry.TheVariants.{Commit as CommitOf}
 use Rattle.commit_ledger.specs.Kept.{Kept, Unconfirmed, commits_of}
 use Rattle.commit_ledger.specs.Rules.{IsCommit, new_after}
@@ -147,12 +148,14 @@ module _ (P : Statements → Type 0) (rs : List Record) (one other : Kept) (firs
       let moment : one.moment ≡ other.moment = first.moment ∙ ap (λ (c : Commit). c.moment) last ∙ sym second.moment in
       let pending : one.pending ≡ other.pending = pendings one.pending other.pending first.rules.run second.rules.run keeps.target in
       let older : one.older ≡ other.older = (one_end one.older other.older one.last other.last commits).0 in
+      let scheduled : one.scheduled ≡ other.scheduled = first.rules.unscheduled ∙ sym second.rules.unscheduled in
       let path : one ≡ other =
-      ap (λ (n : ℕ). record { count = n; last = one.last; older = one.older; pending = one.pending; moment = one.moment }) keeps.count
-      ∙ ap (λ (c : Commit). record { count = other.count; last = c; older = one.older; pending = one.pending; moment = one.moment }) last
-      ∙ ap (λ (l : List Commit). record { count = other.count; last = other.last; older = l; pending = one.pending; moment = one.moment }) older
-      ∙ ap (λ (p : Option Unconfirmed). record { count = other.count; last = other.last; older = other.older; pending = p; moment = one.moment }) pending
-      ∙ ap (λ (n : ℕ). record { count = other.count; last = other.last; older = other.older; pending = other.pending; moment = n }) moment in path
+      ap (λ (n : ℕ). record one { count = n }) keeps.count
+      ∙ ap (λ (c : Commit). record one { count = other.count; last = c }) last
+      ∙ ap (λ (l : List Commit). record one { count = other.count; last = other.last; older = l }) older
+      ∙ ap (λ (p : Option Unconfirmed). record one { count = other.count; last = other.last; older = other.older; pending = p }) pending
+      ∙ ap (λ (w : Option Scheduled). record other { scheduled = w; moment = one.moment }) scheduled
+      ∙ ap (λ (n : ℕ). record other { moment = n }) moment in path
 
 pub number_32 : (m n : ℕ) → m < 2 ^ 32 → n < 2 ^ 32 → to_be_bytes w32 m ≡ to_be_bytes w32 n → m ≡ n
 number_32 m n lm ln is = sym (from_be_bytes-to_be_bytes_4 m lm) ∙ ap (from_be_bytes w32) is ∙ from_be_bytes-to_be_bytes_4 n ln

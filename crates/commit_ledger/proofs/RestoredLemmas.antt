@@ -117,7 +117,7 @@ module _ (f : KeepForm) (far older : List Commit) (last : Commit) (apart : IsApa
 
   -- the value that is put together
   abbrev value : Option Unconfirmed → Kept
-  value pending = record { count = f.count; last = last; older = older; pending = pending; moment = last.moment }
+  value pending = record { count = f.count; last = last; older = older; pending = pending; scheduled = None; moment = last.moment }
 
   made : (pending : Option Unconfirmed) → far_target (first_of older last.number) pending ≡ far → target_number pending ≡ f.target → last.number ≤ f.count
       → IfSome pending (IsRunAmong (far ++ (older ++ last ∷ [])) (value pending)) → IfSome pending (λ (r : Unconfirmed). r.target.number ≢ 0) → IsRestored f (far ++ (older ++ last ∷ [])) (value pending)
@@ -134,6 +134,7 @@ module _ (f : KeepForm) (far older : List Commit) (last : Commit) (apart : IsApa
     number = number;
     run = run;
     numbered = numbered;
+    unscheduled = refl;
   }
 
   abbrev run_to : Commit → Unconfirmed
@@ -161,9 +162,9 @@ module _ (f : KeepForm) (far older : List Commit) (last : Commit) (apart : IsApa
       test false told = sym none
 
 -- the value that is put together with a run
-pub ledger_is : (count : ℕ) (last : Commit) (older : List Commit) (run wanted : Unconfirmed) (kept : Kept) → kept ≡ record { count = count; last = last; older = older; pending = Some run; moment = last.moment } → run ≡ wanted
-    → record { count = count; last = last; older = older; pending = Some wanted; moment = last.moment } ≡ kept
+pub ledger_is : (count : ℕ) (last : Commit) (older : List Commit) (run wanted : Unconfirmed) (kept : Kept) → kept ≡ record { count = count; last = last; older = older; pending = Some run; scheduled = None; moment = last.moment }
+    → run ≡ wanted → record { count = count; last = last; older = older; pending = Some wanted; scheduled = None; moment = last.moment } ≡ kept
 ledger_is count last older run wanted kept is same =
-    let path : record { count = count; last = last; older = older; pending = Some wanted; moment = last.moment } ≡ kept =
-    ap (λ (r : Unconfirmed). record { count = count; last = last; older = older; pending = Some r; moment = last.moment }) (sym same) ∙ sym is in
+    let path : record { count = count; last = last; older = older; pending = Some wanted; scheduled = None; moment = last.moment } ≡ kept =
+    ap (λ (r : Unconfirmed). record { count = count; last = last; older = older; pending = Some r; scheduled = None; moment = last.moment }) (sym same) ∙ sym is in
     path

@@ -3,8 +3,8 @@ use Rattle.std.proofs.Common.{◌≡◌, ◌≤◌, ◌+◌, ◌-◌, ℕ, List,
 use Rattle.std.proofs.lemmas.List.{append-nil, drop-append-le, drop-drop}
 use Rattle.commit_ledger.specs.declared.entry.Commit.{Commit}
 use Rattle.commit_ledger.specs.declared.entry.Entry.{Entry}
-use Rattle.commit_ledger.specs.declared.entry.Entry.TheVariants.{Commit as CommitOf, Confirm as ConfirmOf}
-use Rattle.commit_ledger.specs.Kept.{Kept, newest, append_commit, append_confirm, after_entries, commits_of, commits_in, kept_commits}
+use Rattle.commit_ledger.specs.declared.entry.Entry.TheVariants.{Commit as CommitOf, Confirm as ConfirmOf, Scheduled as ScheduledOf, Cleared as ClearedOf}
+use Rattle.commit_ledger.specs.Kept.{Kept, newest, append_commit, append_confirm, append_scheduled, append_cleared, after_entries, commits_of, commits_in, kept_commits}
 
 -- the newest of the newest with one more
 newest_push : (commits : List Commit) (commit : Commit) → newest 49 (newest 49 commits ++ commit ∷ []) ≡ newest 49 (commits ++ commit ∷ [])
@@ -31,6 +31,8 @@ window (CommitOf commit ∷ entries) kept before is =
     let rest = window entries (append_commit kept commit) (before ++ kept.last ∷ []) (ap (λ l. newest 49 (l ++ kept.last ∷ [])) is ∙ newest_push before kept.last) in
     (rest.0, rest.1, rest.2 ∙ append_assoc (before ++ kept.last ∷ []) (commit ∷ []) (commits_in entries))
 window (ConfirmOf confirm ∷ entries) kept before is = window entries (append_confirm kept confirm) before is
+window (ScheduledOf waiting ∷ entries) kept before is = window entries (append_scheduled kept waiting) before is
+window (ClearedOf cleared ∷ entries) kept before is = window entries (append_cleared kept cleared) before is
 
 module _ (kept : Kept) (entries : List Entry) (few : kept_commits kept ≤ 50) where
   all_older : kept.older ≡ newest 49 kept.older

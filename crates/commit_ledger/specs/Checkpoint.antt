@@ -1,12 +1,13 @@
 -- A checkpoint: what is kept of a list, as records with which a file of the journal begins anew. This is this project's own.
-use Rattle.std.specs.Prelude.{◌≡◌, ◌≢◌, ◌≤◌, ◌<◌, ◌+◌, ◌⊎◌, nat_lt, ℕ, Bool, false, List, [], ◌∷◌, ◌++◌, length, map, Option, Some, None, IfSome, if◌then◌else◌}
+use Rattle.std.specs.Prelude.{◌≡◌, ◌≢◌, ◌≤◌, ◌<◌, ◌+◌, ◌-◌, ◌⊎◌, nat_lt, ℕ, Bool, false, List, [], ◌∷◌, ◌++◌, length, map, Option, Some, None, IfSome, IsSome, if◌then◌else◌}
 use Rattle.std.specs.List.{AllByRecursion}
 use Rattle.std.specs.Int.{w32, w64, to_be_bytes}
 use Rattle.cfg_tree.specs.Statements.{Statements}
 use Rattle.confirm_timer.specs.Deadline.{after_minutes}
 use Rattle.record_code.specs.Record.{Record}
 use Rattle.commit_ledger.specs.declared.entry.Commit.{Commit}
-use Rattle.commit_ledger.specs.declared.entry.Entry.TheVariants.{Commit as CommitOf}
+use Rattle.commit_ledger.specs.declared.entry.Scheduled.{Scheduled}
+use Rattle.commit_ledger.specs.declared.entry.Entry.TheVariants.{Commit as CommitOf, Scheduled as ScheduledOf}
 use Rattle.commit_ledger.specs.declared.limit.TheConstants.{MAX_ENTRIES}
 use Rattle.commit_ledger.specs.Kept.{Kept, Unconfirmed, commits_of}
 use Rattle.commit_ledger.specs.Payload.{HasShortText, entry_record}
@@ -52,13 +53,35 @@ keep_form kept = record { count = kept.count; target = target_number kept.pendin
 abbrev pub commit_record : Commit → Record
 commit_record commit = entry_record (CommitOf commit)
 
--- the records of a checkpoint, as it is written
+-- the records of a checkpoint where no commit is scheduled
+abbrev pub plain_checkpoint : Kept → List Record
+plain_checkpoint kept = keep_record (keep_form kept) ∷ map commit_record (listed kept)
+
+-- a list without the entry of its scheduled commit, if it has one
+abbrev pub without : Option Scheduled → Kept → Kept
+without None kept = kept
+without (Some waiting) kept = record kept { count = kept.count - 1; scheduled = None }
+
+abbrev pub stated : Kept → Kept
+stated kept = without kept.scheduled kept
+
+-- that entry's record
+abbrev pub waiting_records : Option Scheduled → List Record
+waiting_records None = []
+waiting_records (Some waiting) = entry_record (ScheduledOf waiting) ∷ []
+
+-- the records of a checkpoint, as it is written: it states the list without a scheduled commit, whose entry follows
 abbrev pub checkpoint : Kept → List Record
-checkpoint kept = keep_record (keep_form kept) ∷ map commit_record (listed kept)
+checkpoint kept = plain_checkpoint (stated kept) ++ waiting_records kept.scheduled
 
 -- each commit's map has a text that a payload has room for
 abbrev pub HaveShortTexts : List Commit → Type 0
 HaveShortTexts commits = AllByRecursion (λ (c : Commit). HasShortText (CommitOf c)) commits
+
+-- so has each map that a checkpoint has a text of
+pub record HasShortMaps (kept : Kept) : Type 0 where
+  pub commits : HaveShortTexts (listed kept)
+  pub waiting : IfSome kept.scheduled (λ (w : Scheduled). HasShortText (ScheduledOf w))
 
 -- numbers that rise by one
 abbrev pub AreConsecutive : List Commit → Type 0
@@ -85,7 +108,7 @@ pub record IsRunAmong (commits : List Commit) (kept : Kept) (run : Unconfirmed) 
   pub waits : kept.last.minutes ≢ 0
   pub room : kept.count ≤ MAX_ENTRIES
 
--- what a checkpoint keeps to
+-- what a checkpoint keeps to, up to a scheduled commit
 pub record IsRestorable (accepted : Statements → Type 0) (kept : Kept) : Type 0 where
   -- its commits keep to their own rules
   pub each : AllByRecursion (IsCommit accepted) (listed kept)
@@ -99,6 +122,7 @@ pub record IsRestorable (accepted : Statements → Type 0) (kept : Kept) : Type 
   pub number : kept.last.number ≤ kept.count
   pub room : kept.count ≤ MAX_ENTRIES + 1
   pub run : IfSome kept.pending (IsRunAmong (listed kept) kept)
+  pub unscheduled : kept.scheduled ≡ None
 
 -- records are of these commits, as they are written now or were formerly
 abbrev pub AreWritten : Bool → List Record → List Commit → Type 0
@@ -115,11 +139,17 @@ pub record Restores (accepted : Statements → Type 0) (rs : List Record) (kept 
   pub rules : IsRestorable accepted kept
   pub moment : kept.moment ≡ kept.last.moment
 
--- a value agrees with another one but for the last moment, which may be an earlier one
+-- a value agrees with another one but for the last moment, which may be an earlier one where no commit is scheduled
 pub record Agrees (one other : Kept) : Type 0 where
   pub is : other ≡ record one { moment = other.moment }
   pub no_later : one.moment ≤ other.moment
+  pub exact : IsSome one.scheduled → one.moment ≡ other.moment
+
+-- the moment that a checkpoint tells: a scheduled commit's, and else the last commit's
+abbrev pub told_by : Option Scheduled → ℕ → ℕ
+told_by None last = last
+told_by (Some waiting) last = waiting.moment
 
 -- as a checkpoint is read
 abbrev pub as_read : Kept → Kept
-as_read kept = record kept { moment = kept.last.moment }
+as_read kept = record kept { moment = told_by kept.scheduled kept.last.moment }

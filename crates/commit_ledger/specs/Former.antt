@@ -1,5 +1,5 @@
 -- Lists of commits as they were written formerly. This is this project's own.
-use Rattle.std.specs.Prelude.{◌==◌, Bool, List, map, if◌then◌else◌}
+use Rattle.std.specs.Prelude.{◌≢◌, ◌==◌, Bool, List, map, if◌then◌else◌}
 use Rattle.std.specs.List.{AllByRecursion}
 use Rattle.cfg_tree.specs.FirstProfile.{IsFirstProfile}
 use Rattle.cfg_tree.specs.Statements.{Statements}
@@ -15,7 +15,11 @@ former r = if r.kind == 4 then record r { kind = 1 } else r
 abbrev pub formerly : List Record → List Record
 formerly rs = map former rs
 
--- each commit of these records has a map of the first profile
+-- the record is of no scheduled commit, and where it is of a commit, its map is of the first profile
+pub record HasFirstMap (accepted : Statements → Type 0) (r : Record) : Type 0 where
+  pub unscheduled : r.kind ≢ 5
+  pub first : (new : Bool) (commit : Commit) → IsRecordOf accepted new r (CommitOf commit) → IsFirstProfile commit.tree
+
+-- each of these records is such a one
 abbrev pub HaveFirstMaps : (Statements → Type 0) → List Record → Type 0
-HaveFirstMaps accepted rs =
-    AllByRecursion (λ (r : Record). (new : Bool) (commit : Commit) → IsRecordOf accepted new r (CommitOf commit) → IsFirstProfile commit.tree) rs
+HaveFirstMaps accepted rs = AllByRecursion (HasFirstMap accepted) rs

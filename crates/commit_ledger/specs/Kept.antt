@@ -1,13 +1,15 @@
--- What a list of entries leaves. Junos OS CLI User Guide, on returning to an earlier configuration and on commits that
--- require a confirmation. How many entries there may be is this project's own.
-use Rattle.std.specs.Prelude.{ℕ, ◌≢◌, ◌≤◌, ◌<◌, ◌-◌, ◌+◌, ◌==◌, nat_le, Bool, false, List, reverse, [], ◌∷◌, ◌++◌, length, drop, All, Option, Some, None, IfSome, slice_get, if◌then◌else◌, codes}
+-- What a list of entries leaves. Junos OS CLI User Guide, on returning to an earlier configuration, on commits that
+-- require a confirmation and on scheduling a commit. How many entries there may be is this project's own.
+use Rattle.std.specs.Prelude.{ℕ, ◌≡◌, ◌≢◌, ◌≤◌, ◌<◌, ◌⊎◌, ◌-◌, ◌+◌, ◌==◌, nat_le, Bool, false, List, reverse, [], ◌∷◌, ◌++◌, length, drop, All, Option, Some, None, IfSome, IsSome, slice_get, if◌then◌else◌, codes}
 use Rattle.std.specs.FinMap as map
 use Rattle.cfg_tree.specs.Statements.{Statements}
 use Rattle.confirm_timer.specs.Deadline.{after_minutes}
 use Rattle.commit_ledger.specs.declared.entry.Commit.{Commit}
 use Rattle.commit_ledger.specs.declared.entry.Confirm.{Confirm}
 use Rattle.commit_ledger.specs.declared.entry.Entry.{Entry}
-use Rattle.commit_ledger.specs.declared.entry.Entry.TheVariants.{Commit as CommitOf, Confirm as ConfirmOf}
+use Rattle.commit_ledger.specs.declared.entry.Cleared.{Cleared}
+use Rattle.commit_ledger.specs.declared.entry.Scheduled.{Scheduled}
+use Rattle.commit_ledger.specs.declared.entry.Entry.TheVariants.{Commit as CommitOf, Confirm as ConfirmOf, Scheduled as ScheduledOf, Cleared as ClearedOf}
 use Rattle.commit_ledger.specs.declared.entry.Via.TheVariants.{Other}
 use Rattle.commit_ledger.specs.declared.limit.TheConstants.{MAX_ENTRIES}
 
@@ -16,12 +18,14 @@ pub record Unconfirmed : Type 0 where
   pub deadline : ℕ
   pub target : Commit
 
--- how many entries there are, the last commit, those before it, oldest first, what is unconfirmed, and the last entry's moment
+-- how many entries there are, the last commit, those before it, oldest first, what is unconfirmed, what is scheduled, and the
+-- last entry's moment
 pub record Kept : Type 0 where
   pub count : ℕ
   pub last : Commit
   pub older : List Commit
   pub pending : Option Unconfirmed
+  pub scheduled : Option Scheduled
   pub moment : ℕ
 
 -- the commit that every list begins with: number 1, of no statement, by root, at moment 0
@@ -38,7 +42,7 @@ factory_commit = record {
 
 -- what a first commit alone leaves
 abbrev pub opened : Commit → Kept
-opened commit = record { count = 1; last = commit; older = []; pending = None; moment = commit.moment }
+opened commit = record { count = 1; last = commit; older = []; pending = None; scheduled = None; moment = commit.moment }
 
 abbrev pub factory : Kept
 factory = opened factory_commit
@@ -61,13 +65,14 @@ pending_after kept commit =
     if commit.minutes == 0 then None
     else Some (record { deadline = after_minutes commit.moment commit.minutes; target = target_of kept })
 
--- one more commit: with the last one 50 are kept
+-- one more commit: with the last one 50 are kept, and none is scheduled any more
 abbrev pub append_commit : Kept → Commit → Kept
 append_commit kept commit = record {
   count = kept.count + 1;
   last = commit;
   older = newest 49 (kept.older ++ kept.last ∷ []);
   pending = pending_after kept commit;
+  scheduled = None;
   moment = commit.moment;
 }
 
@@ -75,10 +80,20 @@ append_commit kept commit = record {
 abbrev pub append_confirm : Kept → Confirm → Kept
 append_confirm kept confirm = record kept { count = kept.count + 1; pending = None; moment = confirm.moment }
 
+-- a commit that is set for a later time is none yet: it waits
+abbrev pub append_scheduled : Kept → Scheduled → Kept
+append_scheduled kept waiting = record kept { count = kept.count + 1; scheduled = Some waiting; moment = waiting.moment }
+
+-- nothing is scheduled any more
+abbrev pub append_cleared : Kept → Cleared → Kept
+append_cleared kept cleared = record kept { count = kept.count + 1; scheduled = None; moment = cleared.moment }
+
 -- one more entry at the end of the list
 abbrev pub append_entry : Kept → Entry → Kept
 append_entry kept (CommitOf commit) = append_commit kept commit
 append_entry kept (ConfirmOf confirm) = append_confirm kept confirm
+append_entry kept (ScheduledOf waiting) = append_scheduled kept waiting
+append_entry kept (ClearedOf cleared) = append_cleared kept cleared
 
 -- what a list of further entries leaves
 abbrev pub after_entries : Kept → List Entry → Kept
@@ -90,6 +105,8 @@ abbrev pub commits_in : List Entry → List Commit
 commits_in [] = []
 commits_in (CommitOf commit ∷ entries) = commit ∷ commits_in entries
 commits_in (ConfirmOf confirm ∷ entries) = commits_in entries
+commits_in (ScheduledOf waiting ∷ entries) = commits_in entries
+commits_in (ClearedOf cleared ∷ entries) = commits_in entries
 
 -- the active configuration: the map of the last commit
 abbrev pub active_of : Kept → Statements
@@ -115,16 +132,26 @@ kept_commits kept = length kept.older + 1
 abbrev pub target_for : Kept → Entry → Option Commit
 target_for kept (CommitOf commit) = if commit.minutes == 0 then None else Some (target_of kept)
 target_for kept (ConfirmOf confirm) = None
+target_for kept (ScheduledOf waiting) = None
+target_for kept (ClearedOf cleared) = None
 
--- the list has room for the entry; where a run is unconfirmed it keeps room for one more, as a revert makes it
+-- not both wait: a run for its confirmation, and a scheduled commit for its time
+abbrev pub HasOneWaiting : Kept → Type 0
+HasOneWaiting kept = (kept.pending ≡ None) ⊎ (kept.scheduled ≡ None)
+
+-- the list has room for the entry; where a run or a scheduled commit waits afterwards it keeps room for one more, which ends that
 abbrev pub RoomFor : Kept → Entry → Type 0
 RoomFor kept (CommitOf commit) = (kept.count ≤ MAX_ENTRIES) × (commit.minutes ≢ 0 → kept.count < MAX_ENTRIES)
-RoomFor kept (ConfirmOf confirm) = kept.count ≤ MAX_ENTRIES
+RoomFor kept (ConfirmOf confirm) = (kept.count ≤ MAX_ENTRIES) × (IsSome kept.scheduled → kept.count < MAX_ENTRIES)
+RoomFor kept (ScheduledOf waiting) = kept.count < MAX_ENTRIES
+RoomFor kept (ClearedOf cleared) = (kept.count ≤ MAX_ENTRIES) × (IsSome kept.pending → kept.count < MAX_ENTRIES)
 
 -- a commit's number isn't above the number of its entry
 abbrev pub NumberFits : Kept → Entry → Type 0
 NumberFits kept (CommitOf commit) = commit.number ≤ kept.count + 1
 NumberFits kept (ConfirmOf confirm) = Unit {0}
+NumberFits kept (ScheduledOf waiting) = Unit {0}
+NumberFits kept (ClearedOf cleared) = Unit {0}
 
 -- an unconfirmed run's deadline has come
 abbrev pub is_missed : Option Unconfirmed → ℕ → Bool
@@ -151,8 +178,11 @@ pub record KeepsMaps (accepted : Statements → Type 0) (kept : Kept) : Type 0 w
   pub last : accepted kept.last.tree
   pub older : All (λ commit. accepted commit.tree) kept.older
   pub target : IfSome kept.pending (λ run. accepted run.target.tree)
+  pub waiting : IfSome kept.scheduled (λ waiting. accepted waiting.tree)
 
 -- an entry brings such a map, or none
 abbrev pub BringsMap : (Statements → Type 0) → Entry → Type 0
 BringsMap accepted (CommitOf commit) = accepted commit.tree
 BringsMap accepted (ConfirmOf confirm) = Unit {0}
+BringsMap accepted (ScheduledOf waiting) = accepted waiting.tree
+BringsMap accepted (ClearedOf cleared) = Unit {0}

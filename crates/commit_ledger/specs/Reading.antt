@@ -1,5 +1,5 @@
 -- How the records of a journal are read as what is kept, up to the first one that breaks a rule. This is this project's own.
-use Rattle.std.specs.Prelude.{◌≡◌, ◌≢◌, ◌⊎◌, ℕ, Bool, false, List, [], ◌∷◌, ◌++◌}
+use Rattle.std.specs.Prelude.{◌≡◌, ◌≢◌, ◌⊎◌, ◌||◌, ℕ, Bool, false, List, [], ◌∷◌, ◌++◌, is_some}
 use Rattle.cfg_tree.specs.Statements.{Statements}
 use Rattle.record_code.specs.declared.payloads.Placed.{Placed}
 use Rattle.record_code.specs.Listed.{record_of, records_of}
@@ -31,10 +31,11 @@ pub record Opens (accepted : Statements → Type 0) (r : Record) (kept : Kept) :
 abbrev pub Begins : (Statements → Type 0) → List Record → Kept → Type 0
 Begins accepted front kept = ((r : Record) × (front ≡ r ∷ []) × Opens accepted r kept) ⊎ Restores accepted front kept
 
--- a further record is of an entry that may be the next one; `new` says whether a commit as it is written now has come
+-- a further record is of an entry that may be the next one; `new` says whether a commit as it is written now has come. A scheduled
+-- commit becomes one as it is written now
 pub record GoesOn (accepted : Statements → Type 0) (new : Bool) (kept : Kept) (r : Record) (next : Kept) : Type 0 where
   pub entry : Entry
-  pub is_record : IsRecordOf accepted new r entry
+  pub is_record : IsRecordOf accepted (new || is_some kept.scheduled) r entry
   pub follows : Follows kept entry
   pub is : next ≡ append_entry kept entry
 

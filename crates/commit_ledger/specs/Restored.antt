@@ -21,6 +21,7 @@ pub record IsRestored (f : KeepForm) (commits : List Commit) (kept : Kept) : Typ
   pub number : kept.last.number ≤ kept.count
   pub run : IfSome kept.pending (IsRunAmong commits kept)
   pub numbered : IfSome kept.pending (λ (r : Unconfirmed). r.target.number ≢ 0)
+  pub unscheduled : kept.scheduled ≡ None
 
 -- the commits of a checkpoint taken apart: what stands before those that are kept, those before the last one, and the last one
 pub record IsApart (far older : List Commit) (last : Commit) : Type 0 where

@@ -3,7 +3,7 @@
 ghost use Rattle.std.specs.Prelude.{◌≡◌, ◌≤◌, ◌+◌, ◌++◌, length, vec_capacity, IfOk, OnOk};
 ghost use Rattle.std.specs.Option.{option_map};
 
-use crate::entry::Commit;
+use crate::entry::{Commit, Scheduled};
 use crate::ledger::{Ledger, ROOM, Run};
 use cfg_base::NoMemory;
 use std::alloc::Global;
@@ -47,6 +47,15 @@ fn copied_run(pending: &Option<Run>) -> Result<Option<Run>, NoMemory>
     }
 }
 
+fn copied_waiting(scheduled: &Option<Scheduled>) -> Result<Option<Scheduled>, NoMemory>
+    ensures { IfOk result (λ copy. copy ≡ scheduled.now) }
+{
+    match scheduled {
+        Some(waiting) => Ok(Some(waiting.copy()?)),
+        None => Ok(None),
+    }
+}
+
 impl Ledger {
     /// A copy, whose maps share their pages.
     pub fn copy(&self, alloc: Global) -> Result<Ledger, NoMemory>
@@ -57,6 +66,7 @@ impl Ledger {
             last: self.last.copy()?,
             older: copied(alloc, &self.older)?,
             pending: copied_run(&self.pending)?,
+            scheduled: copied_waiting(&self.scheduled)?,
             moment: self.moment,
         })
     }

@@ -34,11 +34,36 @@ pub struct Confirm {
     pub moment: Moment,
 }
 
+/// A commit that is set for a later time. Its configuration is fixed by then.
+#[derive(Debug, Drop)]
+pub struct Scheduled {
+    /// The number that the commit will have.
+    pub number: u64,
+    pub user: UserName,
+    pub moment: Moment,
+    /// When it is to become a commit.
+    pub at: Moment,
+    /// Without bytes where there is none.
+    pub comment: Word,
+    pub tree: Tree,
+}
+
+/// A scheduled commit that was called off.
+#[derive(Debug, Drop)]
+pub struct Cleared {
+    /// The number that the commit would have had.
+    pub number: u64,
+    pub user: UserName,
+    pub moment: Moment,
+}
+
 /// One entry of the list.
 #[derive(Debug, Drop)]
 pub enum Entry {
     Commit(Commit),
     Confirm(Confirm),
+    Scheduled(Scheduled),
+    Cleared(Cleared),
 }
 
 impl Commit {
@@ -54,6 +79,22 @@ impl Commit {
             comment: self.comment.clone()?,
             tree: self.tree.copy()?,
             minutes: self.minutes,
+        })
+    }
+}
+
+impl Scheduled {
+    /// A copy, whose map shares its pages.
+    pub fn copy(&self) -> Result<Scheduled, NoMemory>
+        ensures { IfOk result (λ scheduled. scheduled ≡ self.now) }
+    {
+        Ok(Scheduled {
+            number: self.number,
+            user: self.user.clone()?,
+            moment: self.moment,
+            at: self.at,
+            comment: self.comment.clone()?,
+            tree: self.tree.copy()?,
         })
     }
 }

@@ -2,16 +2,17 @@
 
 ghost use Rattle.std.specs.Prelude.{◌≡◌, ◌≤◌, ◌++◌, ◌∷◌, [], map, length, IfOk, IfSome, IsNone};
 ghost use Rattle.record_code.specs.Record.{most_payload};
-ghost use Rattle.commit_ledger.specs.declared.entry.Entry.TheVariants.{Commit as CommitOf};
-ghost use Rattle.commit_ledger.specs.Checkpoint.{HaveShortTexts, checkpoint, commit_record, far_target, first_number, keep_bytes, keep_form, listed, target_number};
+ghost use Rattle.commit_ledger.specs.declared.entry.Entry.TheVariants.{Commit as CommitOf, Scheduled as ScheduledOf};
+ghost use Rattle.commit_ledger.specs.declared.entry.Scheduled.{Scheduled};
+ghost use Rattle.commit_ledger.specs.Checkpoint.{HasShortMaps, HaveShortTexts, checkpoint, commit_record, far_target, first_number, keep_bytes, keep_form, listed, stated, target_number, waiting_records};
 ghost use Rattle.commit_ledger.specs.Form.{keep_read};
 ghost use Rattle.commit_ledger.specs.Payload.{HasShortText};
 
-use crate::entry::Commit;
+use crate::entry::{Commit, Scheduled};
 use crate::form::KeepRead;
-use crate::kinds::{COMMIT, KEEP};
+use crate::kinds::{COMMIT, KEEP, SCHEDULED};
 use crate::ledger::Ledger;
-use crate::payload::commit_payload;
+use crate::payload::{commit_payload, scheduled_payload};
 use cfg_base::{Bytes, NoMemory};
 use record_code::{Encoded, encode};
 use std::alloc::Global;
@@ -53,6 +54,24 @@ fn with_commits(alloc: Global, image: Encoded, commits: &[Commit]) -> Result<Enc
     }
 }
 
+/// Puts the record of a scheduled commit after others, where there is one.
+fn with_waiting(
+    alloc: Global,
+    image: Encoded,
+    scheduled: &Option<Scheduled>,
+) -> Result<Encoded, NoMemory>
+    requires { IfSome scheduled.now (λ (w : Scheduled). HasShortText (ScheduledOf w)) }
+    ensures { IfOk result (λ e. e ≡ image ++ waiting_records scheduled.now) }
+{
+    match scheduled {
+        None => Ok(image),
+        Some(waiting) => {
+            let payload = scheduled_payload(alloc, waiting)?;
+            image.with(SCHEDULED, &payload)
+        }
+    }
+}
+
 impl Ledger {
     fn first_number(&self) -> u64
         ensures { result ≡ first_number self.now }
@@ -83,16 +102,26 @@ impl Ledger {
         }
     }
 
+    /// How many entries there are but for a scheduled commit's.
+    fn stated_count(&self) -> u64
+        ensures { result ≡ (stated self.now).count }
+    {
+        match &self.scheduled {
+            Some(_) => self.count.saturating_sub(1),
+            None => self.count,
+        }
+    }
+
     /// What the first record of a checkpoint states.
     fn keep(&self) -> KeepRead
-        ensures { keep_read result ≡ keep_form self.now }
+        ensures { keep_read result ≡ keep_form (stated self.now) }
     {
         let far = match self.far_target() {
             Some(_) => 1,
             None => 0,
         };
         KeepRead {
-            count: self.count,
+            count: self.stated_count(),
             target: self.target_number(),
             commits: far + self.older.len() as u32 + 1,
         }
@@ -111,13 +140,14 @@ impl Ledger {
 
     /// What is kept as the records of a checkpoint. Each map is printed once, one after another.
     pub fn keep_image(&self, alloc: Global) -> Result<Encoded, NoMemory>
-        requires { HaveShortTexts (listed self.now) }
+        requires { HasShortMaps self.now }
         ensures { IfOk result (λ image. image ≡ checkpoint self.now) }
     {
         let keep = keep_payload(alloc, &self.keep())?;
         let image = encode(alloc, KEEP, &keep)?;
         let image = self.with_far_target(alloc, image)?;
         let image = with_commits(alloc, image, &self.older)?;
-        with_commit(alloc, image, &self.last)
+        let image = with_commit(alloc, image, &self.last)?;
+        with_waiting(alloc, image, &self.scheduled)
     }
 }

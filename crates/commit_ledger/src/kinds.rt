@@ -11,3 +11,9 @@ pub(crate) const KEEP: u8 = 3;
 
 /// A commit, as it is written.
 pub(crate) const COMMIT: u8 = 4;
+
+/// A commit that is set for a later time.
+pub(crate) const SCHEDULED: u8 = 5;
+
+/// A scheduled commit that was called off.
+pub(crate) const CLEARED: u8 = 6;

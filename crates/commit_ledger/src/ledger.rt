@@ -1,9 +1,9 @@
 ghost use Rattle.std.specs.Prelude.{◌≡◌, ◌≤◌, ◌+◌, ◌↔◌, IsSome, IsErr, IfOk, IfErr, Some, None};
 ghost use Rattle.std.specs.Option.{option_map};
 ghost use Rattle.commit_ledger.specs.declared.limit.TheConstants.{MAX_ENTRIES};
-ghost use Rattle.commit_ledger.specs.Kept.{factory, active_of, nth_last, kept_commits, target_of};
+ghost use Rattle.commit_ledger.specs.Kept.{factory, active_of, nth_last, kept_commits, target_of, HasOneWaiting};
 
-use crate::entry::{Commit, Via};
+use crate::entry::{Commit, Scheduled, Via};
 use cfg_base::{Moment, NoMemory, UserName, Word};
 use cfg_tree::Tree;
 use std::alloc::Global;
@@ -42,11 +42,12 @@ pub struct Ledger {
     pub(crate) last: Commit,
     pub(crate) older: Vec<Commit>,
     pub(crate) pending: Option<Run>,
+    pub(crate) scheduled: Option<Scheduled>,
     pub(crate) moment: Moment,
 }
 
 impl Model for Ledger {
-    ghost use Rattle.std.specs.Prelude.{◌≤◌, ◌+◌, length, vec_capacity, IsSome};
+    ghost use Rattle.std.specs.Prelude.{◌≡◌, ◌≤◌, ◌⊎◌, ◌+◌, length, vec_capacity, None, IsSome};
     ghost use Rattle.std.specs.Option.{option_map};
     ghost use Rattle.std.specs.Coded.{codes};
     ghost use Rattle.cfg_tree.specs.Statements.{statements_code};
@@ -63,11 +64,13 @@ impl Model for Ledger {
       last = l.last;
       older = l.older.items;
       pending = option_map (λ (r : Run). record { deadline = r.deadline; target = r.target }) l.pending;
+      scheduled = l.scheduled;
       moment = l.moment;
     } };
 
     ghost invariant = { λ l. (l.last.number ≤ l.count) × (l.count ≤ MAX_ENTRIES + 1) × (length l.older.items ≤ 49)
-        × (50 ≤ vec_capacity l.older) × (IsSome l.pending → l.count ≤ MAX_ENTRIES) };
+        × (50 ≤ vec_capacity l.older) × (IsSome l.pending → l.count ≤ MAX_ENTRIES) × (IsSome l.scheduled → l.count ≤ MAX_ENTRIES)
+        × ((l.pending ≡ None) ⊎ (l.scheduled ≡ None)) };
 }
 
 fn factory_commit(alloc: Global) -> Result<Commit, NoMemory>
@@ -97,6 +100,7 @@ impl Ledger {
             last,
             older,
             pending: None,
+            scheduled: None,
         })
     }
 
@@ -152,6 +156,16 @@ impl Ledger {
             }),
             None => None,
         }
+    }
+
+    /// The commit that is scheduled. While one is there is room for the entry of the commit that it becomes, and no run is
+    /// unconfirmed.
+    pub fn scheduled(&self) -> Option<&Scheduled>
+        ensures is { option_map (λ waiting. waiting.now) result ≡ self.now.scheduled }
+        ensures room { IsSome self.now.scheduled → self.now.count ≤ MAX_ENTRIES }
+        ensures one { HasOneWaiting self.now }
+    {
+        self.scheduled.as_ref()
     }
 
     /// The map that an unconfirmed run goes back to.

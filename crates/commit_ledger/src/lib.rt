@@ -26,7 +26,7 @@ mod revert;
 mod sharing;
 mod text;
 
-pub use entry::{Commit, Confirm, Entry, Via};
+pub use entry::{Cleared, Commit, Confirm, Entry, Scheduled, Via};
 pub use laws::{
     checkpoints_are_read, former_lists_are_read, kept_maps_stay_accepted, listings_are_one_text,
     lists_begin_with_one_commit, records_have_one_reading, the_last_fifty_commits_are_kept,

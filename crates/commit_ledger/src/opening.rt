@@ -1,22 +1,22 @@
 //! A ledger of the records of a journal.
 
-ghost use Rattle.std.specs.Prelude.{◌≡◌, ◌≤◌, ◌↔◌, ◌+◌, ◌∷◌, ℕ, Some, None, IsTrue, IsNone, IsErrOf, IfSome, IfOk, OnOk};
+ghost use Rattle.std.specs.Prelude.{◌≡◌, ◌≤◌, ◌↔◌, ◌+◌, ◌∷◌, ◌||◌, ℕ, Some, None, is_some, IsTrue, IsNone, IsErrOf, IfSome, IfOk, OnOk};
 ghost use Rattle.record_code.specs.Listed.{record_of, records_of};
 ghost use Rattle.commit_ledger.specs.declared.limit.TheConstants.{MAX_ENTRIES};
 ghost use Rattle.commit_ledger.specs.declared.entry.Commit.{Commit};
 ghost use Rattle.commit_ledger.specs.declared.entry.Entry.{Entry};
 ghost use Rattle.commit_ledger.specs.declared.opening.LedgerFault.{LedgerFault};
-ghost use Rattle.commit_ledger.specs.Kept.{Kept, opened, NumberFits, RoomFor};
+ghost use Rattle.commit_ledger.specs.Kept.{Kept, append_entry, opened, HasOneWaiting, NumberFits, RoomFor};
 ghost use Rattle.commit_ledger.specs.Reading.{BeginsBadly, IsBegun, IsFirstCommit, Opens, GoesOn, GoesThrough, ReadsAs, IsFirstBad, IsUnread};
-ghost use Rattle.commit_ledger.specs.Rules.{Follows, CommitFollows, ConfirmFollows};
+ghost use Rattle.commit_ledger.specs.Rules.{Follows, CommitFollows, ConfirmFollows, ScheduledFollows, ClearedFollows, IsCarried};
 
-use crate::entry::{Commit, Confirm, Entry};
+use crate::entry::{Cleared, Commit, Confirm, Entry, Scheduled, Via};
 use crate::kinds::KEEP;
 use crate::ledger::{Ledger, ROOM};
 use crate::limit::MAX_ENTRIES;
 use crate::reading::{entry_of, new_behind};
 use crate::restoring::restore;
-use cfg_base::NoMemory;
+use cfg_base::{MOMENT_MAX, NoMemory, Word};
 use cfg_tree::LedgerCheck;
 use record_code::{Payloads, Placed};
 use std::alloc::Global;
@@ -56,7 +56,43 @@ fn opened(alloc: Global, commit: Commit) -> Result<Ledger, NoMemory>
         last: commit,
         older,
         pending: None,
+        scheduled: None,
     })
+}
+
+fn is_same_word(one: &Word, other: &Word) -> bool
+    ensures { IsTrue result ↔ (one.now ≡ other.now) }
+{
+    one.as_bytes() == other.as_bytes()
+}
+
+/// Whether a commit has the user, the comment and the map of one that was scheduled.
+fn is_as_scheduled(waiting: &Scheduled, commit: &Commit) -> bool
+    ensures { IsTrue result ↔ (commit.now.user ≡ waiting.now.user) × (commit.now.comment ≡ waiting.now.comment)
+        × (commit.now.tree ≡ waiting.now.tree) }
+{
+    is_same_word(commit.user.as_word(), waiting.user.as_word())
+        && is_same_word(&commit.comment, &waiting.comment)
+        && commit.tree.same(&waiting.tree)
+}
+
+fn is_by_session(via: Via) -> bool
+    ensures { IsTrue result ↔ (via ≡ Via.Cli) }
+{
+    match via {
+        Via::Cli => true,
+        Via::Other => false,
+    }
+}
+
+/// Whether a commit is the one that was scheduled, at its time or later.
+fn is_carried(waiting: &Scheduled, commit: &Commit) -> bool
+    ensures { IsTrue result ↔ IsCarried waiting.now commit.now }
+{
+    is_as_scheduled(waiting, commit)
+        && is_by_session(commit.via)
+        && commit.minutes == 0
+        && waiting.at <= commit.moment
 }
 
 fn first_commit(entry: Entry) -> Option<Commit>
@@ -138,6 +174,16 @@ impl Ledger {
         }
     }
 
+    /// Whether a commit is the one that is scheduled, or none is.
+    fn may_come(&self, commit: &Commit) -> bool
+        ensures { IsTrue result ↔ IfSome self.now.scheduled (λ waiting. IsCarried waiting commit.now) }
+    {
+        match &self.scheduled {
+            Some(waiting) => is_carried(waiting, commit),
+            None => true,
+        }
+    }
+
     fn commit_follows(&self, commit: &Commit) -> bool
         ensures exact { IsTrue result ↔ CommitFollows self.now commit.now }
         ensures number { IsTrue result → commit.now.number ≤ self.now.count + 1 }
@@ -145,26 +191,60 @@ impl Ledger {
         commit.number == self.last().number + 1
             && self.moment() <= commit.moment
             && self.has_room(commit)
+            && self.may_come(commit)
     }
 
     fn confirm_follows(&self, confirm: &Confirm) -> bool
         ensures exact { IsTrue result ↔ ConfirmFollows self.now confirm.now }
-        ensures room { IsTrue result → self.now.count ≤ MAX_ENTRIES }
+        ensures room { IsTrue result → RoomFor self.now (Entry.Confirm confirm.now) }
     {
+        // While a run waits nothing is scheduled, so no room has to be kept.
+        let _ = self.scheduled();
         confirm.number == self.last().number
             && self.moment() <= confirm.moment
             && self.pending().is_some()
+    }
+
+    fn scheduled_follows(&self, waiting: &Scheduled) -> bool
+        ensures { IsTrue result ↔ ScheduledFollows self.now waiting.now }
+    {
+        waiting.number == self.last().number + 1
+            && self.moment() <= waiting.moment
+            && waiting.moment < waiting.at
+            && waiting.at.seconds() < MOMENT_MAX
+            && self.pending().is_none()
+            && self.scheduled.is_none()
+            && self.count < MAX_ENTRIES
+    }
+
+    fn cleared_follows(&self, cleared: &Cleared) -> bool
+        ensures exact { IsTrue result ↔ ClearedFollows self.now cleared.now }
+        ensures room { IsTrue result → RoomFor self.now (Entry.Cleared cleared.now) }
+    {
+        cleared.number == self.last().number + 1
+            && self.moment() <= cleared.moment
+            && self.scheduled.is_some()
     }
 
     fn follows(&self, entry: &Entry) -> bool
         ensures exact { IsTrue result ↔ Follows self.now entry.now }
         ensures number { IsTrue result → NumberFits self.now entry.now }
         ensures room { IsTrue result → RoomFor self.now entry.now }
+        ensures one { IsTrue result → HasOneWaiting (append_entry self.now entry.now) }
     {
         match entry {
             Entry::Commit(commit) => self.commit_follows(commit),
             Entry::Confirm(confirm) => self.confirm_follows(confirm),
+            Entry::Scheduled(waiting) => self.scheduled_follows(waiting),
+            Entry::Cleared(cleared) => self.cleared_follows(cleared),
         }
+    }
+
+    /// Whether a commit as it is written now has come, or is scheduled: behind either no former commit is read.
+    fn is_new(&self, new: bool) -> bool
+        ensures { result ≡ (new || is_some self.now.scheduled) }
+    {
+        new || self.scheduled.is_some()
     }
 
     /// Takes in the entry of a further record.
@@ -182,7 +262,7 @@ impl Ledger {
         let bad = LedgerFault::BadRecord {
             offset: placed.offset,
         };
-        let Some(entry) = entry_of(alloc, new, placed, judge)? else {
+        let Some(entry) = entry_of(alloc, self.is_new(new), placed, judge)? else {
             return Err(bad);
         };
         if !self.follows(&entry) {

@@ -2,13 +2,13 @@
 
 ghost use Rattle.std.specs.Prelude.{◌≡◌, ◌≢◌, ◌<◌, ◌≤◌, ◌^◌, length, IfOk, IfSome, IsNone};
 ghost use Rattle.record_code.specs.Record.{most_payload};
-ghost use Rattle.commit_ledger.specs.Form.{commit_read, confirm_read};
-ghost use Rattle.commit_ledger.specs.Payload.{text_of, CommitForm, ConfirmForm, form_of, confirm_form, commit_bytes, confirm_bytes, CommitFits, ConfirmFits, kind_of, payload_bytes, via_byte, most_text, HasShortText};
+ghost use Rattle.commit_ledger.specs.Form.{commit_read, confirm_read, scheduled_read};
+ghost use Rattle.commit_ledger.specs.Payload.{text_of, CommitForm, ConfirmForm, ScheduledForm, form_of, confirm_form, cleared_form, scheduled_form, commit_bytes, confirm_bytes, scheduled_bytes, CommitFits, ConfirmFits, ScheduledFits, kind_of, payload_bytes, via_byte, most_text, HasShortText};
 
-use crate::entry::{Commit, Confirm, Entry, Via};
+use crate::entry::{Cleared, Commit, Confirm, Entry, Scheduled, Via};
 use crate::fields::{take_short, take_u32, take_u64, take_via, whole_text};
-use crate::form::{CommitRead, ConfirmRead};
-use crate::kinds::{COMMIT, CONFIRM};
+use crate::form::{CommitRead, ConfirmRead, ScheduledRead};
+use crate::kinds::{CLEARED, COMMIT, CONFIRM, SCHEDULED};
 use cfg_base::{Bytes, NoMemory, Path};
 use cfg_tree::Tree;
 use curly_print::print;
@@ -19,6 +19,9 @@ const COMMIT_BYTES: usize = 27;
 
 /// The bytes of a confirmation's payload beside its user.
 const CONFIRM_BYTES: usize = 17;
+
+/// The bytes of a scheduled commit's payload beside its user, comment and text.
+const SCHEDULED_BYTES: usize = 30;
 
 fn byte_of(via: Via) -> u8
     ensures { result ≡ via_byte via }
@@ -83,6 +86,51 @@ fn confirm_payload(alloc: Global, confirm: &Confirm) -> Result<Bytes, NoMemory>
     Ok(Bytes::from(bytes))
 }
 
+fn cleared_payload(alloc: Global, cleared: &Cleared) -> Result<Bytes, NoMemory>
+    ensures bytes { IfOk result (λ bytes. bytes ≡ confirm_bytes (cleared_form cleared.now)) }
+    ensures size { IfOk result (λ bytes. length bytes ≤ most_payload) }
+{
+    let user = cleared.user.as_word().as_bytes();
+    let mut bytes = Vec::with_capacity(alloc, CONFIRM_BYTES + user.len())?;
+    bytes.extend_from_slice(&cleared.number.to_be_bytes())?;
+    bytes.extend_from_slice(&cleared.moment.seconds().to_be_bytes())?;
+    bytes.push(user.len() as u8)?;
+    bytes.extend_from_slice(user)?;
+    Ok(Bytes::from(bytes))
+}
+
+fn waiting_with_text(alloc: Global, waiting: &Scheduled, text: &[u8]) -> Result<Bytes, NoMemory>
+    requires short { length text.now ≤ most_text }
+    requires own { text.now ≡ text_of waiting.now.tree }
+    ensures bytes { IfOk result (λ bytes. bytes ≡ scheduled_bytes (scheduled_form waiting.now)) }
+    ensures size { IfOk result (λ bytes. length bytes ≤ most_payload) }
+{
+    let user = waiting.user.as_word().as_bytes();
+    let comment = waiting.comment.as_bytes();
+    let room = SCHEDULED_BYTES + user.len() + comment.len() + text.len();
+    let mut bytes = Vec::with_capacity(alloc, room)?;
+    bytes.extend_from_slice(&waiting.number.to_be_bytes())?;
+    bytes.extend_from_slice(&waiting.moment.seconds().to_be_bytes())?;
+    bytes.extend_from_slice(&waiting.at.seconds().to_be_bytes())?;
+    bytes.push(user.len() as u8)?;
+    bytes.extend_from_slice(user)?;
+    bytes.push(comment.len() as u8)?;
+    bytes.extend_from_slice(comment)?;
+    bytes.extend_from_slice(&(text.len() as u32).to_be_bytes())?;
+    bytes.extend_from_slice(text)?;
+    Ok(Bytes::from(bytes))
+}
+
+/// The payload of a scheduled commit's record.
+pub(crate) fn scheduled_payload(alloc: Global, waiting: &Scheduled) -> Result<Bytes, NoMemory>
+    requires { length (text_of waiting.now.tree) ≤ most_text }
+    ensures bytes { IfOk result (λ bytes. bytes ≡ scheduled_bytes (scheduled_form waiting.now)) }
+    ensures size { IfOk result (λ bytes. length bytes ≤ most_payload) }
+{
+    let text = text_of(alloc, &waiting.tree)?;
+    waiting_with_text(alloc, waiting, text.as_slice())
+}
+
 impl Entry {
     /// The kind of its record.
     pub fn kind(&self) -> u8
@@ -91,6 +139,8 @@ impl Entry {
         match self {
             Entry::Commit(_) => COMMIT,
             Entry::Confirm(_) => CONFIRM,
+            Entry::Scheduled(_) => SCHEDULED,
+            Entry::Cleared(_) => CLEARED,
         }
     }
 }
@@ -104,6 +154,8 @@ pub fn payload_of(alloc: Global, entry: &Entry) -> Result<Bytes, NoMemory>
     match entry {
         Entry::Commit(commit) => commit_payload(alloc, commit),
         Entry::Confirm(confirm) => confirm_payload(alloc, confirm),
+        Entry::Scheduled(waiting) => scheduled_payload(alloc, waiting),
+        Entry::Cleared(cleared) => cleared_payload(alloc, cleared),
     }
 }
 
@@ -131,7 +183,29 @@ pub(crate) fn read_commit(bytes: &[u8]) -> Option<CommitRead<'_>>
     })
 }
 
-/// The fields of a confirmation's payload.
+/// The fields of a scheduled commit's payload.
+pub(crate) fn read_scheduled(bytes: &[u8]) -> Option<ScheduledRead<'_>>
+    ensures some { IfSome result (λ read. bytes.now ≡ scheduled_bytes (scheduled_read read)) }
+    ensures fits { IfSome result (λ read. ScheduledFits (scheduled_read read)) }
+    ensures none { IsNone result → (f : ScheduledForm) → ScheduledFits f → bytes.now ≢ scheduled_bytes f }
+{
+    let (number, rest) = take_u64(bytes)?;
+    let (moment, rest) = take_u64(rest)?;
+    let (at, rest) = take_u64(rest)?;
+    let (user, rest) = take_short(rest)?;
+    let (comment, rest) = take_short(rest)?;
+    let text = whole_text(rest)?;
+    Some(ScheduledRead {
+        number,
+        moment,
+        at,
+        user,
+        comment,
+        text,
+    })
+}
+
+/// The fields of a confirmation's payload, or of what calls a scheduled commit off.
 pub(crate) fn read_confirm(bytes: &[u8]) -> Option<ConfirmRead<'_>>
     ensures some { IfSome result (λ read. bytes.now ≡ confirm_bytes (confirm_read read)) }
     ensures fits { IfSome result (λ read. ConfirmFits (confirm_read read)) }

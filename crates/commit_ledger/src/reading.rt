@@ -9,16 +9,18 @@ ghost use Rattle.cfg_values.specs.Spelling.{IsText};
 ghost use Rattle.record_code.specs.Listed.{record_of, records_of};
 ghost use Rattle.commit_ledger.specs.declared.entry.Commit.{Commit};
 ghost use Rattle.commit_ledger.specs.declared.entry.Confirm.{Confirm};
+ghost use Rattle.commit_ledger.specs.declared.entry.Cleared.{Cleared};
+ghost use Rattle.commit_ledger.specs.declared.entry.Scheduled.{Scheduled};
 ghost use Rattle.commit_ledger.specs.declared.entry.Entry.{Entry};
-ghost use Rattle.commit_ledger.specs.Form.{commit_read, confirm_read, IsInRange, IsCommitFrom, IsCommitOf, IsConfirmFrom, IsConfirmOf};
-ghost use Rattle.commit_ledger.specs.Payload.{text_of, CommitFits, ConfirmFits};
+ghost use Rattle.commit_ledger.specs.Form.{commit_read, confirm_read, scheduled_read, IsInRange, IsScheduledInRange, IsCommitFrom, IsCommitOf, IsConfirmFrom, IsConfirmOf, IsScheduledFrom, IsScheduledOf, IsClearedFrom, IsClearedOf};
+ghost use Rattle.commit_ledger.specs.Payload.{text_of, CommitFits, ConfirmFits, ScheduledFits};
 ghost use Rattle.commit_ledger.specs.Rules.{IsRecordOf, new_after};
 ghost use Rattle.commit_ledger.specs.declared.entry.Entry.TheVariants.{Commit as CommitOf};
 
-use crate::entry::{Commit, Confirm, Entry};
-use crate::form::{CommitRead, ConfirmRead};
-use crate::kinds::{COMMIT, CONFIRM, FORMER_COMMIT};
-use crate::payload::{read_commit, read_confirm, text_of};
+use crate::entry::{Cleared, Commit, Confirm, Entry, Scheduled};
+use crate::form::{CommitRead, ConfirmRead, ScheduledRead};
+use crate::kinds::{CLEARED, COMMIT, CONFIRM, FORMER_COMMIT, SCHEDULED};
+use crate::payload::{read_commit, read_confirm, read_scheduled, text_of};
 use cfg_base::{Kind, MOMENT_MAX, Moment, NoMemory, UserName, Word};
 use cfg_tree::{LedgerCheck, Tree};
 use cfg_values::{ValueFault, read_value};
@@ -176,6 +178,97 @@ fn confirm_of(alloc: Global, payload: &[u8]) -> Result<Option<Confirm>, NoMemory
     }
 }
 
+fn cleared_from(alloc: Global, read: &ConfirmRead<'_>) -> Result<Option<Cleared>, NoMemory>
+    requires { ConfirmFits (confirm_read read.now) }
+    ensures some { IfOk result (λ o. IfSome o (IsClearedFrom (confirm_read read.now))) }
+    ensures none { IfOk result (λ o. IsNone o → (c : Cleared) → IsClearedFrom (confirm_read read.now) c → ⊥) }
+{
+    if read.number == 0 || read.moment > MOMENT_MAX {
+        return Ok(None);
+    }
+    let Some(user) = user_of(alloc, read.user)? else {
+        return Ok(None);
+    };
+    Ok(Some(Cleared {
+        number: read.number,
+        user,
+        moment: Moment::of(read.moment),
+    }))
+}
+
+/// What calls a scheduled commit off, whose payload this is, if it is one's.
+fn cleared_of(alloc: Global, payload: &[u8]) -> Result<Option<Cleared>, NoMemory>
+    ensures some { IfOk result (λ o. IfSome o (IsClearedOf payload.now)) }
+    ensures none { IfOk result (λ o. IsNone o → (c : Cleared) → IsClearedOf payload.now c → ⊥) }
+{
+    match read_confirm(payload) {
+        None => Ok(None),
+        Some(read) => cleared_from(alloc, &read),
+    }
+}
+
+/// Whether the numbers of a scheduled commit's payload are in their ranges, and its text isn't too long.
+fn is_scheduled_in_range(read: &ScheduledRead<'_>) -> bool
+    ensures { IsTrue result ↔ IsScheduledInRange (scheduled_read read.now) }
+{
+    read.number != 0
+        && read.moment <= MOMENT_MAX
+        && read.at <= MOMENT_MAX
+        && read.text.len() <= MAX_TEXT
+}
+
+/// The scheduled commit of these fields, if they keep to their ranges.
+fn scheduled_from<J: LedgerCheck>(
+    alloc: Global,
+    read: &ScheduledRead<'_>,
+    judge: &J,
+) -> Result<Option<Scheduled>, NoMemory>
+    requires { ScheduledFits (scheduled_read read.now) }
+    ensures some { IfOk result (λ o. IfSome o (IsScheduledFrom (J.accepted judge.now) (scheduled_read read.now))) }
+    ensures none { IfOk result (λ o. IsNone o
+        → (w : Scheduled) → IsScheduledFrom (J.accepted judge.now) (scheduled_read read.now) w → ⊥) }
+{
+    if !is_scheduled_in_range(read) {
+        return Ok(None);
+    }
+    let Some(user) = user_of(alloc, read.user)? else {
+        return Ok(None);
+    };
+    let Some(comment) = comment_of(alloc, read.comment)? else {
+        return Ok(None);
+    };
+    let Some(tree) = tree_of(alloc, read.text)? else {
+        return Ok(None);
+    };
+    if !judge.accepts(&tree)? {
+        return Ok(None);
+    }
+    Ok(Some(Scheduled {
+        number: read.number,
+        user,
+        moment: Moment::of(read.moment),
+        at: Moment::of(read.at),
+        comment,
+        tree,
+    }))
+}
+
+/// The scheduled commit whose payload this is, if it is one's.
+fn scheduled_of<J: LedgerCheck>(
+    alloc: Global,
+    payload: &[u8],
+    judge: &J,
+) -> Result<Option<Scheduled>, NoMemory>
+    ensures some { IfOk result (λ o. IfSome o (IsScheduledOf (J.accepted judge.now) payload.now)) }
+    ensures none { IfOk result (λ o. IsNone o
+        → (w : Scheduled) → IsScheduledOf (J.accepted judge.now) payload.now w → ⊥) }
+{
+    match read_scheduled(payload) {
+        None => Ok(None),
+        Some(read) => scheduled_from(alloc, &read, judge),
+    }
+}
+
 /// The commit of the first profile whose payload this is, if it is one's.
 fn former_of<J: LedgerCheck>(
     alloc: Global,
@@ -229,6 +322,12 @@ pub(crate) fn entry_of<J: LedgerCheck>(
 {
     if placed.kind == CONFIRM {
         return Ok(confirm_of(alloc, placed.payload.as_slice())?.map(Entry::Confirm));
+    }
+    if placed.kind == SCHEDULED {
+        return Ok(scheduled_of(alloc, placed.payload.as_slice(), judge)?.map(Entry::Scheduled));
+    }
+    if placed.kind == CLEARED {
+        return Ok(cleared_of(alloc, placed.payload.as_slice())?.map(Entry::Cleared));
     }
     Ok(commit_in(alloc, new, placed, judge)?.map(Entry::Commit))
 }

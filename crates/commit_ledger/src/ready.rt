@@ -4,7 +4,7 @@ ghost use Rattle.std.specs.Prelude.{◌≡◌, ◌≤◌, ◌++◌, ◌∷◌, [
 ghost use Rattle.std.specs.Option.{option_map};
 ghost use Rattle.confirm_timer.specs.Deadline.{after_minutes};
 ghost use Rattle.commit_ledger.specs.declared.entry.Commit.{Commit};
-ghost use Rattle.commit_ledger.specs.Kept.{append_entry, target_for, target_of, newest, NumberFits, RoomFor, Unconfirmed};
+ghost use Rattle.commit_ledger.specs.Kept.{append_entry, target_for, target_of, newest, HasOneWaiting, NumberFits, RoomFor, Unconfirmed};
 ghost use Rattle.commit_ledger.specs.Ready.{ready_for};
 
 use crate::entry::{Commit, Entry};
@@ -65,7 +65,7 @@ impl Ledger {
         ensures { IfOk result (λ target. target ≡ target_for self.now entry.now) }
     {
         match entry {
-            Entry::Confirm(_) => Ok(None),
+            Entry::Confirm(_) | Entry::Scheduled(_) | Entry::Cleared(_) => Ok(None),
             Entry::Commit(commit) => {
                 if commit.minutes == 0 {
                     Ok(None)
@@ -89,6 +89,7 @@ impl Ledger {
         requires room { RoomFor self.old ready.entry }
         requires number { NumberFits self.old ready.entry }
         requires target { ready.target ≡ target_for self.old ready.entry }
+        requires one { HasOneWaiting (append_entry self.old ready.entry) }
         ensures { self.new ≡ append_entry self.old ready.entry }
     {
         let Ready { entry, target } = ready;
@@ -101,7 +102,16 @@ impl Ledger {
             Entry::Commit(commit) => {
                 self.moment = commit.moment;
                 self.pending = run_of(&commit, target);
+                self.scheduled = None;
                 self.put(commit);
+            }
+            Entry::Scheduled(waiting) => {
+                self.moment = waiting.moment;
+                self.scheduled = Some(waiting);
+            }
+            Entry::Cleared(cleared) => {
+                self.moment = cleared.moment;
+                self.scheduled = None;
             }
         }
     }

@@ -240,6 +240,7 @@ fn ledger_of(keep: KeepRead, older: Vec<Commit>, last: Commit, pending: Option<R
       last = last;
       older = older.items;
       pending = option_map (λ (r : Run). record { deadline = r.deadline; target = r.target }) pending;
+      scheduled = None;
       moment = last.moment;
     } }
 {
@@ -249,6 +250,7 @@ fn ledger_of(keep: KeepRead, older: Vec<Commit>, last: Commit, pending: Option<R
         last,
         older,
         pending,
+        scheduled: None,
     }
 }
 

@@ -3,7 +3,7 @@
 ghost use Rattle.std.specs.Prelude.{◌≡◌, IfOk};
 ghost use Rattle.commit_ledger.specs.Ready.{ready_for};
 
-use crate::entry::{Commit, Entry};
+use crate::entry::{Commit, Entry, Scheduled};
 use crate::ledger::Ledger;
 use crate::ready::Ready;
 use cfg_base::NoMemory;
@@ -51,6 +51,29 @@ impl Commit {
     }
 }
 
+impl Scheduled {
+    fn shared_with(self, alloc: Global, older: &Tree) -> Scheduled
+        ensures { result ≡ self }
+    {
+        let Scheduled {
+            number,
+            user,
+            moment,
+            at,
+            comment,
+            tree,
+        } = self;
+        Scheduled {
+            number,
+            user,
+            moment,
+            at,
+            comment,
+            tree: shared_with(alloc, older, tree),
+        }
+    }
+}
+
 /// A commit whose map shares with that of the last of others what is equal in both.
 pub(crate) fn beside_last(alloc: Global, commits: &[Commit], commit: Commit) -> Commit
     ensures { result ≡ commit }
@@ -70,7 +93,10 @@ impl Ledger {
             Entry::Commit(commit) => {
                 self.prepare(Entry::Commit(commit.shared_with(alloc, self.active())))
             }
-            Entry::Confirm(_) => self.prepare(entry),
+            Entry::Scheduled(waiting) => {
+                self.prepare(Entry::Scheduled(waiting.shared_with(alloc, self.active())))
+            }
+            Entry::Confirm(_) | Entry::Cleared(_) => self.prepare(entry),
         }
     }
 }

@@ -14,9 +14,11 @@ use Rattle.cfg_tree.specs.Statements.{Statements}
 use Rattle.commit_check.specs.Accepts.{Accepts}
 use Rattle.commit_ledger.specs.declared.entry.Commit.{Commit}
 use Rattle.commit_ledger.specs.declared.entry.Entry.{Entry}
-use Rattle.commit_ledger.specs.declared.entry.Entry.TheVariants.{Commit as CommitOf, Confirm as ConfirmOf}
+use Rattle.commit_ledger.specs.declared.entry.Scheduled.{Scheduled}
+use Rattle.commit_ledger.specs.declared.entry.Entry.TheVariants.{Commit as CommitOf, Confirm as ConfirmOf, Scheduled as ScheduledOf, Cleared as ClearedOf}
 use Rattle.commit_ledger.specs.declared.limit.TheConstants.{MAX_ENTRIES}
-use Rattle.commit_ledger.specs.Kept.{Kept, Unconfirmed, factory, nth_last, is_missed, is_revert_due}
+use Rattle.commit_ledger.specs.Kept.{Kept, Unconfirmed, factory, nth_last, revert_of, is_missed, is_revert_due}
+use Rattle.commit_ledger.specs.Rules.{IsCarried}
 use Rattle.commit_ledger.proofs.KeptLemmas.{keeps_more, target_is_kept}
 use Rattle.config_core.specs.declared.event.Event.{Event}
 use Rattle.config_core.specs.declared.event.Event.TheVariants.{Settle, Revert, Command as CommandOf}
@@ -59,6 +61,7 @@ taken_sound s (CommitOf commit) maker sound made = record {
     maps = keeps_more Accepts s.kept (CommitOf commit) sound.kept.maps made.entry.accepted;
     number = numbered commit.number s.kept.last.number made.entry.follows.number;
     room = room_after commit.minutes s.kept.count MAX_ENTRIES _ made.entry.follows.room.1;
+    unscheduled = refl;
   };
   no_later = made.no_later;
   flight = tt;
@@ -68,10 +71,13 @@ taken_sound s (ConfirmOf confirm) maker sound made = record {
     maps = keeps_more Accepts s.kept (ConfirmOf confirm) sound.kept.maps tt;
     number = sound.kept.number;
     room = λ waits. absurd (cc);
+    unscheduled = sound.kept.unscheduled;
   };
   no_later = made.no_later;
   flight = tt;
 }
+taken_sound s (ScheduledOf waiting) maker sound made = absurd made.entry
+taken_sound s (ClearedOf cleared) maker sound made = absurd made.entry
 
 dropped_sound : (s : State) → IsSoundState s → IsSoundState (record s { flight = None })
 dropped_sound s sound = record { kept = sound.kept; no_later = sound.no_later; flight = tt }
@@ -98,11 +104,15 @@ module _ (s : State) (sound : IsSoundState s) where
       either s (nat_lt s.kept.count MAX_ENTRIES) _ _
       (λ room. let made = is (below s.kept.count MAX_ENTRIES room) in (left_sound quit caller (taken s (made_by caller entry)) (taken_sound s entry (Some caller) sound made), made)) (sound, tt)
 
+  -- no commit is scheduled that another one could stand in for
+  none_scheduled : (commit : Commit) → IfSome s.kept.scheduled (λ (waiting : Scheduled). IsCarried waiting commit)
+  none_scheduled commit = subst (λ (o : Option Scheduled). IfSome o (λ (waiting : Scheduled). IsCarried waiting commit)) (sym sound.kept.unscheduled) tt
+
   commit_is_sound : (caller : ℕ) (m : Statements) (minutes : ℕ) (comment : List ℕ) → minutes ≤ 65535 → IsPrintable comment → Accepts m
       → s.kept.count < MAX_ENTRIES → IsSoundMade s.kept s.greatest (made_by caller (CommitOf (commit_of s caller m minutes comment)))
   commit_is_sound caller m minutes comment short printable accepted room = record {
     entry = record {
-      follows = record { number = refl; moment = sound.no_later; room = (search (arith, room), λ h. room) };
+      follows = record { number = refl; moment = sound.no_later; room = (search (arith, room), λ h. room); carries = none_scheduled (commit_of s caller m minutes comment) };
       minutes = short;
       comment = printable;
       accepted = accepted;
@@ -124,7 +134,7 @@ module _ (s : State) (sound : IsSoundState s) where
   revert_is_sound : IsSome s.kept.pending → IsSoundMade s.kept s.greatest (revert_made s)
   revert_is_sound waits = record {
     entry = record {
-      follows = record { number = refl; moment = sound.no_later; room = (sound.kept.room waits, λ h. absurd (h refl)) };
+      follows = record { number = refl; moment = sound.no_later; room = (sound.kept.room waits, λ h. absurd (h refl)); carries = none_scheduled (revert_of s.kept s.greatest) };
       minutes = search arith;
       comment = record { short = search arith; printing = refl };
       accepted = target_is_kept Accepts s.kept sound.kept.maps;
@@ -236,9 +246,10 @@ module _ (s : State) (sound : IsSoundState s) where
 -- the list that every list begins with
 pub factory_sound : Accepts map.empty → IsSoundKept factory
 factory_sound accepted = record {
-  maps = record { last = accepted; older = All-nil _; target = tt };
+  maps = record { last = accepted; older = All-nil _; target = tt; waiting = tt };
   number = search arith;
   room = λ waits. absurd (cc);
+  unscheduled = refl;
 }
 
 -- what stands before the next command

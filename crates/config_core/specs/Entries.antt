@@ -6,7 +6,7 @@ use Rattle.cfg_tree.specs.Statements.{Statements}
 use Rattle.commit_ledger.specs.declared.entry.Commit.{Commit}
 use Rattle.commit_ledger.specs.declared.entry.Confirm.{Confirm}
 use Rattle.commit_ledger.specs.declared.entry.Entry.{Entry}
-use Rattle.commit_ledger.specs.declared.entry.Entry.TheVariants.{Commit as CommitOf, Confirm as ConfirmOf}
+use Rattle.commit_ledger.specs.declared.entry.Entry.TheVariants.{Commit as CommitOf, Confirm as ConfirmOf, Scheduled as ScheduledOf, Cleared as ClearedOf}
 use Rattle.commit_ledger.specs.declared.entry.Via.TheVariants.{Cli}
 use Rattle.commit_ledger.specs.Kept.{append_entry, revert_of}
 use Rattle.config_core.specs.State.{State, Made, fresh_of}
@@ -36,10 +36,12 @@ made_by caller entry = record { entry = entry; maker = Some caller }
 abbrev pub revert_made : State → Made
 revert_made s = record { entry = CommitOf (revert_of s.kept s.greatest); maker = None }
 
--- the candidate of an entry that is a commit, without edits
+-- the candidate of an entry that is a commit, without edits; another entry leaves all candidates as they are
 abbrev pub fresh_in : Entry → Option CandidateView
 fresh_in (CommitOf commit) = Some (fresh_of commit)
 fresh_in (ConfirmOf confirm) = None
+fresh_in (ScheduledOf waiting) = None
+fresh_in (ClearedOf cleared) = None
 
 -- a shared candidate that isn't modified follows a commit; a modified one stays as it is
 abbrev pub followed : CandidateView → CandidateView → CandidateView

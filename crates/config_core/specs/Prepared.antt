@@ -3,7 +3,7 @@ use Rattle.std.specs.Prelude.{◌≡◌, ℕ, Bool, true, if◌then◌else◌, O
 use Rattle.std.specs.Option.{option_map}
 use Rattle.candidate.specs.Edits.{CandidateView}
 use Rattle.commands.specs.declared.command.Command.{Command}
-use Rattle.commit_ledger.specs.Kept.{Kept, target_for, NumberFits, RoomFor}
+use Rattle.commit_ledger.specs.Kept.{Kept, append_entry, target_for, HasOneWaiting, NumberFits, RoomFor}
 use Rattle.config_core.specs.declared.effect.Appending.{Appending}
 use Rattle.config_core.specs.declared.effect.Fresh.{Fresh}
 use Rattle.config_core.specs.declared.effect.Effect.{Effect}
@@ -61,11 +61,13 @@ turned_by plan s = record { state = applied plan Done s; reply = plan.reply; mad
 abbrev pub twice : CandidateView → Fresh
 twice new = record { shared = new; own = new }
 
--- what is to be appended was made ready over that value, and the list has room for it
+-- what is to be appended was made ready over that value, the list has room for it, and not both wait afterwards, a run and a
+-- scheduled commit
 pub record IsReady (kept : Kept) (a : Appending) : Type 0 where
   pub target : a.ready.target ≡ target_for kept a.ready.entry
   pub number : NumberFits kept a.ready.entry
   pub room : RoomFor kept a.ready.entry
+  pub one : HasOneWaiting (append_entry kept a.ready.entry)
   pub fresh : a.fresh ≡ option_map twice (fresh_in a.ready.entry)
 
 -- the shared candidate when a caller leaves the mode, where what it changed is discarded

@@ -1,13 +1,13 @@
 -- What holds of every state that the machine reaches, and of every entry that it makes.
 -- Junos OS CLI User Guide, on the active configuration, which only a commit that was checked replaces.
-use Rattle.std.specs.Prelude.{◌≡◌, ℕ, ◌≤◌, List, [], ◌∷◌, Option, IsSome, IfSome, is_some}
+use Rattle.std.specs.Prelude.{◌≡◌, ℕ, ◌≤◌, List, [], ◌∷◌, Option, None, IsSome, IfSome, is_some}
 use Rattle.candidate.specs.Edits.{CandidateView}
 use Rattle.cfg_lex.specs.Printed.{IsPrintable}
 use Rattle.commit_check.specs.Accepts.{Accepts}
 use Rattle.commit_ledger.specs.declared.entry.Commit.{Commit}
 use Rattle.commit_ledger.specs.declared.entry.Confirm.{Confirm}
 use Rattle.commit_ledger.specs.declared.entry.Entry.{Entry}
-use Rattle.commit_ledger.specs.declared.entry.Entry.TheVariants.{Commit as CommitOf, Confirm as ConfirmOf}
+use Rattle.commit_ledger.specs.declared.entry.Entry.TheVariants.{Commit as CommitOf, Confirm as ConfirmOf, Scheduled as ScheduledOf, Cleared as ClearedOf}
 use Rattle.commit_ledger.specs.declared.limit.TheConstants.{MAX_ENTRIES}
 use Rattle.commit_ledger.specs.Kept.{Kept, KeepsMaps}
 use Rattle.commit_ledger.specs.Rules.{CommitFollows, ConfirmFollows}
@@ -29,24 +29,31 @@ pub record IsSoundConfirm (kept : Kept) (confirm : Confirm) : Type 0 where
   pub number : 1 ≤ confirm.number
   pub room : kept.count ≤ MAX_ENTRIES
 
+-- the machine makes commits and confirmations; it schedules no commit yet, and so calls none off
 abbrev pub IsSoundEntry : Kept → Entry → Type 0
 IsSoundEntry kept (CommitOf commit) = IsSoundCommit kept commit
 IsSoundEntry kept (ConfirmOf confirm) = IsSoundConfirm kept confirm
+IsSoundEntry kept (ScheduledOf waiting) = ⊥
+IsSoundEntry kept (ClearedOf cleared) = ⊥
 
 abbrev pub moment_of : Entry → ℕ
 moment_of (CommitOf commit) = commit.moment
 moment_of (ConfirmOf confirm) = confirm.moment
+moment_of (ScheduledOf waiting) = waiting.moment
+moment_of (ClearedOf cleared) = cleared.moment
 
 -- an entry that is made may be the next one of a list, and isn't of a later moment than the last event
 pub record IsSoundMade (kept : Kept) (greatest : ℕ) (made : Made) : Type 0 where
   pub entry : IsSoundEntry kept made.entry
   pub no_later : moment_of made.entry ≤ greatest
 
--- each map that the list keeps is accepted; commits are numbered from 1; where a run is unconfirmed there is room for a revert
+-- each map that the list keeps is accepted; commits are numbered from 1; where a run is unconfirmed there is room for a revert; no
+-- commit is scheduled
 pub record IsSoundKept (kept : Kept) : Type 0 where
   pub maps : KeepsMaps Accepts kept
   pub number : 1 ≤ kept.last.number
   pub room : IsSome kept.pending → kept.count ≤ MAX_ENTRIES
+  pub unscheduled : kept.scheduled ≡ None
 
 -- the list is so, none of its entries is of a later moment than the last event, and what is in flight may be the next one
 pub record AreSound (entries : Kept) (flying : Option Made) (greatest : ℕ) : Type 0 where

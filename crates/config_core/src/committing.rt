@@ -4,7 +4,7 @@ ghost use Rattle.std.specs.Prelude.{◌≡◌, IsSome, IfOk};
 ghost use Rattle.std.specs.Option.{option_map};
 ghost use Rattle.cfg_base.specs.Kind.{IsName};
 ghost use Rattle.commit_check.specs.Accepts.{IsCheckFault};
-ghost use Rattle.commit_ledger.specs.Kept.{NumberFits, RoomFor, revert_of};
+ghost use Rattle.commit_ledger.specs.Kept.{append_entry, HasOneWaiting, NumberFits, RoomFor, revert_of};
 ghost use Rattle.config_core.specs.declared.effect.Appending.{Appending};
 ghost use Rattle.commands.specs.declared.command.Command.{Command};
 ghost use Rattle.config_core.specs.Callers.{IsCaller};
@@ -35,7 +35,7 @@ fn fresh_in(entry: &Entry) -> Result<Option<Fresh>, NoMemory>
             let own = fresh_of(commit)?;
             Ok(Some(Fresh { shared, own }))
         }
-        Entry::Confirm(_) => Ok(None),
+        Entry::Confirm(_) | Entry::Scheduled(_) | Entry::Cleared(_) => Ok(None),
     }
 }
 
@@ -44,6 +44,7 @@ impl Core {
     fn appending(&self, entry: Entry, maker: Option<u32>, quit: bool) -> Result<Appending, NoMemory>
         requires number { NumberFits self.now.kept entry }
         requires room { RoomFor self.now.kept entry }
+        requires one { HasOneWaiting (append_entry self.now.kept entry) }
         ensures ready { IfOk result (IsReady self.now.kept) }
         ensures is { IfOk result (λ a. (a.ready.entry ≡ entry) × (a.maker ≡ maker) × (a.quit ≡ quit)) }
     {
@@ -68,6 +69,7 @@ impl Core {
     ) -> Result<Prepared, NoMemory>
         requires caller { IsCaller self.now caller }
         requires number { NumberFits self.now.kept entry }
+        requires one { HasOneWaiting (append_entry self.now.kept entry) }
         ensures { IfOk result (Prepares self.now moment (λ turned. turned ≡ makes (later self.now moment) caller entry quit reply)) }
     {
         if self.ledger.count() >= MAX_ENTRIES {

@@ -1,6 +1,6 @@
 //! How a prepared step is carried out, and what becomes of the entry in flight.
 
-ghost use Rattle.std.specs.Prelude.{◌≡◌, IfSome, None};
+ghost use Rattle.std.specs.Prelude.{◌≡◌, IfSome, None, Some};
 ghost use Rattle.config_core.specs.declared.effect.Effect.{Effect};
 ghost use Rattle.config_core.specs.Callers.{IsCaller, entered, out_of_mode, own_for, with_caller};
 ghost use Rattle.config_core.specs.Entries.{followed, taken};
@@ -130,7 +130,7 @@ impl Core {
     {
         match outcome {
             Outcome::Fault => {
-                self.flight = Some(appending);
+                self.put_in_flight(appending);
                 Reply::Refused(Refusal::DiskFault)
             }
             Outcome::Done => {
@@ -142,6 +142,14 @@ impl Core {
                 reply
             }
         }
+    }
+
+    // It isn't known whether the entry is kept.
+    fn put_in_flight(&mut self, appending: Appending)
+        requires { IsReady self.old.kept appending }
+        ensures { self.new ≡ record self.old { flight = Some (made_of appending) } }
+    {
+        self.flight = Some(appending);
     }
 
     // The list gets the entry, and candidates follow.

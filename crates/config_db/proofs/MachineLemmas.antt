@@ -5,7 +5,7 @@ use Rattle.std.proofs.Math.ListN.{length-set}
 use Rattle.commands.specs.declared.command.Command.{Command}
 use Rattle.commands.specs.declared.command.Mode.{Mode}
 use Rattle.commit_ledger.specs.declared.entry.Entry.{Entry}
-use Rattle.commit_ledger.specs.declared.entry.Entry.TheVariants.{Commit as CommitOf, Confirm as ConfirmOf}
+use Rattle.commit_ledger.specs.declared.entry.Entry.TheVariants.{Commit as CommitOf, Confirm as ConfirmOf, Scheduled as ScheduledOf, Cleared as ClearedOf}
 use Rattle.commit_ledger.specs.Kept.{Kept, append_entry, is_revert_due}
 use Rattle.commit_ledger.specs.Rules.{Follows as EntryFollows}
 use Rattle.config_core.specs.declared.effect.Effect.{Effect}
@@ -30,6 +30,7 @@ use Rattle.config_core.proofs.SoundLemmas.{steps_keep}
 use Rattle.session_history.specs.Events.{is_command}
 use Rattle.config_db.specs.Moves.{Turns}
 use Rattle.config_db.specs.Writing.{IsWritable, kept_after, flight_after}
+use Rattle.config_db.proofs.StandingLemmas.{MayCome}
 
 -- a step left this of the list and in flight, and as many callers
 pub record Leaves (s s' : State) (kept : Kept) (flight : Option Made) : Type 0 where
@@ -109,6 +110,8 @@ made_is_sound s caller moment event plan sound free fits prepared =
 writable : (kept : Kept) (entry : Entry) → IsSoundEntry kept entry → IsWritable entry
 writable kept (CommitOf commit) sound = record { number = omega (arith, sound.follows.number); minutes = sound.minutes; comment = sound.comment; accepted = sound.accepted }
 writable kept (ConfirmOf confirm) sound = sound.number
+writable kept (ScheduledOf waiting) sound = absurd sound
+writable kept (ClearedOf cleared) sound = absurd sound
 
 pub made_writable : (kept : Kept) (moment : ℕ) (made : Option Made) → IfSome made (IsSoundMade kept moment) → IfSome made (λ m. IsWritable m.entry)
 made_writable kept moment None sound = tt
@@ -117,10 +120,22 @@ made_writable kept moment (Some m) sound = writable kept m.entry sound.entry
 follows : (kept : Kept) (entry : Entry) → IsSoundEntry kept entry → EntryFollows kept entry
 follows kept (CommitOf commit) sound = sound.follows
 follows kept (ConfirmOf confirm) sound = sound.follows
+follows kept (ScheduledOf waiting) sound = absurd sound
+follows kept (ClearedOf cleared) sound = absurd sound
 
 pub made_follows : (kept : Kept) (moment : ℕ) (made : Option Made) → IfSome made (IsSoundMade kept moment) → IfSome made (λ m. EntryFollows kept m.entry)
 made_follows kept moment None sound = tt
 made_follows kept moment (Some m) sound = follows kept m.entry sound.entry
+
+-- where no commit is scheduled, none is after an entry that the machine makes
+comes : (kept : Kept) (entry : Entry) → kept.scheduled ≡ None → IsSoundEntry kept entry → MayCome kept entry
+comes kept (CommitOf commit) none sound = (sound.follows, refl)
+comes kept (ConfirmOf confirm) none sound = (sound.follows, none)
+comes kept (ScheduledOf waiting) none sound = absurd sound
+comes kept (ClearedOf cleared) none sound = absurd sound
+
+pub made_comes : (kept : Kept) (moment : ℕ) (made : Made) → kept.scheduled ≡ None → IsSoundMade kept moment made → MayCome kept made.entry
+made_comes kept moment made none sound = comes kept made.entry none sound.entry
 
 -- what is in flight
 pub flying : {A : Type 0} (o : Option A) → IsSome o → (x : A) × (o ≡ Some x)

@@ -2,6 +2,7 @@
 use Rattle.std.proofs.Common.{◌≡◌, ◌≤◌, ◌<◌, ℕ, List, [], ◌∷◌, ◌++◌, Bool, true, false, length, length-append, Option, None, Some, inl, inr, ⊎_elim, refl, sym, ap, subst, ◌∙◌, Result, Ok, Err, arith}
 use Rattle.std.specs.Prelude.{IfSome, OnOk, OnErr}
 use Rattle.std.specs.FinMap as map
+use Rattle.std.specs.Option.{option_map}
 use Rattle.std.specs.List.{AllByRecursion, last_or}
 use Rattle.cfg_tree.specs.declared.limit.TheConstants.{MAX_EXPANDED}
 use Rattle.cfg_tree.specs.Full.{Expansion}
@@ -9,7 +10,7 @@ use Rattle.cfg_tree.specs.Statements.{Statements}
 use Rattle.group_expand.specs.Expansion.{IsExpansion}
 use Rattle.commit_check.specs.Accepts.{Accepts, IsAccepted}
 use Rattle.commit_ledger.specs.declared.entry.Entry.{Entry}
-use Rattle.commit_ledger.specs.declared.entry.Entry.TheVariants.{Commit as CommitOf, Confirm as ConfirmOf}
+use Rattle.commit_ledger.specs.declared.entry.Entry.TheVariants.{Commit as CommitOf, Confirm as ConfirmOf, Scheduled as ScheduledOf, Cleared as ClearedOf}
 use Rattle.commit_ledger.specs.Kept.{Kept, BringsMap, append_entry}
 use Rattle.config_core.specs.declared.effect.Effect.{Effect}
 use Rattle.config_core.specs.declared.effect.Effect.TheVariants as effect
@@ -245,10 +246,17 @@ taken_back made w ready back none proposes is =
     without None same = ap (λ (x : WriterView). record x { proposal = None }) same
     without (Some m) next = ap (λ (x : WriterView). record x { proposal = None }) next.is
 
+-- what holds of an entry that is made holds of the one that is told
+pub of_made : (made : Option Made) (entry : Entry) (P : Entry → Type 0) → Some entry ≡ option_map (λ (m : Made). m.entry) made → IfSome made (λ m. P m.entry) → P entry
+of_made None entry P told is = absurd (cc)
+of_made (Some m) entry P told is = let same : m.entry ≡ entry = cc in subst P same is
+
 -- the entry that a step makes may follow what is kept
 brings : (kept : Kept) (entry : Entry) → IsSoundEntry kept entry → BringsMap Accepts entry
 brings kept (CommitOf commit) sound = sound.accepted
 brings kept (ConfirmOf confirm) sound = tt
+brings kept (ScheduledOf waiting) sound = absurd sound
+brings kept (ClearedOf cleared) sound = absurd sound
 
 pub can_follow : (e : Effect) (caller moment : ℕ) (s : State) → CanApply e caller s → IfSome (made_in e) (IsSoundMade s.kept moment) → IfSome (made_in e) (λ made. CanFollow s.kept made.entry)
 can_follow effect.Stay caller moment s applies sound = tt
@@ -258,7 +266,7 @@ can_follow (effect.Move position) caller moment s applies sound = tt
 can_follow (effect.Edit next) caller moment s applies sound = tt
 can_follow (effect.Settle is_kept) caller moment s applies sound = tt
 can_follow (effect.Append a) caller moment s applies sound =
-    record { room = applies.0.room; number = applies.0.number; accepted = brings s.kept a.ready.entry sound.entry }
+    record { room = applies.0.room; number = applies.0.number; accepted = brings s.kept a.ready.entry sound.entry; one = applies.0.one }
 
 -- and so the last view, which is what is kept
 pub follows_last : (made : Option Made) (views : List Kept) (kept : Kept) → IsLast views kept → IfSome made (λ m. CanFollow kept m.entry)

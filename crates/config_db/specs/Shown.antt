@@ -3,7 +3,7 @@ use Rattle.std.specs.Prelude.{◌≡◌, ◌≤◌, ◌⊎◌, Bool, true, false
 use Rattle.std.specs.List.{AllByRecursion}
 use Rattle.commit_check.specs.Accepts.{Accepts}
 use Rattle.commit_ledger.specs.declared.entry.Entry.{Entry}
-use Rattle.commit_ledger.specs.Kept.{Kept, append_entry, BringsMap, NumberFits, RoomFor}
+use Rattle.commit_ledger.specs.Kept.{Kept, append_entry, BringsMap, HasOneWaiting, NumberFits, RoomFor}
 use Rattle.config_core.specs.declared.event.Outcome.{Outcome}
 use Rattle.config_core.specs.declared.event.Outcome.TheVariants.{Done, Fault}
 use Rattle.config_core.specs.State.{State, Made}
@@ -30,11 +30,13 @@ pub record Shows (first : State) (events : List Happened) (s : State) (shown : W
   -- a writer that is late has nothing in flight
   pub late : shown.late ≡ true → s.flight ≡ None
 
--- an entry may follow a view: the list has room for it, its number fits, and its configuration is accepted
+-- an entry may follow a view: the list has room for it, its number fits, its configuration is accepted, and not both wait
+-- afterwards, a run and a scheduled commit
 pub record CanFollow (view : Kept) (entry : Entry) : Type 0 where
   pub room : RoomFor view entry
   pub number : NumberFits view entry
   pub accepted : BringsMap Accepts entry
+  pub one : HasOneWaiting (append_entry view entry)
 
 -- an entry may follow the last one of these views
 abbrev pub CanFollowLast : List Kept → Entry → Type 0

@@ -6,7 +6,7 @@ use Rattle.record_code.specs.Reading.{first_gate}
 use Rattle.record_code.specs.Record.{Record, bodies, body}
 use Rattle.commit_check.specs.Accepts.{Accepts}
 use Rattle.commit_ledger.specs.declared.entry.Entry.{Entry}
-use Rattle.commit_ledger.specs.declared.entry.Entry.TheVariants.{Commit as CommitOf, Confirm as ConfirmOf}
+use Rattle.commit_ledger.specs.declared.entry.Entry.TheVariants.{Commit as CommitOf, Confirm as ConfirmOf, Scheduled as ScheduledOf, Cleared as ClearedOf}
 use Rattle.commit_ledger.specs.declared.entry.Commit.{Commit}
 use Rattle.commit_ledger.specs.Checkpoint.{checkpoint}
 use Rattle.commit_ledger.specs.Kept.{Kept, append_entry}
@@ -28,9 +28,12 @@ pub record IsWritableCommit (commit : Commit) : Type 0 where
   pub comment : IsPrintable commit.comment
   pub accepted : Accepts commit.tree
 
+-- of the entries that the machine makes: it schedules no commit yet, and so calls none off
 abbrev pub IsWritable : Entry → Type 0
 IsWritable (CommitOf commit) = IsWritableCommit commit
 IsWritable (ConfirmOf confirm) = 1 ≤ confirm.number
+IsWritable (ScheduledOf waiting) = ⊥
+IsWritable (ClearedOf cleared) = ⊥
 
 -- what is kept after the writing of an entry, and what is in flight
 abbrev pub kept_written : Kept → Entry → Outcome → Kept

@@ -78,7 +78,7 @@ fn expansion_of(alloc: Global, entry: &Entry, given: Option<Full>) -> Result<Opt
 {
     match entry {
         Entry::Commit(commit) => Ok(Some(given_or_expanded(alloc, &commit.tree, given)?)),
-        Entry::Confirm(_) => Ok(None),
+        Entry::Confirm(_) | Entry::Scheduled(_) | Entry::Cleared(_) => Ok(None),
     }
 }
 

@@ -52,6 +52,7 @@ fn entry_keeps_ranges(entry: &Entry)
     match entry {
         Entry::Commit(commit) => commit_keeps_ranges(commit),
         Entry::Confirm(confirm) => confirm_keeps_ranges(confirm),
+        Entry::Scheduled(_) | Entry::Cleared(_) => unreachable!(),
     }
 }
 
@@ -90,6 +91,7 @@ fn write_record<D: Disk>(
     body: &Encoded,
 ) -> Result<Outcome, NoMemory>
     requires stands { Stands journal.old ledger.now None }
+    requires writable { IsWritable entry.now }
     requires next { IsNext ledger.now entry.now }
     requires body { body.now ≡ entry_record entry.now ∷ [] }
     ensures ok { IfOk result (λ outcome. IsEntryWritten ledger.now entry.now outcome journal.old journal.new) }

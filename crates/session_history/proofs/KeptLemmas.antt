@@ -9,7 +9,7 @@ use Rattle.commands.specs.declared.command.Command.TheVariants.{Configure, ShowA
 use Rattle.cfg_base.specs.declared.path.Step.{Step}
 use Rattle.commit_ledger.specs.declared.entry.Commit.{Commit}
 use Rattle.commit_ledger.specs.declared.entry.Entry.{Entry}
-use Rattle.commit_ledger.specs.declared.entry.Entry.TheVariants.{Commit as CommitOf, Confirm as ConfirmOf}
+use Rattle.commit_ledger.specs.declared.entry.Entry.TheVariants.{Commit as CommitOf, Confirm as ConfirmOf, Scheduled as ScheduledOf, Cleared as ClearedOf}
 use Rattle.commit_ledger.specs.declared.limit.TheConstants.{MAX_ENTRIES}
 use Rattle.commit_ledger.specs.Kept.{Kept, Unconfirmed, append_entry, nth_last}
 use Rattle.config_core.specs.declared.event.Event.{Event}
@@ -148,6 +148,8 @@ steps_go s caller moment event outcome turned steps = from_keeps (later s moment
 pub count-append_entry : (kept : Kept) (entry : Entry) → (append_entry kept entry).count ≡ kept.count + 1
 count-append_entry kept (CommitOf commit) = refl
 count-append_entry kept (ConfirmOf confirm) = refl
+count-append_entry kept (ScheduledOf waiting) = refl
+count-append_entry kept (ClearedOf cleared) = refl
 
 count_goes : (kept after : Kept) → GoesTo kept after → kept.count ≤ after.count
 count_goes kept after (inl same) = omega (arith, ap (λ (k : Kept). k.count) same)

@@ -1,5 +1,5 @@
 -- Two disks that hold a list of commits, as the records of a journal. This project's own.
-use Rattle.std.specs.Prelude.{◌≤◌, ◌⊎◌, IfSome, IsSome, ℕ, List, [], ◌∷◌, Option, None, Some}
+use Rattle.std.specs.Prelude.{◌≡◌, ◌≤◌, ◌⊎◌, IfSome, IsSome, ℕ, List, [], ◌∷◌, Option, None, Some}
 use Rattle.disk_model.specs.Disk.{History, IsImage, state_of}
 use Rattle.record_code.specs.Record.{Record}
 use Rattle.commit_journal.specs.Pair.{PairSpells}
@@ -18,9 +18,10 @@ use Rattle.commit_ledger.specs.Rules.{Follows, IsEntry}
 abbrev pub factory_records : List Record
 factory_records = entry_record (CommitOf factory_commit) ∷ []
 
--- two files spell what is kept of a list: they spell records, which are read as it
+-- two files spell what is kept of a list: they spell records, which are read as it; no commit is scheduled, since such a list isn't
+-- opened yet
 abbrev pub SpellsKept : List ℕ → List ℕ → Kept → Type 0
-SpellsKept a b kept = (rs : List Record) × PairSpells a b rs × ReadsAs Accepts rs kept
+SpellsKept a b kept = (rs : List Record) × PairSpells a b rs × ReadsAs Accepts rs kept × (kept.scheduled ≡ None)
 
 -- each pair of images at this moment spells this list
 abbrev pub OnlyKept : History → History → Kept → Type 0
@@ -58,3 +59,5 @@ pub record IsStored (v : JournalView) (kept : Kept) : Type 0 where
   pub maps : KeepsMaps Accepts kept
   pub number : 1 ≤ kept.last.number
   pub room : IsSome kept.pending → kept.count ≤ MAX_ENTRIES
+  -- no commit is scheduled
+  pub unscheduled : kept.scheduled ≡ None

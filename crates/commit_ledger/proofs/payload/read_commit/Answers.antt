@@ -1,16 +1,16 @@
 use Rattle.std.proofs.Common.{refl}
-use Rattle.commit_ledger.proofs.FieldLemmas.{user_left, comment_left, text_left}
+use Rattle.commit_ledger.proofs.FieldLemmas.{user_left, short_left}
 use Rattle.commit_ledger.proofs.payload.read_commit.Goals as goal
 
 pub returns-in_err-comment-clause-none : goal.returns-in_err-comment-clause-none
 returns-in_err-comment-clause-none c = λ none f fits is.
     let four = user_left c.args.bytes.now c.in_ok-number.rest.now c.in_ok-moment.rest.now c.in_ok-via.rest.now c.in_ok-minutes.rest.now c.in_ok-number.number c.in_ok-moment.moment c.in_ok-minutes.minutes c.in_ok-via.via f
     c.in_ok-number.ensures.some c.in_ok-moment.ensures.some c.in_ok-via.ensures.some c.in_ok-minutes.ensures.some is in
-    c.in_err-comment.ensures.none refl f.comment _ (comment_left c.in_ok-minutes.rest.now c.in_ok-user.rest.now c.in_ok-user.user.now f c.in_ok-user.ensures.some four)
+    c.in_err-comment.ensures.none refl f.comment _ (short_left c.in_ok-minutes.rest.now c.in_ok-user.rest.now c.in_ok-user.user.now f.user _ c.in_ok-user.ensures.some four)
 
 pub returns-in_err-text-clause-none : goal.returns-in_err-text-clause-none
 returns-in_err-text-clause-none c = λ none f fits is.
     let four = user_left c.args.bytes.now c.in_ok-number.rest.now c.in_ok-moment.rest.now c.in_ok-via.rest.now c.in_ok-minutes.rest.now c.in_ok-number.number c.in_ok-moment.moment c.in_ok-minutes.minutes c.in_ok-via.via f
     c.in_ok-number.ensures.some c.in_ok-moment.ensures.some c.in_ok-via.ensures.some c.in_ok-minutes.ensures.some is in
-    let five = comment_left c.in_ok-minutes.rest.now c.in_ok-user.rest.now c.in_ok-user.user.now f c.in_ok-user.ensures.some four in
-    c.in_err-text.ensures.none refl f.text fits.text (text_left c.in_ok-user.rest.now c.in_ok-comment.rest.now c.in_ok-comment.comment.now f c.in_ok-comment.ensures.some five)
+    let five = short_left c.in_ok-minutes.rest.now c.in_ok-user.rest.now c.in_ok-user.user.now f.user _ c.in_ok-user.ensures.some four in
+    c.in_err-text.ensures.none refl f.text fits.text (short_left c.in_ok-user.rest.now c.in_ok-comment.rest.now c.in_ok-comment.comment.now f.comment _ c.in_ok-comment.ensures.some five)

@@ -3,6 +3,9 @@ use Rattle.active_snapshot.specs.Views.{IsLast}
 use Rattle.config_db.proofs.ShownLemmas.{proposes_next}
 use Rattle.config_db.proofs.showing.propose.Goals as goal
 
+pub view_after-requires-clause-follows : goal.view_after-requires-clause-follows
+view_after-requires-clause-follows g c = c.requires.follows c.deref.result.now (subst (λ v. IsLast c.args.shown.now.list v) (sym c.deref.ensures) c.view.ensures.last)
+
 pub propose-requires-clause-next : goal.propose-requires-clause-next
 propose-requires-clause-next g c =
     let last = subst (λ v. IsLast c.args.shown.now.list v) (sym c.deref.ensures) c.view.ensures.last in
