@@ -2,9 +2,9 @@
 # Shows of the active configuration a second, by 1 and by 4 sessions at once, alone and beside a session each of whose commits is kept
 # on the disk, and what that session keeps of the rate that it has alone. A show takes no turn, so none waits for a commit. What shows
 # keep beside commits of another service, which shares nothing with theirs but the machine, is reported beside it. One line has the shows a
-# second of a session that is asked and answers over named pipes. Two have those of a user with a class, with rights and without: over 64
-# interfaces a show costs at most a tenth more with them, over none some half more. The folder named, or this one, decides which file
-# system keeps the commits.
+# second of a session that is asked and answers over named pipes. Two have those of a user with a class, with rights and without, over 64
+# interfaces and over none: a show costs at most a tenth more with them. The folder named, or this one, decides which file system keeps
+# the commits.
 set -eu
 place=$(cd "${1:-.}" && pwd)
 . "$(dirname "$0")/measure.sh"
