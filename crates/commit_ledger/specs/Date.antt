@@ -1,5 +1,5 @@
--- The date and the time of day of a moment in UTC: by the Gregorian calendar, with 86,400 seconds to each day. RFC 3339,
--- section 5.6, with a blank between date and time.
+-- The date and the time of day of a moment in UTC: by the Gregorian calendar, with 86,400 seconds to each day.
+-- RFC 3339, section 5.6, with a blank between date and time.
 use Rattle.std.specs.Prelude.{ℕ, zero, suc, ◌+◌, ◌/◌, ◌%◌, List, [], ◌∷◌, ◌++◌, nat_lt, if◌then◌else◌, codes, pos}
 use Rattle.jiff_core.specs.Calendar.{days_in_month}
 
