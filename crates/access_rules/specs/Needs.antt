@@ -10,7 +10,7 @@ use Rattle.commands.specs.declared.command.Op.TheVariants as op
 use Rattle.access_rules.specs.declared.fault.AccessFault.{AccessFault}
 use Rattle.access_rules.specs.declared.fault.AccessFault.TheVariants.{Denied, NoMemory}
 use Rattle.access_rules.specs.declared.right.Right.{Right}
-use Rattle.access_rules.specs.declared.right.Right.TheVariants.{View, Configure, See, Alter}
+use Rattle.access_rules.specs.declared.right.Right.TheVariants.{View, Configure, Clear, See, Alter}
 use Rattle.access_rules.specs.declared.section.Section.{Section}
 use Rattle.access_rules.specs.declared.section.Section.TheVariants.{System}
 use Rattle.access_rules.specs.Sections.{section_of, all_sections}
@@ -67,6 +67,7 @@ replace_needs = Configure ∷ map Alter all_sections
 abbrev pub needs_of : List Step → Command → List Right
 needs_of level command.ShowCommits = View ∷ []
 needs_of level command.Status = View ∷ []
+needs_of level command.ClearCommit = Clear ∷ []
 needs_of level (command.ShowActive words form) = show_needs [] words form
 needs_of level (command.Show words form) = show_needs level words form
 needs_of level (command.Configure mode) = Configure ∷ []
@@ -75,6 +76,7 @@ needs_of level (command.Up levels) = Configure ∷ []
 needs_of level command.Top = Configure ∷ []
 needs_of level command.CheckOnly = Configure ∷ []
 needs_of level (command.Commit minutes comment quit) = Configure ∷ []
+needs_of level (command.CommitAt when comment) = Configure ∷ []
 needs_of level command.Update = Configure ∷ []
 needs_of level (command.Change change) = Configure ∷ alter_needs (top_word level (changed_words change))
 needs_of level (command.Load way text) = replace_needs

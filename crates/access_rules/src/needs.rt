@@ -109,6 +109,7 @@ impl Rights {
     {
         match command {
             Command::ShowCommits | Command::Status => self.first_missing(&[Right::View]),
+            Command::ClearCommit => self.first_missing(&[Right::Clear]),
             Command::ShowActive { words, form } => {
                 self.missing_to_show(first_word(words), *form)
             }
@@ -119,6 +120,7 @@ impl Rights {
             | Command::Top
             | Command::CheckOnly
             | Command::Commit { .. }
+            | Command::CommitAt { .. }
             | Command::Update => self.first_missing(&[Right::Configure]),
             Command::Change(op) => self.missing_to_change(top_word(level, changed_words(op))),
             Command::Load { .. } | Command::Rollback(_) => self.first_missing(&[
@@ -158,12 +160,14 @@ pub fn needs_no_right(level: &Path, command: &Command) -> bool
         Command::Exit | Command::ExitAll | Command::Logout => true,
         Command::ShowCommits
         | Command::Status
+        | Command::ClearCommit
         | Command::Configure(_)
         | Command::Edit(_)
         | Command::Up(_)
         | Command::Top
         | Command::CheckOnly
         | Command::Commit { .. }
+        | Command::CommitAt { .. }
         | Command::Update
         | Command::Change(_)
         | Command::Load { .. }

@@ -1,3 +1,4 @@
 pub mod Verb
 pub mod Mover
+pub mod When
 pub mod Sound

@@ -3,9 +3,12 @@
 use Rattle.std.specs.Prelude.{◌≤◌}
 use Rattle.cfg_lex.specs.Printed.{IsPrintable}
 use Rattle.commands.specs.declared.command.Command.{Command}
-use Rattle.commands.specs.declared.command.Command.TheVariants.{Commit}
+use Rattle.commands.specs.declared.command.Command.TheVariants.{Commit, CommitAt}
+use Rattle.commands.specs.When.{IsTime}
 
--- a commit's minutes are at most 65,535, and its comment is of printing bytes; of any other command nothing is asked
+-- a commit's minutes are at most 65,535, a later commit's time is one of a day, before the last moment, and the comment of either
+-- is of printing bytes; of any other command nothing is asked
 abbrev pub IsSound : Command → Type 0
 IsSound (Commit minutes comment quit) = (minutes ≤ 65535) × IsPrintable comment
+IsSound (CommitAt when comment) = IsTime when × IsPrintable comment
 IsSound other = Unit {0}

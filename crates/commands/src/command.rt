@@ -1,5 +1,6 @@
 //! What a session asks. Each command and each of its parts stands here from the stage on that serves it.
 
+use crate::when::When;
 use cfg_base::{Bytes, Word, Words};
 
 /// How a session edits.
@@ -86,6 +87,8 @@ pub enum Command {
     },
     /// Lists the commits that are kept, the last one first.
     ShowCommits,
+    /// Calls off the commit that waits for its time.
+    ClearCommit,
     /// Ends the session.
     Logout,
     /// Moves to the level that the words name from the level on, and remembers the one it leaves.
@@ -120,6 +123,12 @@ pub enum Command {
         minutes: u32,
         comment: Word,
         quit: bool,
+    },
+    /// Sets a commit of the candidate, as it is now, for a later time; an empty comment is none. Until it is made or called
+    /// off no other commit is made.
+    CommitAt {
+        when: When,
+        comment: Word,
     },
     /// Merges what others committed since into the session's own candidate, which is then based on the last commit.
     Update,

@@ -5,7 +5,6 @@ use Rattle.std.proofs.lemmas.Bool.{cases_order}
 use Rattle.std.proofs.lemmas.Bool.Decides.{nat_tests}
 use Rattle.jiff_core.specs.declared.civil.date.Date.{Date as JiffDate}
 use Rattle.jiff_core.specs.declared.civil.datetime.DateTime.{DateTime}
-use Rattle.jiff_core.specs.declared.civil.time.Time.{Time}
 use Rattle.jiff_core.specs.Calendar.{days_in_month, day_count, IsCivilDate}
 use Rattle.jiff_core.specs.Date.{epoch_day}
 use Rattle.jiff_core.specs.DateTime.{civil_nanos}
@@ -14,7 +13,7 @@ use Rattle.jiff_core.proofs.CalendarLemmas.{day_count-epoch, day_count-end, day_
 use Rattle.jiff_core.proofs.DateLemmas.{epoch_day_range, epoch_day_injective}
 use Rattle.jiff_core.proofs.DateTimeLemmas.{civil_nanos-parts, time_nanos_bound}
 use Rattle.jiff_core.proofs.SignedLemmas.{signed_arith}
-use Rattle.commit_ledger.specs.Date.{Date, next_date, date_after, two, day_text, time_text, date_text_at}
+use Rattle.commit_ledger.specs.Date.{Date, next_date, date_after, day_text, time_text, date_text_at}
 
 below : (m n : ℕ) → nat_lt m n ≡ true → m < n
 below m n told = grind (arith, nat_tests)
@@ -110,16 +109,6 @@ same_date days d is =
     parts =
         let days_shown = days_from_civil-day_count (pos (date_after days).year) (date_after days).month (date_after days).day in
         epoch_day_injective shown d (omega (arith, signed_arith, days_shown, there.count, is))
-
--- the parts of a time are those of its seconds after midnight
-pub time_is : (t : Time) → time_text (time_seconds t) ≡ two t.hour ++ (codes ":" ++ (two t.minute ++ (codes ":" ++ two t.second)))
-time_is t =
-    let hour : time_seconds t / 3600 ≡ t.hour = omega arith in
-    let minute : time_seconds t / 60 % 60 ≡ t.minute = omega arith in
-    let second : time_seconds t % 60 ≡ t.second = omega arith in
-    ap (λ n. two n ++ (codes ":" ++ (two (time_seconds t / 60 % 60) ++ (codes ":" ++ two (time_seconds t % 60))))) hour
-    ∙ ap (λ n. two t.hour ++ (codes ":" ++ (two n ++ (codes ":" ++ two (time_seconds t % 60))))) minute
-    ∙ ap (λ n. two t.hour ++ (codes ":" ++ (two t.minute ++ (codes ":" ++ two n)))) second
 
 -- what jiff shows at a moment
 pub date_is : (moment : ℕ) (shown : DateTime) → civil_nanos shown ≡ pos moment *ℤ pos 1_000_000_000

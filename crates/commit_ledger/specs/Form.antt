@@ -81,10 +81,6 @@ pub record IsScheduledOf (accepted : Statements → Type 0) (payload : List ℕ)
   pub bytes : payload ≡ scheduled_bytes (scheduled_form waiting)
   pub is_scheduled : IsScheduled accepted waiting
 
-pub record IsClearedFrom (f : ConfirmForm) (cleared : Cleared) : Type 0 where
-  pub form : f ≡ cleared_form cleared
-  pub is_cleared : IsCleared cleared
-
 pub record IsClearedOf (payload : List ℕ) (cleared : Cleared) : Type 0 where
   pub bytes : payload ≡ confirm_bytes (cleared_form cleared)
   pub is_cleared : IsCleared cleared

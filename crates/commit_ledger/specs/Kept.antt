@@ -10,7 +10,7 @@ use Rattle.commit_ledger.specs.declared.entry.Entry.{Entry}
 use Rattle.commit_ledger.specs.declared.entry.Cleared.{Cleared}
 use Rattle.commit_ledger.specs.declared.entry.Scheduled.{Scheduled}
 use Rattle.commit_ledger.specs.declared.entry.Entry.TheVariants.{Commit as CommitOf, Confirm as ConfirmOf, Scheduled as ScheduledOf, Cleared as ClearedOf}
-use Rattle.commit_ledger.specs.declared.entry.Via.TheVariants.{Other}
+use Rattle.commit_ledger.specs.declared.entry.Via.TheVariants.{Cli, Other}
 use Rattle.commit_ledger.specs.declared.limit.TheConstants.{MAX_ENTRIES}
 
 -- a run of commits that isn't confirmed yet: by when it must be, and the last commit before it
@@ -170,6 +170,26 @@ revert_of kept moment = record {
   moment = moment;
   comment = [];
   tree = (target_of kept).tree;
+  minutes = 0;
+}
+
+-- the scheduled commit, where its time has come
+abbrev pub come_by : ℕ → Option Scheduled → Option Scheduled
+come_by moment None = None
+come_by moment (Some waiting) = if nat_le waiting.at moment then Some waiting else None
+
+abbrev pub ready_in : Kept → ℕ → Option Scheduled
+ready_in kept moment = come_by moment kept.scheduled
+
+-- the commit that a scheduled one becomes at a moment, of the user who scheduled it
+abbrev pub carry_of : Kept → Scheduled → ℕ → Commit
+carry_of kept waiting moment = record {
+  number = kept.last.number + 1;
+  user = waiting.user;
+  via = Cli;
+  moment = moment;
+  comment = waiting.comment;
+  tree = waiting.tree;
   minutes = 0;
 }
 

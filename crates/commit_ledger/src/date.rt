@@ -18,59 +18,56 @@ fn shown_at(moment: Moment) -> DateTime
     Offset::UTC.to_datetime(instant)
 }
 
-fn push_two(text: &mut Vec<u8>, number: u32) -> Result<(), NoMemory>
-    ensures { OnOk result (text.new.items ≡ text.old.items ++ two number) }
+fn two(number: u32) -> [u8; 2]
+    ensures { result ≡ two number }
 {
-    push_bytes(
-        text,
-        &[b'0' + (number / 10 % 10) as u8, b'0' + (number % 10) as u8],
-    )
+    [b'0' + (number / 10 % 10) as u8, b'0' + (number % 10) as u8]
 }
 
-fn push_four(text: &mut Vec<u8>, number: u32) -> Result<(), NoMemory>
-    ensures { OnOk result (text.new.items ≡ text.old.items ++ four number) }
+fn four(number: u32) -> [u8; 4]
+    ensures { result ≡ four number }
 {
-    push_bytes(
-        text,
-        &[
-            b'0' + (number / 1000 % 10) as u8,
-            b'0' + (number / 100 % 10) as u8,
-            b'0' + (number / 10 % 10) as u8,
-            b'0' + (number % 10) as u8,
-        ],
-    )
+    [
+        b'0' + (number / 1000 % 10) as u8,
+        b'0' + (number / 100 % 10) as u8,
+        b'0' + (number / 10 % 10) as u8,
+        b'0' + (number % 10) as u8,
+    ]
 }
 
-fn push_two_behind(text: &mut Vec<u8>, mark: &[u8], number: u32) -> Result<(), NoMemory>
-    ensures { OnOk result (text.new.items ≡ text.old.items ++ (mark.now ++ two number)) }
+fn day_bytes(shown: DateTime) -> [u8; 10]
+    ensures { result
+        ≡ day_text (record { year = unsigned_abs shown.date.year; month = shown.date.month; day = shown.date.day }) }
 {
-    push_bytes(text, mark)?;
-    push_two(text, number)
+    let [a, b, c, d] = four(u32::from(shown.year().unsigned_abs()));
+    let [e, f] = two(u32::from(shown.month().unsigned_abs()));
+    let [g, h] = two(u32::from(shown.day().unsigned_abs()));
+    [a, b, c, d, b'-', e, f, b'-', g, h]
 }
 
-fn push_day(text: &mut Vec<u8>, shown: DateTime) -> Result<(), NoMemory>
-    ensures { OnOk result (text.new.items ≡ text.old.items
-        ++ day_text (record { year = unsigned_abs shown.date.year; month = shown.date.month; day = shown.date.day })) }
+fn time_bytes(shown: DateTime) -> [u8; 8]
+    ensures { result ≡ time_text (time_seconds shown.time) }
 {
-    push_four(text, u32::from(shown.year().unsigned_abs()))?;
-    push_two_behind(text, b"-", u32::from(shown.month().unsigned_abs()))?;
-    push_two_behind(text, b"-", u32::from(shown.day().unsigned_abs()))
+    let [a, b] = two(u32::from(shown.hour().unsigned_abs()));
+    let [c, d] = two(u32::from(shown.minute().unsigned_abs()));
+    let [e, f] = two(u32::from(shown.second().unsigned_abs()));
+    [a, b, b':', c, d, b':', e, f]
 }
 
-fn push_time(text: &mut Vec<u8>, shown: DateTime) -> Result<(), NoMemory>
-    ensures { OnOk result (text.new.items ≡ text.old.items ++ time_text (time_seconds shown.time)) }
+/// The date and time of a moment, in UTC.
+pub fn date_bytes_at(moment: Moment) -> [u8; 19]
+    ensures { result ≡ date_text_at moment }
 {
-    push_two(text, u32::from(shown.hour().unsigned_abs()))?;
-    push_two_behind(text, b":", u32::from(shown.minute().unsigned_abs()))?;
-    push_two_behind(text, b":", u32::from(shown.second().unsigned_abs()))
+    let shown = shown_at(moment);
+    let mut bytes = [b' '; 19];
+    bytes[..10].copy_from_slice(&day_bytes(shown));
+    bytes[11..].copy_from_slice(&time_bytes(shown));
+    bytes
 }
 
 /// Puts the date and time of a moment at the end of a text, in UTC.
 pub(crate) fn push_date(text: &mut Vec<u8>, moment: Moment) -> Result<(), NoMemory>
     ensures { OnOk result (text.new.items ≡ text.old.items ++ date_text_at moment) }
 {
-    let shown = shown_at(moment);
-    push_day(text, shown)?;
-    push_bytes(text, b" ")?;
-    push_time(text, shown)
+    push_bytes(text, &date_bytes_at(moment))
 }

@@ -6,6 +6,7 @@
 //! (`config_core`), and where entries are written (`commit_journal`).
 #![tactic(auto)]
 
+mod carry;
 mod copying;
 mod date;
 mod entry;
@@ -26,6 +27,7 @@ mod revert;
 mod sharing;
 mod text;
 
+pub use date::date_bytes_at;
 pub use entry::{Cleared, Commit, Confirm, Entry, Scheduled, Via};
 pub use laws::{
     checkpoints_are_read, former_lists_are_read, kept_maps_stay_accepted, listings_are_one_text,

@@ -3,13 +3,13 @@
 ghost use Rattle.std.specs.Prelude.{◌≡◌, ◌≢◌, ◌<◌, ◌≤◌, ◌^◌, length, IfOk, IfSome, IsNone};
 ghost use Rattle.record_code.specs.Record.{most_payload};
 ghost use Rattle.commit_ledger.specs.Form.{commit_read, confirm_read, scheduled_read};
-ghost use Rattle.commit_ledger.specs.Payload.{text_of, CommitForm, ConfirmForm, ScheduledForm, form_of, confirm_form, cleared_form, scheduled_form, commit_bytes, confirm_bytes, scheduled_bytes, CommitFits, ConfirmFits, ScheduledFits, kind_of, payload_bytes, via_byte, most_text, HasShortText};
+ghost use Rattle.commit_ledger.specs.Payload.{text_of, CommitForm, ConfirmForm, ScheduledForm, form_of, scheduled_form, commit_bytes, confirm_bytes, scheduled_bytes, CommitFits, ConfirmFits, ScheduledFits, kind_of, payload_bytes, via_byte, most_text, HasShortText};
 
-use crate::entry::{Cleared, Commit, Confirm, Entry, Scheduled, Via};
+use crate::entry::{Commit, Entry, Scheduled, Via};
 use crate::fields::{take_short, take_u32, take_u64, take_via, whole_text};
 use crate::form::{CommitRead, ConfirmRead, ScheduledRead};
 use crate::kinds::{CLEARED, COMMIT, CONFIRM, SCHEDULED};
-use cfg_base::{Bytes, NoMemory, Path};
+use cfg_base::{Bytes, Moment, NoMemory, Path, UserName};
 use cfg_tree::Tree;
 use curly_print::print;
 use std::alloc::Global;
@@ -73,27 +73,21 @@ pub(crate) fn commit_payload(alloc: Global, commit: &Commit) -> Result<Bytes, No
     with_text(alloc, commit, text.as_slice())
 }
 
-fn confirm_payload(alloc: Global, confirm: &Confirm) -> Result<Bytes, NoMemory>
-    ensures bytes { IfOk result (λ bytes. bytes ≡ confirm_bytes (confirm_form confirm.now)) }
+/// The payload of a confirmation, or of what calls a scheduled commit off.
+fn confirm_payload(
+    alloc: Global,
+    number: u64,
+    moment: Moment,
+    user: &UserName,
+) -> Result<Bytes, NoMemory>
+    ensures bytes { IfOk result (λ bytes.
+        bytes ≡ confirm_bytes (record { number = number; moment = moment; user = user.now })) }
     ensures size { IfOk result (λ bytes. length bytes ≤ most_payload) }
 {
-    let user = confirm.user.as_word().as_bytes();
+    let user = user.as_word().as_bytes();
     let mut bytes = Vec::with_capacity(alloc, CONFIRM_BYTES + user.len())?;
-    bytes.extend_from_slice(&confirm.number.to_be_bytes())?;
-    bytes.extend_from_slice(&confirm.moment.seconds().to_be_bytes())?;
-    bytes.push(user.len() as u8)?;
-    bytes.extend_from_slice(user)?;
-    Ok(Bytes::from(bytes))
-}
-
-fn cleared_payload(alloc: Global, cleared: &Cleared) -> Result<Bytes, NoMemory>
-    ensures bytes { IfOk result (λ bytes. bytes ≡ confirm_bytes (cleared_form cleared.now)) }
-    ensures size { IfOk result (λ bytes. length bytes ≤ most_payload) }
-{
-    let user = cleared.user.as_word().as_bytes();
-    let mut bytes = Vec::with_capacity(alloc, CONFIRM_BYTES + user.len())?;
-    bytes.extend_from_slice(&cleared.number.to_be_bytes())?;
-    bytes.extend_from_slice(&cleared.moment.seconds().to_be_bytes())?;
+    bytes.extend_from_slice(&number.to_be_bytes())?;
+    bytes.extend_from_slice(&moment.seconds().to_be_bytes())?;
     bytes.push(user.len() as u8)?;
     bytes.extend_from_slice(user)?;
     Ok(Bytes::from(bytes))
@@ -153,9 +147,9 @@ pub fn payload_of(alloc: Global, entry: &Entry) -> Result<Bytes, NoMemory>
 {
     match entry {
         Entry::Commit(commit) => commit_payload(alloc, commit),
-        Entry::Confirm(confirm) => confirm_payload(alloc, confirm),
+        Entry::Confirm(c) => confirm_payload(alloc, c.number, c.moment, &c.user),
         Entry::Scheduled(waiting) => scheduled_payload(alloc, waiting),
-        Entry::Cleared(cleared) => cleared_payload(alloc, cleared),
+        Entry::Cleared(c) => confirm_payload(alloc, c.number, c.moment, &c.user),
     }
 }
 

@@ -12,7 +12,7 @@ ghost use Rattle.commit_ledger.specs.declared.entry.Confirm.{Confirm};
 ghost use Rattle.commit_ledger.specs.declared.entry.Cleared.{Cleared};
 ghost use Rattle.commit_ledger.specs.declared.entry.Scheduled.{Scheduled};
 ghost use Rattle.commit_ledger.specs.declared.entry.Entry.{Entry};
-ghost use Rattle.commit_ledger.specs.Form.{commit_read, confirm_read, scheduled_read, IsInRange, IsScheduledInRange, IsCommitFrom, IsCommitOf, IsConfirmFrom, IsConfirmOf, IsScheduledFrom, IsScheduledOf, IsClearedFrom, IsClearedOf};
+ghost use Rattle.commit_ledger.specs.Form.{commit_read, confirm_read, scheduled_read, IsInRange, IsScheduledInRange, IsCommitFrom, IsCommitOf, IsConfirmFrom, IsConfirmOf, IsScheduledFrom, IsScheduledOf, IsClearedOf};
 ghost use Rattle.commit_ledger.specs.Payload.{text_of, CommitFits, ConfirmFits, ScheduledFits};
 ghost use Rattle.commit_ledger.specs.Rules.{IsRecordOf, new_after};
 ghost use Rattle.commit_ledger.specs.declared.entry.Entry.TheVariants.{Commit as CommitOf};
@@ -178,32 +178,18 @@ fn confirm_of(alloc: Global, payload: &[u8]) -> Result<Option<Confirm>, NoMemory
     }
 }
 
-fn cleared_from(alloc: Global, read: &ConfirmRead<'_>) -> Result<Option<Cleared>, NoMemory>
-    requires { ConfirmFits (confirm_read read.now) }
-    ensures some { IfOk result (λ o. IfSome o (IsClearedFrom (confirm_read read.now))) }
-    ensures none { IfOk result (λ o. IsNone o → (c : Cleared) → IsClearedFrom (confirm_read read.now) c → ⊥) }
-{
-    if read.number == 0 || read.moment > MOMENT_MAX {
-        return Ok(None);
-    }
-    let Some(user) = user_of(alloc, read.user)? else {
-        return Ok(None);
-    };
-    Ok(Some(Cleared {
-        number: read.number,
-        user,
-        moment: Moment::of(read.moment),
-    }))
-}
-
-/// What calls a scheduled commit off, whose payload this is, if it is one's.
+/// What calls a scheduled commit off, whose payload this is, if it is one's: it is written as a confirmation.
 fn cleared_of(alloc: Global, payload: &[u8]) -> Result<Option<Cleared>, NoMemory>
     ensures some { IfOk result (λ o. IfSome o (IsClearedOf payload.now)) }
     ensures none { IfOk result (λ o. IsNone o → (c : Cleared) → IsClearedOf payload.now c → ⊥) }
 {
-    match read_confirm(payload) {
+    match confirm_of(alloc, payload)? {
         None => Ok(None),
-        Some(read) => cleared_from(alloc, &read),
+        Some(confirm) => Ok(Some(Cleared {
+            number: confirm.number,
+            user: confirm.user,
+            moment: confirm.moment,
+        })),
     }
 }
 

@@ -1,5 +1,6 @@
 pub mod LevelLemmas
 pub mod StepLemmas
+pub mod BarLemmas
 pub mod PlanLemmas
 pub mod OutcomeLemmas
 pub mod ShowingLemmas

@@ -3,18 +3,21 @@ use Rattle.std.proofs.Common.{◌≡◌, ◌-◌, ◌==◌, ℕ, zero, suc, List
 use Rattle.std.specs.Prelude.{is_some}
 use Rattle.candidate.specs.Edits.{CandidateView}
 use Rattle.commands.specs.declared.command.Command.{Command}
-use Rattle.commands.specs.declared.command.Command.TheVariants.{Configure, ShowActive, ShowCommits, Logout, Edit, Up, Top, Exit, ExitAll, Show, Change, Load, Rollback, CheckOnly, Commit as CommitAsked, Update, Status}
+use Rattle.commands.specs.declared.command.Command.TheVariants.{Configure, ShowActive, ShowCommits, ClearCommit, Logout, Edit, Up, Top, Exit, ExitAll, Show, Change, Load, Rollback, CheckOnly, Commit as CommitAsked, CommitAt, Update, Status}
+use Rattle.commands.specs.When.{at_of}
 use Rattle.commands.specs.declared.command.Mode.{Mode}
 use Rattle.commands.specs.declared.command.Mode.TheVariants.{Shared, Private, Exclusive}
 use Rattle.cfg_base.specs.declared.path.Step.{Step}
 use Rattle.commit_ledger.specs.declared.entry.Commit.{Commit}
 use Rattle.commit_ledger.specs.declared.entry.Entry.{Entry}
-use Rattle.commit_ledger.specs.declared.entry.Entry.TheVariants.{Commit as CommitOf, Confirm as ConfirmOf}
+use Rattle.commit_ledger.specs.declared.entry.Entry.TheVariants.{Commit as CommitOf, Confirm as ConfirmOf, Scheduled as ScheduledOf, Cleared as ClearedOf}
 use Rattle.commit_ledger.specs.declared.limit.TheConstants.{MAX_ENTRIES}
 use Rattle.commit_ledger.specs.Kept.{Kept, Unconfirmed, nth_last}
+use Rattle.config_core.specs.declared.effect.Maker.{Maker}
+use Rattle.config_core.specs.declared.effect.Maker.TheVariants.{Command as CommandBy, Deadline, Schedule}
 use Rattle.config_core.specs.declared.caller.Caller.{Caller}
 use Rattle.config_core.specs.declared.event.Event.{Event}
-use Rattle.config_core.specs.declared.event.Event.TheVariants.{Settle, Revert, Command as CommandOf}
+use Rattle.config_core.specs.declared.event.Event.TheVariants.{Settle, Revert, Carry, Command as CommandOf}
 use Rattle.config_core.specs.declared.event.Outcome.{Outcome}
 use Rattle.config_core.specs.declared.event.Outcome.TheVariants.{Done, Fault}
 use Rattle.config_core.specs.declared.reply.Refusal.TheVariants.{NotALevel, Exhausted}
@@ -24,9 +27,9 @@ use Rattle.config_core.specs.Levels.{Position, is_level_at, moved_to}
 use Rattle.config_core.specs.State.{State, Made, nothing_own, operational}
 use Rattle.config_core.specs.Access.{bar_to, is_private}
 use Rattle.config_core.specs.Callers.{caller_in, own_in, own_of, own_for, owns_with, position_of, with_position, entered, out_of_mode, without_mode}
-use Rattle.config_core.specs.Entries.{commit_of, confirm_of, made_by, fresh_in, own_after, taken}
+use Rattle.config_core.specs.Entries.{cleared_of, commit_of, confirm_of, made_by, scheduled_of, fresh_in, own_after, taken}
 use Rattle.config_core.specs.Serving.{Turned, answered, refused, exited, edited, makes, left_if, checked, Replaces, RollsTo, Does, Serves}
-use Rattle.config_core.specs.Machine.{Waiting, InFlight, Missed, Free, waiting_of, is_logout, settled, reverted, Ends, StepsFrom, Steps, later}
+use Rattle.config_core.specs.Machine.{Waiting, InFlight, Missed, Ready, Free, waiting_of, is_logout, settled, carried, reverted, Ends, StepsFrom, Steps, later}
 use Rattle.config_core.specs.Soundness.{OwnByMode}
 use Rattle.config_core.proofs.StepLemmas.{by_bar, by_bool, by_check}
 
@@ -92,10 +95,11 @@ module _ (s : State) (agree : OwnByMode s.own s.callers) where
   edits : (caller : ℕ) (next : CandidateView) → OwnByMode (owns_with (own_of s caller) s.own caller next) s.callers
   edits caller next = puts caller (own_of s caller) next refl
 
-  after : (maker : Option ℕ) (new : Option CandidateView) → OwnByMode (own_after s maker new) s.callers
+  after : (maker : Maker) (new : Option CandidateView) → OwnByMode (own_after s maker new) s.callers
   after maker None = agree
-  after None (Some new) = agree
-  after (Some maker) (Some new) = edits maker new
+  after (CommandBy maker) (Some new) = edits maker new
+  after Deadline (Some new) = agree
+  after (Schedule same) (Some new) = agree
 
   taken_agrees : (made : Made) → Agrees (taken s made)
   taken_agrees made = after made.maker (fresh_in made.entry)
@@ -156,6 +160,10 @@ module _ (s : State) (agree : OwnByMode s.own s.callers) where
     does_agree (CommitAsked minutes comment quit) checks =
         by_check s (own_of s caller) turned _ (λ t. Agrees t.state)
         (λ m accepted. makes_agree caller (CommitOf (commit_of s caller m minutes comment)) quit _) (λ refusal. agree) checks
+    does_agree (CommitAt when comment) checks =
+        by_check s (own_of s caller) turned _ (λ t. Agrees t.state)
+        (λ m accepted. makes_agree caller (ScheduledOf (scheduled_of s caller m (at_of when s.greatest) comment)) false _) (λ refusal. agree) checks
+    does_agree ClearCommit is = agrees_by turned _ is (makes_agree caller (ClearedOf (cleared_of s caller)) false _)
     does_agree Update (inl updates) = agrees_by turned _ updates.is (edits caller updates.next)
     does_agree Update (inr unmerged) = agrees_by turned _ unmerged.is agree
     does_agree Status is = agrees_by turned _ is agree
@@ -182,12 +190,19 @@ module _ (s : State) (agree : OwnByMode s.own s.callers) where
   from_agrees (InFlight made) caller (Settle is_kept) Fault turned is = absurd is
   from_agrees (InFlight made) caller (CommandOf command) Done turned is = absurd is
   from_agrees (InFlight made) caller Revert outcome turned is = absurd is
+  from_agrees (InFlight made) caller Carry outcome turned is = absurd is
   from_agrees Missed caller Revert outcome turned is = ends_agree outcome (reverted s) turned agree is
   from_agrees Missed caller (Settle is_kept) outcome turned is = absurd is
   from_agrees Missed caller (CommandOf command) outcome turned is = absurd is
+  from_agrees Missed caller Carry outcome turned is = absurd is
+  from_agrees (Ready w) caller Carry outcome turned is = ends_agree outcome (carried s w is.same) turned agree is.ends
+  from_agrees (Ready w) caller (Settle is_kept) outcome turned is = absurd is
+  from_agrees (Ready w) caller Revert outcome turned is = absurd is
+  from_agrees (Ready w) caller (CommandOf command) outcome turned is = absurd is
   from_agrees Free caller (CommandOf command) outcome turned is = ends_agree outcome is.done turned (serves_agree caller is.done command is.serves) is.ends
   from_agrees Free caller (Settle is_kept) outcome turned is = absurd is
   from_agrees Free caller Revert outcome turned is = absurd is
+  from_agrees Free caller Carry outcome turned is = absurd is
 
 pub steps_agree : (s : State) (caller moment : ℕ) (event : Event) (outcome : Outcome) (turned : Turned) → OwnByMode s.own s.callers
     → Steps s caller moment event outcome turned → OwnByMode turned.state.own turned.state.callers

@@ -1,30 +1,34 @@
 -- What a caller does leaves the other callers as they were.
 use Rattle.std.proofs.Common.{◌≡◌, ◌≢◌, ◌-◌, ◌<◌, ◌==◌, ℕ, zero, suc, List, [], ◌∷◌, Bool, true, false, cond, refl, sym, ap, subst, ◌∙◌, inl, inr, Option, None, Some, nat_lt, slice_get, slice_set, arith}
 use Rattle.commands.specs.declared.command.Command.{Command}
-use Rattle.commands.specs.declared.command.Command.TheVariants.{Configure, ShowActive, ShowCommits, Logout, Edit, Up, Top, Exit, ExitAll, Show, Change, Load, Rollback, CheckOnly, Commit as CommitAsked, Update, Status}
+use Rattle.commands.specs.declared.command.Command.TheVariants.{Configure, ShowActive, ShowCommits, ClearCommit, Logout, Edit, Up, Top, Exit, ExitAll, Show, Change, Load, Rollback, CheckOnly, Commit as CommitAsked, CommitAt, Update, Status}
+use Rattle.commands.specs.When.{at_of}
 use Rattle.commands.specs.declared.command.Mode.{Mode}
 use Rattle.std.specs.Prelude.{IfSome}
 use Rattle.candidate.specs.Edits.{CandidateView}
 use Rattle.cfg_base.specs.declared.path.Step.{Step}
 use Rattle.commit_ledger.specs.declared.entry.Commit.{Commit}
 use Rattle.commit_ledger.specs.declared.entry.Entry.{Entry}
-use Rattle.commit_ledger.specs.declared.entry.Entry.TheVariants.{Commit as CommitOf, Confirm as ConfirmOf}
+use Rattle.commit_ledger.specs.declared.entry.Entry.TheVariants.{Commit as CommitOf, Confirm as ConfirmOf, Scheduled as ScheduledOf, Cleared as ClearedOf}
+use Rattle.commit_ledger.specs.declared.entry.Scheduled.{Scheduled}
 use Rattle.commit_ledger.specs.declared.limit.TheConstants.{MAX_ENTRIES}
-use Rattle.commit_ledger.specs.Kept.{Unconfirmed, nth_last, is_revert_due}
+use Rattle.commit_ledger.specs.Kept.{Unconfirmed, nth_last, is_revert_due, ready_in}
+use Rattle.config_core.specs.declared.effect.Maker.{Maker}
+use Rattle.config_core.specs.declared.effect.Maker.TheVariants.{Command as CommandBy, Deadline, Schedule}
 use Rattle.config_core.specs.declared.event.Event.{Event}
-use Rattle.config_core.specs.declared.event.Event.TheVariants.{Settle, Revert, Command as CommandOf}
+use Rattle.config_core.specs.declared.event.Event.TheVariants.{Settle, Revert, Carry, Command as CommandOf}
 use Rattle.config_core.specs.declared.event.Outcome.{Outcome}
 use Rattle.config_core.specs.declared.event.Outcome.TheVariants.{Done, Fault}
 use Rattle.config_core.specs.declared.reply.Refusal.TheVariants.{NotALevel, Exhausted}
 use Rattle.config_core.specs.declared.reply.Reply.{Reply}
 use Rattle.config_core.specs.declared.reply.Reply.TheVariants.{Done as SaysDone}
 use Rattle.config_core.specs.Levels.{Position, is_level_at, moved_to}
-use Rattle.config_core.specs.State.{State, Made, HasNoneInFlight}
+use Rattle.config_core.specs.State.{State, Made, HasNoneInFlight, IsNoCommandOf}
 use Rattle.config_core.specs.Access.{bar_to}
 use Rattle.config_core.specs.Callers.{caller_in, caller_of, own_in, own_of, owns_with, position_of, with_caller, with_candidate, with_position, entered, out_of_mode, without_mode}
-use Rattle.config_core.specs.Entries.{commit_of, confirm_of, made_by, fresh_in, own_after, taken}
+use Rattle.config_core.specs.Entries.{cleared_of, commit_of, confirm_of, made_by, scheduled_of, fresh_in, own_after, taken}
 use Rattle.config_core.specs.Serving.{Turned, answered, refused, exited, edited, makes, left_if, checked, Replaces, RollsTo, Does, Serves}
-use Rattle.config_core.specs.Machine.{Waiting, InFlight, Missed, Free, waiting_for, waiting_of, is_logout, settled, reverted, Ends, StepsFrom, Steps, IsNotAskedBy, later}
+use Rattle.config_core.specs.Machine.{Waiting, InFlight, Missed, Ready, Free, waiting_for, waiting_of, is_logout, settled, carried, reverted, Ends, StepsFrom, Steps, IsNotAskedBy, later}
 use Rattle.config_core.proofs.StepLemmas.{by_bar, by_bool, by_check}
 
 get_other : {X : Type 0} (xs : List X) (i j : ℕ) (x : X) → i ≢ j → slice_get (slice_set xs i x) j ≡ slice_get xs j
@@ -35,9 +39,10 @@ get_other (y ∷ xs) (suc i) zero x apart = refl
 get_other (y ∷ xs) (suc i) (suc j) x apart = get_other xs i j x (λ e. apart (ap suc e))
 
 -- a maker's place isn't that one
-abbrev IsElsewhere : ℕ → Option ℕ → Type 0
-IsElsewhere other None = Unit {0}
-IsElsewhere other (Some maker) = maker - 1 ≢ other - 1
+abbrev IsElsewhere : ℕ → Maker → Type 0
+IsElsewhere other (CommandBy maker) = maker - 1 ≢ other - 1
+IsElsewhere other Deadline = Unit {0}
+IsElsewhere other (Schedule same) = Unit {0}
 
 module _ (s : State) (caller other : ℕ) (apart : caller - 1 ≢ other - 1) where
   -- what is in flight, where something is, was made elsewhere
@@ -84,14 +89,15 @@ module _ (s : State) (caller other : ℕ) (apart : caller - 1 ≢ other - 1) whe
   edits : (next : CandidateView) → Stays (with_candidate s caller next)
   edits next = (refl, λ elsewhere. put_owns caller (own_of s caller) next apart)
 
-  made_owns : (maker : Option ℕ) (new : Option CandidateView) → IsElsewhere other maker
+  made_owns : (maker : Maker) (new : Option CandidateView) → IsElsewhere other maker
       → own_in (slice_get (own_after s maker new) (other - 1)) ≡ own_of s other
   made_owns maker None elsewhere = refl
-  made_owns None (Some new) elsewhere = refl
-  made_owns (Some maker) (Some new) elsewhere = put_owns maker (own_of s maker) new elsewhere
+  made_owns (CommandBy maker) (Some new) elsewhere = put_owns maker (own_of s maker) new elsewhere
+  made_owns Deadline (Some new) elsewhere = refl
+  made_owns (Schedule same) (Some new) elsewhere = refl
 
   taken_stay : (entry : Entry) → Stays (taken s (made_by caller entry))
-  taken_stay entry = (refl, λ elsewhere. made_owns (Some caller) (fresh_in entry) apart)
+  taken_stay entry = (refl, λ elsewhere. made_owns (CommandBy caller) (fresh_in entry) apart)
 
   quit_stays : (quit : Bool) (t : State) → Stays t → Stays (left_if quit caller t)
   quit_stays true t stays = leaves t stays
@@ -152,6 +158,10 @@ module _ (s : State) (caller other : ℕ) (apart : caller - 1 ≢ other - 1) whe
     does_stay (CommitAsked minutes comment quit) checks =
         by_check s (own_of s caller) turned _ (λ t. Stays t.state)
         (λ m accepted. makes_stay (CommitOf (commit_of s caller m minutes comment)) quit _) (λ refusal. as_it_was) checks
+    does_stay (CommitAt when comment) checks =
+        by_check s (own_of s caller) turned _ (λ t. Stays t.state)
+        (λ m accepted. makes_stay (ScheduledOf (scheduled_of s caller m (at_of when s.greatest) comment)) false _) (λ refusal. as_it_was) checks
+    does_stay ClearCommit is = stays_by turned _ is (makes_stay (ClearedOf (cleared_of s caller)) false _)
     does_stay Update (inl updates) = stays_by turned _ updates.is (edits updates.next)
     does_stay Update (inr unmerged) = unchanged _ refl unmerged.is
     does_stay Status is = unchanged _ refl is
@@ -179,48 +189,64 @@ module _ (s : State) (caller other : ℕ) (apart : caller - 1 ≢ other - 1) whe
   from_stays (InFlight made) (Settle is_kept) Fault turned flying is = absurd is
   from_stays (InFlight made) (CommandOf command) Done turned flying is = absurd is
   from_stays (InFlight made) Revert outcome turned flying is = absurd is
+  from_stays (InFlight made) Carry outcome turned flying is = absurd is
   from_stays Missed Revert outcome turned flying is = ends_stay outcome (reverted s) turned (refl, λ elsewhere. refl) is
   from_stays Missed (Settle is_kept) outcome turned flying is = absurd is
   from_stays Missed (CommandOf command) outcome turned flying is = absurd is
+  from_stays Missed Carry outcome turned flying is = absurd is
+  from_stays (Ready w) Carry outcome turned flying is = ends_stay outcome (carried s w is.same) turned (refl, λ elsewhere. refl) is.ends
+  from_stays (Ready w) (Settle is_kept) outcome turned flying is = absurd is
+  from_stays (Ready w) Revert outcome turned flying is = absurd is
+  from_stays (Ready w) (CommandOf command) outcome turned flying is = absurd is
   from_stays Free (CommandOf command) outcome turned flying is = ends_stay outcome is.done turned (serves_stay is.done command is.serves) is.ends
   from_stays Free (Settle is_kept) outcome turned flying is = absurd is
   from_stays Free Revert outcome turned flying is = absurd is
+  from_stays Free Carry outcome turned flying is = absurd is
 
 numbers_apart : (caller other : ℕ) → 0 < caller → 0 < other → other ≢ caller → caller - 1 ≢ other - 1
 numbers_apart caller other one two apart same = apart (omega (arith, one, two, same))
 
 -- a maker that is another caller stands elsewhere
-elsewhere_by : (maker : Option ℕ) (other : ℕ) → 0 < other → IfSome maker (λ m. (0 < m) × (other ≢ m)) → IsElsewhere other maker
-elsewhere_by None other two is = tt
-elsewhere_by (Some maker) other two is = numbers_apart maker other is.0 two is.1
+elsewhere_by : (maker : Maker) (other : ℕ) → 0 < other → IsNoCommandOf other maker → IsElsewhere other maker
+elsewhere_by (CommandBy maker) other two is = numbers_apart maker other is.0 two is.1
+elsewhere_by Deadline other two is = tt
+elsewhere_by (Schedule same) other two is = tt
 
-made_elsewhere : (flight : Option Made) (other : ℕ) → 0 < other → IfSome flight (λ made. IfSome made.maker (λ maker. (0 < maker) × (other ≢ maker)))
+made_elsewhere : (flight : Option Made) (other : ℕ) → 0 < other → IfSome flight (λ made. IsNoCommandOf other made.maker)
     → (made : Made) → flight ≡ Some made → IsElsewhere other made.maker
 made_elsewhere flight other two is made flying =
-    elsewhere_by made.maker other two (subst (λ (f : Option Made). IfSome f (λ m. IfSome m.maker (λ maker. (0 < maker) × (other ≢ maker)))) flying is)
+    elsewhere_by made.maker other two (subst (λ (f : Option Made). IfSome f (λ m. IsNoCommandOf other m.maker)) flying is)
 
 -- what stands before the next command
-flying_when : (flight : Option Made) (missed : Bool) (made : Made) → waiting_for flight missed ≡ InFlight made → flight ≡ Some made
-flying_when (Some one) missed made is = cc
-flying_when None true made is = absurd (cc)
-flying_when None false made is = absurd (cc)
+pub flying_when : (flight : Option Made) (missed : Bool) (ready : Option Scheduled) (made : Made) → waiting_for flight missed ready ≡ InFlight made → flight ≡ Some made
+flying_when (Some one) missed ready made is = cc
+flying_when None true ready made is = absurd (cc)
+flying_when None false None made is = absurd (cc)
+flying_when None false (Some w) made is = absurd (cc)
 
 abbrev is_command : Event → Bool
 is_command (CommandOf command) = true
 is_command (Settle is_kept) = false
 is_command Revert = false
+is_command Carry = false
 
--- a settling and a revert leave the same in whoever's turn they come
+-- a settling, a revert and a scheduled commit leave the same in whoever's turn they come
 anyones : (waiting : Waiting) (s : State) (caller one : ℕ) (event : Event) (outcome : Outcome) (turned : Turned) → is_command event ≡ false
     → StepsFrom waiting s caller event outcome turned → StepsFrom waiting s one event outcome turned
 anyones waiting s caller one (CommandOf command) outcome turned none steps = absurd (let e : true ≡ false = none in cc)
 anyones (InFlight made) s caller one (Settle is_kept) Done turned none steps = steps
 anyones (InFlight made) s caller one (Settle is_kept) Fault turned none steps = absurd steps
 anyones (InFlight made) s caller one Revert outcome turned none steps = absurd steps
+anyones (InFlight made) s caller one Carry outcome turned none steps = absurd steps
 anyones Missed s caller one (Settle is_kept) outcome turned none steps = absurd steps
 anyones Missed s caller one Revert outcome turned none steps = steps
+anyones Missed s caller one Carry outcome turned none steps = absurd steps
+anyones (Ready w) s caller one Carry outcome turned none steps = steps
+anyones (Ready w) s caller one (Settle is_kept) outcome turned none steps = absurd steps
+anyones (Ready w) s caller one Revert outcome turned none steps = absurd steps
 anyones Free s caller one (Settle is_kept) outcome turned none steps = absurd steps
 anyones Free s caller one Revert outcome turned none steps = absurd steps
+anyones Free s caller one Carry outcome turned none steps = absurd steps
 
 -- what a step in another caller's turn leaves
 abbrev Leaves : State → ℕ → Turned → Type 0
@@ -231,7 +257,7 @@ module _ (s : State) (other moment : ℕ) (event : Event) (outcome : Outcome) (t
   stays_so caller one apart steps =
       let stays =
       from_stays (later s moment) caller other (numbers_apart caller other one two apart) (waiting_of s moment) event outcome turned
-      (flying_when s.flight (is_revert_due s.kept moment)) steps in
+      (flying_when s.flight (is_revert_due s.kept moment) (ready_in s.kept moment)) steps in
       (stays.0, λ none. stays.1 (made_elsewhere s.flight other two none))
 
   -- what is nobody's command leaves it as one in the turn of the next caller
@@ -248,6 +274,8 @@ leaves_others s caller other moment (Settle is_kept) outcome turned two asked st
     stays_for s other moment (Settle is_kept) outcome turned two refl caller steps
 leaves_others s caller other moment Revert outcome turned two asked steps =
     stays_for s other moment Revert outcome turned two refl caller steps
+leaves_others s caller other moment Carry outcome turned two asked steps =
+    stays_for s other moment Carry outcome turned two refl caller steps
 
 pub steps_leave_others : (s : State) (caller other moment : ℕ) (event : Event) (outcome : Outcome) (turned : Turned) → 0 < other
     → IsNotAskedBy other caller event → Steps s caller moment event outcome turned → caller_of turned.state other ≡ caller_of s other

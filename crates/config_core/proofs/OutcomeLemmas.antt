@@ -1,12 +1,14 @@
 -- A step has one outcome.
 use Rattle.std.proofs.Common.{◌≡◌, ◌≢◌, ◌⊎◌, ℕ, Bool, true, false, ◌==◌, List, [], length, refl, sym, ap, subst, ◌∙◌, inl, inr, Some, None, Result, Ok, Err}
 use Rattle.std.specs.Prelude.{MatchBool, Option}
+use Rattle.std.proofs.lemmas.Bool.Decides.{same_from_decides}
 use Rattle.commands.specs.declared.command.Command.{Command}
-use Rattle.commands.specs.declared.command.Command.TheVariants.{Configure, ShowActive, ShowCommits, Logout, Edit, Up, Top, Exit, ExitAll, Show, Change, Load, Rollback, CheckOnly, Commit as CommitAsked, Update, Status}
+use Rattle.commands.specs.declared.command.Command.TheVariants.{Configure, ShowActive, ShowCommits, ClearCommit, Logout, Edit, Up, Top, Exit, ExitAll, Show, Change, Load, Rollback, CheckOnly, Commit as CommitAsked, CommitAt, Update, Status}
 use Rattle.commands.specs.declared.command.Form.{Form}
 use Rattle.commands.specs.declared.command.Form.TheVariants.{Curly, SetLines, Inherited}
 use Rattle.commands.specs.declared.command.LoadWay.{LoadWay}
 use Rattle.commands.specs.declared.command.Op.{Op}
+use Rattle.commands.specs.When.{at_of}
 use Rattle.cfg_base.specs.declared.path.Step.{Step}
 use Rattle.cfg_resolve.specs.declared.target.Target.{Target}
 use Rattle.cfg_resolve.specs.declared.target.WordsFault.{WordsFault}
@@ -29,7 +31,7 @@ use Rattle.load_ops.specs.declared.fault.LoadFault.TheVariants as load
 use Rattle.load_ops.specs.Answer.{IsLoad, IsLoadFault}
 use Rattle.commit_check.specs.Accepts.{Accepts, IsFirst}
 use Rattle.config_core.specs.declared.event.Event.{Event}
-use Rattle.config_core.specs.declared.event.Event.TheVariants.{Settle, Revert, Command as CommandOf}
+use Rattle.config_core.specs.declared.event.Event.TheVariants.{Settle, Revert, Carry, Command as CommandOf}
 use Rattle.config_core.specs.declared.event.Outcome.{Outcome}
 use Rattle.config_core.specs.declared.event.Outcome.TheVariants as outcomes
 use Rattle.config_core.specs.declared.reply.Refusal.{Refusal}
@@ -43,8 +45,8 @@ use Rattle.config_core.specs.State.{State, Made, fresh_of}
 use Rattle.config_core.specs.Showing.{refusal_of, load_refusal_of, merge_refusal_of, NamesNone, NamesOne, path_alone, ShowAsksFor, shown_full, ShowsBelow, ShowsAnswer, IsShow}
 use Rattle.config_core.specs.Access.{bar_to}
 use Rattle.config_core.specs.Callers.{level_of, own_of, candidate_of, with_candidate}
-use Rattle.config_core.specs.Serving.{Turned, answered, refused, edited, Moves, IsLost, Shows, Lists, Changes, IsUnchanged, Loads, IsNotLoaded, Replaces, RollsTo, IsOwnMerge, IsNotMerged, Updates, Checks, ChecksMerged, ChecksWhole, checked, committed, Unless, Does, Serves}
-use Rattle.config_core.specs.Machine.{Waiting, InFlight, Missed, Free, waiting_of, Ends, IsPutInFlight, StepsFrom, later, reverted, Steps}
+use Rattle.config_core.specs.Serving.{Turned, answered, refused, edited, Moves, IsLost, Shows, Lists, Changes, IsUnchanged, Loads, IsNotLoaded, Replaces, RollsTo, IsOwnMerge, IsNotMerged, Updates, Checks, ChecksMerged, ChecksWhole, checked, committed, set_for, Unless, Does, Serves}
+use Rattle.config_core.specs.Machine.{Waiting, InFlight, Missed, Ready, Free, waiting_of, Ends, IsPutInFlight, StepsFrom, later, carried, reverted, Steps}
 
 both_served : (b : Bool) (P Q P' Q' R : Type 0) → (P → P' → R) → (Q → Q' → R) → MatchBool b P Q → MatchBool b P' Q' → R
 both_served true P Q P' Q' R f g h k = f h k
@@ -305,6 +307,10 @@ module _ (s : State) (caller : ℕ)
     does_once (CommitAsked minutes comment quit) =
         whole_once first_once accepted_or_first merge_once unmerged_once merge_or_fault s (own_of s caller)
         (λ m. committed s caller m minutes comment quit) one other
+    does_once (CommitAt when comment) =
+        whole_once first_once accepted_or_first merge_once unmerged_once merge_or_fault s (own_of s caller)
+        (λ m. set_for s caller m (at_of when s.greatest) comment) one other
+    does_once ClearCommit = both_are _ one other
     does_once Update = updates_once first_once accepted_or_first merge_once unmerged_once merge_or_fault s edit_once caller one other
     does_once Status = both_are _ one other
 
@@ -330,13 +336,22 @@ from_once (InFlight made) s caller (CommandOf command) outcomes.Fault one other 
 from_once (InFlight made) s caller (Settle is_kept) outcomes.Fault one other once a b = absurd a
 from_once (InFlight made) s caller (CommandOf command) outcomes.Done one other once a b = absurd a
 from_once (InFlight made) s caller Revert outcome one other once a b = absurd a
+from_once (InFlight made) s caller Carry outcome one other once a b = absurd a
 from_once Missed s caller Revert outcome one other once a b = ends_once outcome s (reverted s) one other a b
 from_once Missed s caller (Settle is_kept) outcome one other once a b = absurd a
 from_once Missed s caller (CommandOf command) outcome one other once a b = absurd a
+from_once Missed s caller Carry outcome one other once a b = absurd a
+from_once (Ready w) s caller Carry outcome one other once a b =
+    ends_once outcome s (carried s w b.same) one other
+    (subst (λ (same : Bool). Ends outcome s (carried s w same) one) (same_from_decides a.same b.same a.told b.told) a.ends) b.ends
+from_once (Ready w) s caller (Settle is_kept) outcome one other once a b = absurd a
+from_once (Ready w) s caller Revert outcome one other once a b = absurd a
+from_once (Ready w) s caller (CommandOf command) outcome one other once a b = absurd a
 from_once Free s caller (CommandOf command) outcome one other once a b =
     ends_once outcome s b.done one other (subst (λ (done : Turned). Ends outcome s done one) (once command a.done b.done a.serves b.serves) a.ends) b.ends
 from_once Free s caller (Settle is_kept) outcome one other once a b = absurd a
 from_once Free s caller Revert outcome one other once a b = absurd a
+from_once Free s caller Carry outcome one other once a b = absurd a
 
 -- an event has one outcome
 pub steps_once :

@@ -14,7 +14,7 @@ use Rattle.config_core.specs.State.{State, fresh_of}
 use Rattle.config_core.specs.Access.{bar_to}
 use Rattle.config_core.specs.Callers.{candidate_of, own_in, own_of, owns_with, shared_with, with_candidate}
 use Rattle.config_core.specs.Serving.{Turned, Unless, RollsTo}
-use Rattle.config_core.specs.Machine.{Waiting, InFlight, Missed, Free, waiting_of, StepsFrom, Steps, later}
+use Rattle.config_core.specs.Machine.{Waiting, InFlight, Missed, Ready, Free, waiting_of, StepsFrom, Steps, later}
 
 -- a candidate that is put in the place of an own one stands there
 set_there : (owns : List (Option CandidateView)) (place : ℕ) (own next : CandidateView) → own_in (slice_get owns place) ≡ Some own
@@ -56,6 +56,7 @@ stepped : (waiting : Waiting) (s : State) (caller : ℕ) (turned : Turned) → S
     → turned.reply ≡ Loaded → IsFresh turned.state caller
 stepped (InFlight made) s caller turned is loaded = absurd is
 stepped Missed s caller turned is loaded = absurd is
+stepped (Ready w) s caller turned is loaded = absurd is
 stepped Free s caller turned is loaded =
     let same = ap (λ (t : Turned). t.state) is.ends in
     let fresh = served (bar_to s caller (Rollback 0)) s caller is.done is.serves (sym (ap (λ (t : Turned). t.reply) is.ends) ∙ loaded) in

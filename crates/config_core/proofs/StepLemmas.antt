@@ -121,6 +121,12 @@ pub by_bar : (bar : Option Refusal) (s : State) (turned : Turned) (A P : Type 0)
 by_bar None s turned A P barred done so = done so
 by_bar (Some refusal) s turned A P barred done so = barred refusal so
 
+-- the same, where what is done may need that nothing bars it
+pub by_known_bar : (bar : Option Refusal) (s : State) (turned : Turned) (A P : Type 0) → ((refusal : Refusal) → turned ≡ refused s refusal → P) → (bar ≡ None → A → P)
+    → Unless bar s turned A → P
+by_known_bar None s turned A P barred done so = done refl so
+by_known_bar (Some refusal) s turned A P barred done so = barred refusal so
+
 -- one of two
 pub by_bool : (b : Bool) (A B P : Type 0) → (A → P) → (B → P) → MatchBool b A B → P
 by_bool true A B P first second so = first so

@@ -8,8 +8,10 @@ use Rattle.config_core.specs.declared.effect.Appending.{Appending}
 use Rattle.config_core.specs.declared.effect.Fresh.{Fresh}
 use Rattle.config_core.specs.declared.effect.Effect.{Effect}
 use Rattle.config_core.specs.declared.effect.Effect.TheVariants.{Stay, Leave, Enter, Move, Edit, Settle, Append}
+use Rattle.config_core.specs.declared.effect.Maker.{Maker}
+use Rattle.config_core.specs.declared.effect.Maker.TheVariants.{Command as CommandBy}
 use Rattle.config_core.specs.declared.event.Event.{Event}
-use Rattle.config_core.specs.declared.event.Event.TheVariants.{Settle as SettleOf, Revert, Command as CommandOf}
+use Rattle.config_core.specs.declared.event.Event.TheVariants.{Settle as SettleOf, Revert, Carry, Command as CommandOf}
 use Rattle.config_core.specs.declared.event.Need.{Need}
 use Rattle.config_core.specs.declared.event.Need.TheVariants as need
 use Rattle.config_core.specs.declared.event.Outcome.{Outcome}
@@ -22,7 +24,7 @@ use Rattle.config_core.specs.State.{State, Made, fresh_of}
 use Rattle.config_core.specs.Callers.{IsCaller, holds, own_for, with_candidate, with_position, entered, without_mode}
 use Rattle.config_core.specs.Entries.{fresh_in, shared_after, own_after, taken}
 use Rattle.config_core.specs.Serving.{Turned, left_if}
-use Rattle.config_core.specs.Machine.{Waiting, InFlight, Missed, Free, waiting_of, is_logout, settled, later, Steps}
+use Rattle.config_core.specs.Machine.{Waiting, InFlight, Missed, Ready, Free, waiting_of, is_logout, settled, later, Steps}
 
 -- the entry in flight is settled so
 abbrev pub settled_in : Option Made → Bool → State → State
@@ -98,6 +100,7 @@ abbrev pub CanEnd : Waiting → Event → Option Made → Outcome → Type 0
 CanEnd (InFlight made) (SettleOf is_kept) entry Done = Unit {0}
 CanEnd (InFlight made) (CommandOf command) entry Fault = Unit {0}
 CanEnd Missed Revert entry outcome = Unit {0}
+CanEnd (Ready waiting) Carry entry outcome = Unit {0}
 CanEnd Free (CommandOf command) entry Done = Unit {0}
 CanEnd Free (CommandOf command) (Some made) Fault = Unit {0}
 CanEnd waiting event entry outcome = ⊥
@@ -111,6 +114,7 @@ pub record IsPrepared (s : State) (caller moment : ℕ) (event : Event) (plan : 
 abbrev pub need_in : Waiting → Need
 need_in (InFlight made) = need.Settle
 need_in Missed = need.Revert
+need_in (Ready waiting) = need.Carry
 need_in Free = need.Nothing
 
 -- the plan of a command that isn't done because an entry is in flight
@@ -126,6 +130,7 @@ put_off s caller moment command = record {
 abbrev pub IsSettling : Event → Type 0
 IsSettling (SettleOf is_kept) = Unit {0}
 IsSettling Revert = ⊥
+IsSettling Carry = ⊥
 IsSettling (CommandOf command) = ⊥
 
 -- the candidate of a commit that is to be appended
@@ -134,12 +139,12 @@ new_in None = None
 new_in (Some fresh) = Some fresh.own
 
 -- the candidate that a caller commits is this one
-abbrev pub committed_by : State → Option ℕ → CandidateView → State
-committed_by s None new = s
-committed_by s (Some caller) new = with_candidate s caller new
+abbrev pub committed_by : State → Maker → CandidateView → State
+committed_by s (CommandBy caller) new = with_candidate s caller new
+committed_by s maker new = s
 
 -- the candidates after an entry
-abbrev pub with_new : State → Option ℕ → Option CandidateView → State
+abbrev pub with_new : State → Maker → Option CandidateView → State
 with_new s maker new = record s { shared = shared_after s maker new; own = own_after s maker new }
 
 -- the shared candidate becomes another one, where there is one

@@ -1,12 +1,14 @@
 -- What a command does, where nothing comes before it.
 -- Junos OS CLI User Guide, on entering and leaving configuration mode, on moves through levels, on changes of the candidate,
--- on load and rollback, on commit, commit confirmed and commit check, on private candidates and update, and on show.
+-- on load and rollback, on commit, commit confirmed and commit check, on scheduling a commit, on private candidates and update, and
+-- on show.
 use Rattle.std.specs.Prelude.{◌≡◌, ◌⊎◌, ℕ, ◌==◌, nat_lt, List, [], Bool, false, if◌then◌else◌, MatchBool, Option, None, Some}
 use Rattle.commands.specs.declared.command.Form.{Form}
 use Rattle.commands.specs.declared.command.LoadWay.{LoadWay}
 use Rattle.commands.specs.declared.command.Op.{Op}
 use Rattle.commands.specs.declared.command.Command.{Command}
-use Rattle.commands.specs.declared.command.Command.TheVariants.{Configure, ShowActive, ShowCommits, Logout, Edit, Up, Top, Exit, ExitAll, Show, Change, Load, Rollback, CheckOnly, Commit as CommitAsked, Update, Status}
+use Rattle.commands.specs.declared.command.Command.TheVariants.{Configure, ShowActive, ShowCommits, Logout, Edit, Up, Top, Exit, ExitAll, Show, Change, Load, Rollback, CheckOnly, Commit as CommitAsked, CommitAt, ClearCommit, Update, Status}
+use Rattle.commands.specs.When.{at_of}
 use Rattle.cfg_base.specs.declared.path.Step.{Step}
 use Rattle.cfg_tree.specs.Statements.{Statements}
 use Rattle.edit_ops.specs.declared.fault.EditFault.{EditFault}
@@ -19,20 +21,20 @@ use Rattle.private_merge.specs.Merge.{IsMerge, IsMergeFault}
 use Rattle.commit_check.specs.Accepts.{Accepts, IsFirst}
 use Rattle.commit_ledger.specs.declared.entry.Commit.{Commit}
 use Rattle.commit_ledger.specs.declared.entry.Entry.{Entry}
-use Rattle.commit_ledger.specs.declared.entry.Entry.TheVariants.{Commit as CommitOf, Confirm as ConfirmOf}
+use Rattle.commit_ledger.specs.declared.entry.Entry.TheVariants.{Commit as CommitOf, Confirm as ConfirmOf, Scheduled as ScheduledOf, Cleared as ClearedOf}
 use Rattle.commit_ledger.specs.declared.limit.TheConstants.{MAX_ENTRIES}
 use Rattle.commit_ledger.specs.Kept.{Unconfirmed, active_of, nth_last, kept_commits}
 use Rattle.commit_ledger.specs.Listing.{IsListing}
 use Rattle.config_core.specs.declared.reply.Refusal.{Refusal}
 use Rattle.config_core.specs.declared.reply.Refusal.TheVariants.{NotALevel, NoRollback, Check, Exhausted}
 use Rattle.config_core.specs.declared.reply.Reply.{Reply}
-use Rattle.config_core.specs.declared.reply.Reply.TheVariants.{Done, LoggedOut, Text, Entered, Left, Loaded, Checked, Committed, Refused}
+use Rattle.config_core.specs.declared.reply.Reply.TheVariants.{Done, LoggedOut, Text, Entered, Left, Loaded, Checked, Committed, Scheduled, ClearedCommit, Refused}
 use Rattle.config_core.specs.State.{State, Made, fresh_of}
 use Rattle.config_core.specs.Levels.{Position, at_top, is_level_at, moved_to, moved_up, moved_back}
 use Rattle.config_core.specs.Callers.{position_of, level_of, own_of, candidate_of, with_position, with_candidate, entered, out_of_mode, without_mode}
 use Rattle.config_core.specs.Access.{bar_to}
 use Rattle.config_core.specs.Status.{session_lines}
-use Rattle.config_core.specs.Entries.{commit_of, confirm_of, made_by, taken}
+use Rattle.config_core.specs.Entries.{cleared_of, commit_of, confirm_of, made_by, scheduled_of, taken}
 use Rattle.config_core.specs.Showing.{refusal_of, load_refusal_of, merge_refusal_of, NamesNone, NamesOne, IsShow}
 
 -- what an event leaves: the state after it, its reply, and the entry that it makes
@@ -186,6 +188,10 @@ abbrev pub committed : State → ℕ → Statements → ℕ → List ℕ → Boo
 committed s caller m minutes comment quit =
     makes s caller (CommitOf (commit_of s caller m minutes comment)) quit (Committed minutes quit)
 
+-- what a commit of an accepted configuration does that is set for a later time
+abbrev pub set_for : State → ℕ → Statements → ℕ → List ℕ → Turned
+set_for s caller m at comment = makes s caller (ScheduledOf (scheduled_of s caller m at comment)) false (Scheduled at)
+
 -- a command is refused for what bars it, or does this
 abbrev pub Unless : Option Refusal → State → Turned → Type 0 → Type 0
 Unless None s turned Served = Served
@@ -209,6 +215,9 @@ Does s caller (Rollback n) turned = RollsTo s caller n (nth_last s.kept n) turne
 Does s caller CheckOnly turned = ChecksWhole s (own_of s caller) turned (λ m. checked s caller s.kept.pending)
 Does s caller (CommitAsked minutes comment quit) turned =
     ChecksWhole s (own_of s caller) turned (λ m. committed s caller m minutes comment quit)
+Does s caller (CommitAt when comment) turned =
+    ChecksWhole s (own_of s caller) turned (λ m. set_for s caller m (at_of when s.greatest) comment)
+Does s caller ClearCommit turned = turned ≡ makes s caller (ClearedOf (cleared_of s caller)) false ClearedCommit
 Does s caller Update turned = Updates s caller turned ⊎ IsNotMerged s (candidate_of s caller) turned
 Does s caller Status turned = turned ≡ answered s (Text (session_lines 1 s.callers))
 

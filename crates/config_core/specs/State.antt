@@ -6,12 +6,14 @@ use Rattle.commit_ledger.specs.declared.entry.Commit.{Commit}
 use Rattle.commit_ledger.specs.declared.entry.Entry.{Entry}
 use Rattle.commit_ledger.specs.Kept.{Kept, active_of}
 use Rattle.config_core.specs.declared.caller.Caller.{Caller}
+use Rattle.config_core.specs.declared.effect.Maker.{Maker}
+use Rattle.config_core.specs.declared.effect.Maker.TheVariants.{Command, Deadline, Schedule}
 use Rattle.config_core.specs.Levels.{at_top}
 
--- an entry that is made, and the caller whose command made it; a revert is nobody's
+-- an entry that is made, and what made it
 pub record Made : Type 0 where
   pub entry : Entry
-  pub maker : Option ℕ
+  pub maker : Maker
 
 pub record State : Type 0 where
   -- what the list of entries leaves
@@ -58,6 +60,12 @@ opening_of kept users = record {
 abbrev pub IsActiveAccepted : State → Type 0
 IsActiveAccepted s = Accepts (active_of s.kept)
 
+-- what makes an entry isn't this caller's command
+abbrev pub IsNoCommandOf : ℕ → Maker → Type 0
+IsNoCommandOf caller (Command maker) = (0 < maker) × (caller ≢ maker)
+IsNoCommandOf caller Deadline = Unit {0}
+IsNoCommandOf caller (Schedule same) = Unit {0}
+
 -- nothing is in flight that this caller's command made
 abbrev pub HasNoneInFlight : State → ℕ → Type 0
-HasNoneInFlight s caller = IfSome s.flight (λ made. IfSome made.maker (λ maker. (0 < maker) × (caller ≢ maker)))
+HasNoneInFlight s caller = IfSome s.flight (λ made. IsNoCommandOf caller made.maker)

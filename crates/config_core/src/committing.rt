@@ -14,7 +14,7 @@ ghost use Rattle.config_core.specs.Machine.{later, reverted};
 ghost use Rattle.config_core.specs.Prepared.{Prepares, IsReady, twice};
 
 use crate::core_state::Core;
-use crate::effect::{Appending, Effect, Fresh};
+use crate::effect::{Appending, Effect, Fresh, Maker};
 use crate::own::fresh_of;
 use crate::prepared::{Prepared, refused, step};
 use crate::reply::{Refusal, Reply};
@@ -41,7 +41,12 @@ fn fresh_in(entry: &Entry) -> Result<Option<Fresh>, NoMemory>
 
 impl Core {
     // An entry with all the memory that it takes to be appended.
-    fn appending(&self, entry: Entry, maker: Option<u32>, quit: bool) -> Result<Appending, NoMemory>
+    pub(crate) fn appending(
+        &self,
+        entry: Entry,
+        maker: Maker,
+        quit: bool,
+    ) -> Result<Appending, NoMemory>
         requires number { NumberFits self.now.kept entry }
         requires room { RoomFor self.now.kept entry }
         requires one { HasOneWaiting (append_entry self.now.kept entry) }
@@ -59,7 +64,7 @@ impl Core {
     }
 
     // An entry that a command makes, unless the list is full.
-    fn made(
+    pub(crate) fn made(
         &self,
         caller: u32,
         moment: Moment,
@@ -75,12 +80,12 @@ impl Core {
         if self.ledger.count() >= MAX_ENTRIES {
             return Ok(refused(caller, moment, Refusal::Exhausted));
         }
-        let appending = self.appending(entry, Some(caller), quit)?;
+        let appending = self.appending(entry, Maker::Command(caller), quit)?;
         Ok(step(caller, moment, Effect::Append(appending), reply))
     }
 
     // The refusal of a configuration that breaks a rule.
-    fn broken(
+    pub(crate) fn broken(
         &self,
         caller: u32,
         moment: Moment,
@@ -270,7 +275,7 @@ impl Core {
         let _ = self.ledger.pending();
         let _ = self.ledger.last();
         let commit = self.ledger.revert(self.alloc, moment)?;
-        let appending = self.appending(Entry::Commit(commit), None, false)?;
+        let appending = self.appending(Entry::Commit(commit), Maker::Deadline, false)?;
         Ok(step(caller, moment, Effect::Append(appending), Reply::Done))
     }
 }

@@ -1,5 +1,6 @@
-ghost use Rattle.std.specs.Prelude.{◌≡◌, map, IfOk, IsOk};
+ghost use Rattle.std.specs.Prelude.{◌≡◌, map, IfOk, IsOk, None};
 ghost use Rattle.config_core.specs.State.{nothing_own, opening_of, operational};
+ghost use Rattle.config_core.specs.Access.{bar_to};
 ghost use Rattle.config_core.specs.Callers.{IsCaller, caller_of, level_of};
 ghost use Rattle.config_core.specs.Serving.{Does, Serves};
 ghost use Rattle.config_core.specs.Machine.{Fits, later, waiting_of};
@@ -141,9 +142,11 @@ impl Core {
             return Need::Settle;
         }
         if self.ledger.is_revert_due(moment) {
-            Need::Revert
-        } else {
-            Need::Nothing
+            return Need::Revert;
+        }
+        match self.ledger.ready(moment) {
+            Some(_) => Need::Carry,
+            None => Need::Nothing,
         }
     }
 
@@ -158,6 +161,7 @@ impl Core {
                 Ok(step(caller, moment, Effect::Settle(*is_kept), Reply::Done))
             }
             Event::Revert => self.prepare_revert(caller, moment),
+            Event::Carry => self.prepare_carry(caller, moment),
             Event::Command(command) => {
                 if self.flight.is_some() {
                     return self.prepare_put_off(caller, moment, command);
@@ -177,7 +181,7 @@ impl Core {
         requires { IsCaller self.now caller }
         ensures { IfOk result (Prepares self.now moment (Serves (later self.now moment) caller command.now)) }
     {
-        match self.bar_to(caller, command)? {
+        match self.bar_to(caller, moment, command)? {
             Some(refusal) => Ok(refused(caller, moment, refusal)),
             None => self.prepare_unbarred(caller, moment, command),
         }
@@ -190,7 +194,8 @@ impl Core {
         moment: Moment,
         command: &Command,
     ) -> Result<Prepared, NoMemory>
-        requires { IsCaller self.now caller }
+        requires caller { IsCaller self.now caller }
+        requires unbarred { bar_to (later self.now moment) caller command.now ≡ None }
         ensures { IfOk result (Prepares self.now moment (Does (later self.now moment) caller command.now)) }
     {
         match command {
@@ -199,6 +204,7 @@ impl Core {
                 self.prepare_show_active(caller, moment, words, *form)
             }
             Command::ShowCommits => self.prepare_show_commits(caller, moment),
+            Command::ClearCommit => self.prepare_clear_commit(caller, moment),
             Command::Logout => self.prepare_logout(caller, moment),
             Command::Edit(words) => self.prepare_edit(caller, moment, words),
             Command::Up(count) => self.prepare_up(caller, moment, *count),
@@ -215,6 +221,9 @@ impl Core {
                 comment,
                 quit,
             } => self.prepare_commit(caller, moment, *minutes, comment, *quit),
+            Command::CommitAt { when, comment } => {
+                self.prepare_commit_at(caller, moment, *when, comment)
+            }
             Command::Update => self.prepare_update(caller, moment),
             Command::Status => self.prepare_status(caller, moment),
         }

@@ -12,14 +12,24 @@ pub struct Fresh {
     pub own: Candidate,
 }
 
+/// What makes an entry.
+#[derive(Clone, Copy, Debug, PartialEq, Eq)]
+pub enum Maker {
+    /// A caller's command.
+    Command(u32),
+    /// A missed deadline.
+    Deadline,
+    /// A scheduled commit whose time has come. `same`: the shared candidate has its map, and is its candidate from then on.
+    Schedule { same: bool },
+}
+
 /// An entry that is ready for the list, with all that its settling may need.
 #[derive(Debug, Drop)]
 pub struct Appending {
     pub ready: Ready,
     /// The candidate of a commit.
     pub fresh: Option<Fresh>,
-    /// The caller whose command made the entry; none for a revert.
-    pub maker: Option<u32>,
+    pub maker: Maker,
     /// Whether the caller leaves the mode, where the entry is known to be kept at once.
     pub quit: bool,
 }

@@ -7,6 +7,8 @@ pub enum Event {
     Settle(bool),
     /// The deadline of an unconfirmed run was missed: its target's map is committed again.
     Revert,
+    /// The time of a scheduled commit has come: it is made.
+    Carry,
     /// A command of a caller.
     Command(Command),
 }
@@ -25,5 +27,7 @@ pub enum Need {
     Settle,
     /// None is, and the deadline of an unconfirmed run has come.
     Revert,
+    /// Neither of these, and the time of a scheduled commit has come.
+    Carry,
     Nothing,
 }

@@ -24,6 +24,7 @@ mod position;
 mod prepared;
 mod refusing;
 mod reply;
+mod scheduling;
 mod settling;
 mod showing;
 mod status;
@@ -31,7 +32,7 @@ mod viewing;
 
 pub use caller::Caller;
 pub use core_state::Core;
-pub use effect::{Appending, Effect, Fresh};
+pub use effect::{Appending, Effect, Fresh, Maker};
 pub use event::{Event, Need, Outcome};
 pub use laws::{
     active_configuration_stays_accepted, levels_are_told, others_stay_where_they_are,

@@ -1,4 +1,4 @@
-use cfg_base::{Bytes, Path, UserName};
+use cfg_base::{Bytes, Moment, Path, UserName};
 use commands::Mode;
 use curly_grammar::TextFault;
 use edit_ops::EditFault;
@@ -10,6 +10,14 @@ pub enum Refusal {
     WrongMode,
     /// A session of this user is in exclusive mode.
     Locked(UserName),
+    /// A commit is scheduled for this moment.
+    Waiting(Moment),
+    /// The last commit isn't confirmed; by this moment it must be.
+    Unconfirmed(u64),
+    /// The time for which a commit is to be scheduled isn't after now.
+    NotLater { at: Moment, moment: Moment },
+    /// No commit is scheduled.
+    NothingWaits,
     /// The shared candidate has changes that aren't committed.
     Modified,
     /// No row of the profile takes the last word.
@@ -69,5 +77,9 @@ pub enum Reply {
     Checked,
     /// The candidate, or what it merges, is committed; with minutes it is rolled back unless it is confirmed within them.
     Committed { minutes: u32, quit: bool },
+    /// The candidate, or what it merges, is committed at this moment.
+    Scheduled(Moment),
+    /// The scheduled commit is called off.
+    ClearedCommit,
     Refused(Refusal),
 }

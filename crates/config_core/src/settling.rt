@@ -3,12 +3,12 @@
 ghost use Rattle.std.specs.Prelude.{◌≡◌, IfSome, None, Some};
 ghost use Rattle.config_core.specs.declared.effect.Effect.{Effect};
 ghost use Rattle.config_core.specs.Callers.{IsCaller, entered, out_of_mode, own_for, with_caller};
-ghost use Rattle.config_core.specs.Entries.{followed, taken};
+ghost use Rattle.config_core.specs.Entries.{followed_by, taken};
 ghost use Rattle.config_core.specs.Plan.{made_of};
 ghost use Rattle.config_core.specs.Prepared.{CanApply, Follows, IsReady, applied, committed_by, discarded, effected, new_in, replied, settled_in, with_new};
 
 use crate::core_state::Core;
-use crate::effect::{Appending, Effect, Fresh};
+use crate::effect::{Appending, Effect, Fresh, Maker};
 use crate::event::Outcome;
 use crate::position::Position;
 use crate::prepared::Prepared;
@@ -168,31 +168,32 @@ impl Core {
         self.ledger.accept(ready);
     }
 
-    // After a commit a shared candidate that isn't modified, and the one that its maker edits, is the commit's.
-    fn follow(&mut self, fresh: Option<Fresh>, maker: Option<u32>)
+    // After a commit a shared candidate that isn't modified, or that has the map of a scheduled one, and the one that its maker
+    // edits, is the commit's.
+    fn follow(&mut self, fresh: Option<Fresh>, maker: Maker)
         requires flight { self.old.flight ≡ None }
         requires same { IfSome fresh (λ new. new.shared ≡ new.own) }
         ensures { self.new ≡ with_new self.old maker (new_in fresh) }
     {
         if let Some(Fresh { shared, own }) = fresh {
-            self.follow_shared(shared);
+            self.follow_shared(maker, shared);
             self.follow_own(maker, own);
         }
     }
 
-    fn follow_shared(&mut self, new: Candidate)
-        ensures { self.new ≡ record self.old { shared = followed self.old.shared new } }
+    fn follow_shared(&mut self, maker: Maker, new: Candidate)
+        ensures { self.new ≡ record self.old { shared = followed_by maker self.old.shared new } }
     {
-        if !self.shared.is_modified() {
+        if matches!(maker, Maker::Schedule { same: true }) || !self.shared.is_modified() {
             self.shared = new;
         }
     }
 
     // The candidate that a caller commits is the commit's.
-    fn follow_own(&mut self, maker: Option<u32>, new: Candidate)
+    fn follow_own(&mut self, maker: Maker, new: Candidate)
         ensures { self.new ≡ committed_by self.old maker new }
     {
-        if let Some(caller) = maker {
+        if let Maker::Command(caller) = maker {
             self.put_candidate(caller, new);
         }
     }

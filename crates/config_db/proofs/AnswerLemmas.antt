@@ -4,11 +4,12 @@ use Rattle.commit_journal.specs.Journal.{disks_of}
 use Rattle.disk_model.specs.Pair.{FaultOnEither}
 use Rattle.std.specs.Prelude.{IsSome}
 use Rattle.commands.specs.declared.command.Command.{Command}
-use Rattle.config_core.specs.declared.event.Event.TheVariants.{Settle, Revert, Command as CommandOf}
+use Rattle.config_core.specs.declared.event.Event.{Event}
+use Rattle.config_core.specs.declared.event.Event.TheVariants.{Settle, Revert, Carry, Command as CommandOf}
 use Rattle.config_core.specs.declared.event.Outcome.{Outcome}
 use Rattle.config_core.specs.declared.event.Outcome.TheVariants.{Done, Fault}
 use Rattle.config_core.specs.declared.reply.Reply.{Reply}
-use Rattle.config_core.specs.Machine.{Missed, waiting_of}
+use Rattle.config_core.specs.Machine.{InFlight, Missed, Ready, Free, Waiting, waiting_of}
 use Rattle.config_core.specs.Prepared.{IsSettling}
 use Rattle.session_history.specs.declared.history.Happened.{Happened}
 use Rattle.session_history.specs.Events.{Leads, NoCommand}
@@ -16,17 +17,17 @@ use Rattle.session_history.proofs.EventLemmas.{Leads-append}
 use Rattle.config_db.specs.declared.answer.Answered.{Answered}
 use Rattle.config_db.specs.declared.answer.Answered.TheVariants.{Kept, NoMemory}
 use Rattle.config_db.specs.declared.answer.Ticked.{Ticked}
-use Rattle.config_db.specs.declared.answer.Ticked.TheVariants.{Nothing, Settled, Reverted, DiskFault, NoMemory as TickedNoMemory}
+use Rattle.config_db.specs.declared.answer.Ticked.TheVariants.{Nothing, Settled, Reverted, Carried, DiskFault, NoMemory as TickedNoMemory}
 use Rattle.active_snapshot.specs.States.{WriterView, all_published}
 use Rattle.config_db.specs.View.{DatabaseView}
 use Rattle.config_db.specs.Numbers.{calls_of}
 use Rattle.config_db.specs.Disks.{GoesOn}
 use Rattle.config_db.specs.Crash.{last_calls}
 use Rattle.config_db.specs.Moves.{Extends, Happens, IsUnsettled, Settles, noted}
-use Rattle.config_db.specs.Answers.{Answers, CatchesUp, Clears, ClearsBehind, EndsReverted, IsAnswer, IsTaken, MakesWay, NoneCalledBehind, Reverts, Takes, reverted_as}
+use Rattle.config_db.specs.Answers.{Answers, CatchesUp, Clears, ClearsBehind, DoesDue, EndsDue, IsAnswer, IsClear, IsDue, IsTaken, MakesWay, NoneCalledBehind, Takes, due_as}
 use Rattle.config_db.proofs.DiskLemmas.{rose_first, rose_last}
 use Rattle.config_db.proofs.FaultLemmas.{counted_command}
-use Rattle.config_db.proofs.MachineLemmas.{after_failed, after_revert, flying, settling_moves}
+use Rattle.config_db.proofs.MachineLemmas.{after_due, after_failed, due_no_command, flying, settling_moves}
 use Rattle.config_db.proofs.ShownLemmas.{shown_since}
 use Rattle.config_db.proofs.MoveLemmas.{extends_event, extends_more, extends_none, extends_one, extends_unsettled}
 
@@ -52,81 +53,96 @@ quiet_one : (v w : DatabaseView) (e : Happened) → e.calls ≡ calls_of w.journ
 quiet_one v w e told = quiet_more v w w e [] told (quiet_none w)
 
 module _ (caller moment : ℕ) where
-  -- a missed deadline is reverted
-  pub catches_reverts : (ticked : Ticked) (v w : DatabaseView) → v.state.greatest ≤ moment → waiting_of v.state moment ≡ Missed → Reverts caller moment ticked v w
+  -- what was due is done: what is reported of it
+  module _ (event : Event) (reply : Reply) (v w : DatabaseView) (happens : Happens caller moment event Done reply v w) where
+    ends_due : EndsDue event (noted caller moment event Done (calls_of w.journal) ∷ []) v w
+    ends_due = record {
+      front = [];
+      last = noted caller moment event Done (calls_of w.journal);
+      is_own = refl;
+      does = refl;
+      done = refl;
+      before = v.state;
+      leads = refl;
+      turned = happens.turns.turned;
+      steps = happens.turns.steps;
+      trims = happens.trims refl;
+    }
+
+    done_due : (ticked : Ticked) → v.state.greatest ≤ moment → IsDue event (waiting_of v.state moment)
+        → (EndsDue event (noted caller moment event Done (calls_of w.journal) ∷ []) v w → IsClear moment w → ClearsBehind moment ticked (noted caller moment event Done (calls_of w.journal) ∷ []) v w)
+        → CatchesUp caller moment ticked v w
+    done_due ticked no_earlier due clears =
+        let after = after_due v.state caller moment event happens.turns.turned due happens.turns.steps in
+        let now : w.state.greatest ≡ moment = ap (λ s. s.greatest) happens.turns.state ∙ after.1 in
+        record {
+          own = noted caller moment event Done (calls_of w.journal) ∷ [];
+          extends = extends_one caller moment v w event Done reply happens (λ is. absurd (cc));
+          no_command = (due_no_command (waiting_of v.state moment) event due, tt);
+          clears = clears ends_due (ap (λ s. waiting_of s moment) happens.turns.state ∙ after.0);
+          quiet = quiet_one v w (noted caller moment event Done (calls_of w.journal)) refl;
+          since = omega (arith, now, no_earlier);
+          no_later = omega (arith, now);
+        }
+
+  -- what is due is done
+  pub catches_due : (event : Event) (ticked : Ticked) (v w : DatabaseView) → v.state.greatest ≤ moment → IsDue event (waiting_of v.state moment) → DoesDue caller moment event ticked v w
       → CatchesUp caller moment ticked v w
-  catches_reverts Nothing v w no_earlier missed reverts = absurd reverts
-  catches_reverts Settled v w no_earlier missed reverts = absurd reverts
-  catches_reverts Reverted v w no_earlier missed (reply, happens) =
-      let after = after_revert v.state caller moment happens.turns.turned missed happens.turns.steps in
-      let now : w.state.greatest ≡ moment = ap (λ s. s.greatest) happens.turns.state ∙ after.1 in
+  catches_due event Nothing v w no_earlier due does = absurd does
+  catches_due event Settled v w no_earlier due does = absurd does
+  catches_due event Reverted v w no_earlier due (is, reply, happens) =
+      done_due event reply v w happens Reverted no_earlier due (λ ends clear. (subst (λ e. EndsDue e (noted caller moment event Done (calls_of w.journal) ∷ []) v w) is ends, clear))
+  catches_due event Carried v w no_earlier due (is, reply, happens) =
+      done_due event reply v w happens Carried no_earlier due (λ ends clear. (subst (λ e. EndsDue e (noted caller moment event Done (calls_of w.journal) ∷ []) v w) is ends, clear))
+  catches_due event DiskFault v w no_earlier due (reply, happens, rose) =
+      let now : w.state.greatest ≡ moment = ap (λ s. s.greatest) happens.turns.state ∙ after_failed v.state caller moment event happens.turns.turned due happens.turns.steps in
       record {
-        own = noted caller moment Revert Done (calls_of w.journal) ∷ [];
-        extends = extends_one caller moment v w Revert Done reply happens (λ is. absurd (cc));
-        no_command = (refl, tt);
-        clears = (
-          record {
-            front = [];
-            last = noted caller moment Revert Done (calls_of w.journal);
-            is_own = refl;
-            reverts = refl;
-            done = refl;
-            before = v.state;
-            leads = refl;
-            turned = happens.turns.turned;
-            steps = happens.turns.steps;
-            trims = happens.trims refl;
-          },
-          ap (λ s. waiting_of s moment) happens.turns.state ∙ after.0,
-        );
-        quiet = quiet_one v w (noted caller moment Revert Done (calls_of w.journal)) refl;
-        since = omega (arith, now, no_earlier);
-        no_later = omega (arith, now);
-      }
-  catches_reverts DiskFault v w no_earlier missed (reply, happens, rose) =
-      let now : w.state.greatest ≡ moment = ap (λ s. s.greatest) happens.turns.state ∙ after_failed v.state caller moment happens.turns.turned missed happens.turns.steps in
-      record {
-        own = noted caller moment Revert Fault (calls_of w.journal) ∷ [];
-        extends = extends_one caller moment v w Revert Fault reply happens (λ is. rose);
-        no_command = (refl, tt);
+        own = noted caller moment event Fault (calls_of w.journal) ∷ [];
+        extends = extends_one caller moment v w event Fault reply happens (λ is. rose);
+        no_command = (due_no_command (waiting_of v.state moment) event due, tt);
         clears = (happens.failed refl, rose);
-        quiet = quiet_one v w (noted caller moment Revert Fault (calls_of w.journal)) refl;
+        quiet = quiet_one v w (noted caller moment event Fault (calls_of w.journal)) refl;
         since = omega (arith, now, no_earlier);
         no_later = omega (arith, now);
       }
-  catches_reverts TickedNoMemory v w no_earlier missed same =
+  catches_due event TickedNoMemory v w no_earlier due same =
       subst (λ u. CatchesUp caller moment TickedNoMemory v u) (sym same)
       (record { own = []; extends = extends_none caller moment v; no_command = tt; clears = tt; quiet = quiet_none v; since = omega arith; no_later = no_earlier })
 
-  -- a revert, by its outcome
-  pub reverts_of : (outcome : Outcome) (reply : Reply) (v w : DatabaseView) → Happens caller moment Revert outcome reply v w → (outcome ≡ Fault → FaultOnEither (disks_of v.journal) (disks_of w.journal))
-      → Reverts caller moment (reverted_as outcome) v w
-  reverts_of Done reply v w happens cause = (reply, happens)
-  reverts_of Fault reply v w happens cause = (reply, happens, cause refl)
+  -- what was due, by its outcome
+  done_of : (w : Waiting) (event : Event) (reply : Reply) (u v : DatabaseView) → IsDue event w → Happens caller moment event Done reply u v → DoesDue caller moment event (due_as event Done) u v
+  done_of (InFlight made) event reply u v due happens = absurd due
+  done_of Missed event reply u v due happens = subst (λ t. DoesDue caller moment event t u v) (sym (ap (λ e. due_as e Done) due)) (due, reply, happens)
+  done_of (Ready waiting) event reply u v due happens = subst (λ t. DoesDue caller moment event t u v) (sym (ap (λ e. due_as e Done) due)) (due, reply, happens)
+  done_of Free event reply u v due happens = absurd due
 
-  -- what is needed first is a revert
-  way_of : (ticked : Ticked) (v w : DatabaseView) → Reverts caller moment ticked v w → CatchesUp caller moment ticked v w → MakesWay caller moment ticked v w
-  way_of Nothing v w reverts up = absurd reverts
-  way_of Settled v w reverts up = absurd reverts
-  way_of Reverted v w reverts up = record { own = up.own; extends = up.extends; no_command = up.no_command; clears = up.clears; since = up.since; no_later = up.no_later }
-  way_of DiskFault v w reverts up = record { own = up.own; extends = up.extends; no_command = up.no_command; clears = up.clears; since = up.since; no_later = up.no_later }
-  way_of TickedNoMemory v w reverts up = record { own = up.own; extends = up.extends; no_command = up.no_command; clears = up.quiet; since = up.since; no_later = up.no_later }
+  pub does_done : (event : Event) (reply : Reply) (v w : DatabaseView) → IsDue event (waiting_of v.state moment) → Happens caller moment event Done reply v w → DoesDue caller moment event (due_as event Done) v w
+  does_done event reply v w due happens = done_of (waiting_of v.state moment) event reply v w due happens
 
-  pub way_reverts : (ticked : Ticked) (v w : DatabaseView) → v.state.greatest ≤ moment → waiting_of v.state moment ≡ Missed → Reverts caller moment ticked v w
+  -- what is needed first is what is due
+  way_of : (event : Event) (ticked : Ticked) (v w : DatabaseView) → DoesDue caller moment event ticked v w → CatchesUp caller moment ticked v w → MakesWay caller moment ticked v w
+  way_of event Nothing v w does up = absurd does
+  way_of event Settled v w does up = absurd does
+  way_of event Reverted v w does up = record { own = up.own; extends = up.extends; no_command = up.no_command; clears = up.clears; since = up.since; no_later = up.no_later }
+  way_of event Carried v w does up = record { own = up.own; extends = up.extends; no_command = up.no_command; clears = up.clears; since = up.since; no_later = up.no_later }
+  way_of event DiskFault v w does up = record { own = up.own; extends = up.extends; no_command = up.no_command; clears = up.clears; since = up.since; no_later = up.no_later }
+  way_of event TickedNoMemory v w does up = record { own = up.own; extends = up.extends; no_command = up.no_command; clears = up.quiet; since = up.since; no_later = up.no_later }
+
+  pub way_due : (event : Event) (ticked : Ticked) (v w : DatabaseView) → v.state.greatest ≤ moment → IsDue event (waiting_of v.state moment) → DoesDue caller moment event ticked v w
       → MakesWay caller moment ticked v w
-  way_reverts ticked v w no_earlier missed reverts = way_of ticked v w reverts (catches_reverts ticked v w no_earlier missed reverts)
+  way_due event ticked v w no_earlier due does = way_of event ticked v w does (catches_due event ticked v w no_earlier due does)
 
   -- nothing is done
   pub way_wanting : (v : DatabaseView) → v.state.greatest ≤ moment → MakesWay caller moment TickedNoMemory v v
   way_wanting v no_earlier = record { own = []; extends = extends_none caller moment v; no_command = tt; clears = quiet_none v; since = omega arith; no_later = no_earlier }
 
   -- of another database in the same state
-  reverted_from : (u v w : DatabaseView) (own : List Happened) → u.state ≡ v.state → EndsReverted own u w → EndsReverted own v w
-  reverted_from u v w own same ends = record {
+  ends_from : (event : Event) (u v w : DatabaseView) (own : List Happened) → u.state ≡ v.state → EndsDue event own u w → EndsDue event own v w
+  ends_from event u v w own same ends = record {
     front = ends.front;
     last = ends.last;
     is_own = ends.is_own;
-    reverts = ends.reverts;
+    does = ends.does;
     done = ends.done;
     before = ends.before;
     leads = subst (λ s. Leads s ends.front ends.before) same ends.leads;
@@ -138,7 +154,8 @@ module _ (caller moment : ℕ) where
   clears_published : (ticked : Ticked) (own : List Happened) (v w : DatabaseView) → Clears moment ticked own (published v) w → Clears moment ticked own v w
   clears_published Nothing own v w clears = clears
   clears_published Settled own v w clears = clears
-  clears_published Reverted own v w clears = (reverted_from (published v) v w own refl clears.0, clears.1)
+  clears_published Reverted own v w clears = (ends_from Revert (published v) v w own refl clears.0, clears.1)
+  clears_published Carried own v w clears = (ends_from Carry (published v) v w own refl clears.0, clears.1)
   clears_published DiskFault own v w clears = clears
   clears_published TickedNoMemory own v w clears = clears
 
@@ -166,27 +183,28 @@ module _ (caller moment : ℕ) where
     no_later = way.no_later;
   }
 
+  -- and after a settling
+  ends_behind : (event : Event) (u v w : DatabaseView) (e : Happened) (own : List Happened) → Leads u.state (e ∷ []) v.state → EndsDue event own v w → EndsDue event (e ∷ own) u w
+  ends_behind event u v w e own lead ends = record {
+    front = e ∷ ends.front;
+    last = ends.last;
+    is_own = ap (λ l. e ∷ l) ends.is_own;
+    does = ends.does;
+    done = ends.done;
+    before = ends.before;
+    leads = Leads-append u.state (e ∷ []) ends.front v.state ends.before lead ends.leads;
+    turned = ends.turned;
+    steps = ends.steps;
+    trims = ends.trims;
+  }
+
   -- what is after a settling, as reported of both
   behind : (ticked : Ticked) (u v w : DatabaseView) (e : Happened) (own : List Happened) → IsSettling e.event → e.outcome ≡ Done → e.calls ≡ calls_of v.journal → GoesOn u.journal v.journal
       → GoesOn v.journal w.journal → Leads u.state (e ∷ []) v.state → NoneCalledBehind own v.journal w.journal → ClearsBehind moment ticked own v w → Clears moment ticked (e ∷ own) u w
   behind Nothing u v w e own settles done told on more lead quiet clears = absurd clears
   behind Settled u v w e own settles done told on more lead quiet clears = (record { one = e; is_own = ap (λ l. e ∷ l) clears.0; settles = settles; done = done }, clears.1)
-  behind Reverted u v w e own settles done told on more lead quiet clears =
-      let ends = clears.0 in (
-        record {
-          front = e ∷ ends.front;
-          last = ends.last;
-          is_own = ap (λ l. e ∷ l) ends.is_own;
-          reverts = ends.reverts;
-          done = ends.done;
-          before = ends.before;
-          leads = Leads-append u.state (e ∷ []) ends.front v.state ends.before lead ends.leads;
-          turned = ends.turned;
-          steps = ends.steps;
-          trims = ends.trims;
-        },
-        clears.1,
-      )
+  behind Reverted u v w e own settles done told on more lead quiet clears = (ends_behind Revert u v w e own lead clears.0, clears.1)
+  behind Carried u v w e own settles done told on more lead quiet clears = (ends_behind Carry u v w e own lead clears.0, clears.1)
   behind DiskFault u v w e own settles done told on more lead quiet clears = (clears.0, rose_last u.journal v.journal w.journal on more clears.1)
   behind TickedNoMemory u v w e own settles done told on more lead quiet clears = quiet_more u v w e own told quiet
 
@@ -245,7 +263,7 @@ module _ (caller moment : ℕ) where
     pub unanswered : Answers caller moment command NoMemory u v
     unanswered = record { own = up.own; extends = up.extends; answer = record { no_command = up.no_command; quiet = up.quiet } }
 
-    -- the command after a deadline that was missed, or wasn't
+    -- the command after what was due, or after nothing
     pub answers : (answered : Answered) (why : Type 0) → (why → FaultOnEither (disks_of u.journal) (disks_of v.journal) ⊎ FaultOnEither (disks_of v.journal) (disks_of w.journal)) → Takes caller moment command answered why v w
         → Answers caller moment command answered u w
     answers (Kept place reply) why rose taken = behind_events command place reply why u v w up.own up.extends up.no_command up.since up.no_later rose taken

@@ -7,11 +7,14 @@ use Rattle.disk_model.specs.Disk.{IsImage, state_of}
 use Rattle.record_code.specs.Record.{Record}
 use Rattle.commit_ledger.specs.Kept.{Kept}
 use Rattle.commit_ledger.specs.Payload.{entry_record}
+use Rattle.commit_check.specs.Accepts.{Accepts}
+use Rattle.commit_ledger.specs.declared.entry.Scheduled.{Scheduled}
+use Rattle.commit_ledger.specs.Rules.{Follows as EntryFollows, IsWaiting}
 use Rattle.commit_journal.specs.Journal.{JournalView, Tell, a_of, b_of}
 use Rattle.config_core.specs.declared.event.Event.{Event}
 use Rattle.config_core.specs.declared.event.Outcome.{Outcome}
 use Rattle.config_core.specs.declared.reply.Reply.{Reply}
-use Rattle.config_core.specs.Soundness.{IsSoundKept, IsSoundMade, IsSoundState}
+use Rattle.config_core.specs.Soundness.{IsSoundKept, IsSoundMade, IsSoundState, IsSoundWaiting}
 use Rattle.config_core.specs.State.{State, Made, opening_of}
 use Rattle.config_core.proofs.SoundLemmas.{steps_keep}
 use Rattle.session_history.specs.declared.history.Happened.{Happened}
@@ -29,10 +32,10 @@ use Rattle.config_db.specs.Shown.{Shows}
 use Rattle.config_db.specs.Book.{IsBook, IsOpening}
 use Rattle.config_db.specs.Moves.{Turns, noted}
 use Rattle.config_db.proofs.NumberLemmas.{at_most_same, rising_more, rising_push}
-use Rattle.config_db.proofs.MachineLemmas.{Leaves, kept_settled, made_comes}
+use Rattle.config_db.proofs.MachineLemmas.{Leaves, kept_settled, made_follows}
 use Rattle.config_db.proofs.ShownLemmas.{shows_begin}
 use Rattle.config_db.proofs.SpanLemmas.{span_now}
-use Rattle.config_db.proofs.StandingLemmas.{LeavesUnscheduled, MayCome, are_next, are_of, stands_spelled}
+use Rattle.config_db.proofs.StandingLemmas.{are_next, are_of, stands_spelled}
 use Rattle.config_db.proofs.CrashLemmas.{last_push}
 
 -- a step leads on from the state before it
@@ -43,11 +46,11 @@ pub same_opened : (v v' : DatabaseView) → IsSameRun v v' → opened v' ≡ ope
 same_opened v v' same = ap (λ k. opening_of k v'.users) same.opening ∙ ap (opening_of v.opening) same.users
 
 -- after a settling of a record that was in flight, or of an image
-found_record : (j j' : JournalView) (kept : Kept) (m : Made) (is_kept : Bool) (rs : List Record) → AreOf kept rs → IsNext kept m.entry → LeavesUnscheduled kept m.entry → Holds j rs (Some (entry_record m.entry))
+found_record : (j j' : JournalView) (kept : Kept) (m : Made) (is_kept : Bool) (rs : List Record) → AreOf kept rs → IsNext kept m.entry → Holds j rs (Some (entry_record m.entry))
     → IsFoundOut (Some is_kept) j j' → Stands j' (kept_settled kept m is_kept) None
-found_record j j' kept m true rs are next none held found =
-    record { records = rs ++ entry_record m.entry ∷ []; are = are_next kept rs are m.entry next none; holds = found.holds rs (entry_record m.entry) held; entry = tt }
-found_record j j' kept m false rs are next none held found = record { records = rs; are = are; holds = found.holds rs (entry_record m.entry) held; entry = tt }
+found_record j j' kept m true rs are next held found =
+    record { records = rs ++ entry_record m.entry ∷ []; are = are_next kept rs are m.entry next; holds = found.holds rs (entry_record m.entry) held; entry = tt }
+found_record j j' kept m false rs are next held found = record { records = rs; are = are; holds = found.holds rs (entry_record m.entry) held; entry = tt }
 
 found_image : (j j' : JournalView) (kept : Kept) (m : Made) (is_kept : Bool) (rs image : List Record) → AreOf kept rs → AreOf kept image → HoldsImage j rs image
     → IsFoundOut (Some is_kept) j j' → Stands j' (kept_settled kept m is_kept) None
@@ -56,9 +59,9 @@ found_image j j' kept m false rs image are anew held found =
     ⊎_elim (λ old. record { records = rs; are = are; holds = old; entry = tt }) (λ new. record { records = image; are = anew; holds = new; entry = tt }) (found.image rs image held)
 
 pub stands_found : (j j' : JournalView) (kept : Kept) (m : Made) (is_kept : Bool) → Stands j kept (Some m.entry) → IsFoundOut (Some is_kept) j j'
-    → MayCome kept m.entry → Stands j' (kept_settled kept m is_kept) None
-stands_found j j' kept m is_kept stands found comes =
-    ⊎_elim (λ held. found_record j j' kept m is_kept stands.records stands.are (stands.entry, comes.0) comes.1 held found)
+    → EntryFollows kept m.entry → Stands j' (kept_settled kept m is_kept) None
+stands_found j j' kept m is_kept stands found follows =
+    ⊎_elim (λ held. found_record j j' kept m is_kept stands.records stands.are (stands.entry, follows) held found)
     (λ image. found_image j j' kept m is_kept stands.records image.0 stands.are image.1 image.2 found) stands.holds
 
 -- and after one that failed
@@ -71,9 +74,9 @@ stands_unfound j j' kept m stands found = record {
 }
 
 -- what is in flight may come next
-pub flight_comes : (kept : Kept) (moment : ℕ) (flight : Option Made) → kept.scheduled ≡ None → IfSome flight (IsSoundMade kept moment) → IfSome (entry_in flight) (MayCome kept)
-flight_comes kept moment None none sound = tt
-flight_comes kept moment (Some m) none sound = made_comes kept moment m none sound
+pub flight_follows : (kept : Kept) (moment : ℕ) (flight : Option Made) → IfSome flight (IsSoundMade kept moment) → IfSome (entry_in flight) (EntryFollows kept)
+flight_follows kept moment None sound = tt
+flight_follows kept moment (Some m) sound = made_follows kept moment (Some m) sound
 
 spelt_in : (s : State) (flight : Option Made) → s.flight ≡ flight → (c d : List ℕ) → SpellsWith c d s.kept (entry_in flight) → Spelt s None c d
 spelt_in s None is c d spells = inl spells
@@ -83,7 +86,7 @@ spelt_in s (Some m) is c d spells = ⊎_elim (λ old. inl old) (λ new. inr (m, 
 pub spelt_now : (j : JournalView) (s : State) → IsSoundState s → Stands j s.kept (entry_in s.flight) → Tell j
     → (c d : List ℕ) → IsImage (state_of (a_of j)) c → IsImage (state_of (b_of j)) d → Spelt s None c d
 spelt_now j s sound stands t c d in_a in_b =
-    spelt_in s s.flight refl c d (stands_spelled j s.kept (entry_in s.flight) stands (flight_comes s.kept s.greatest s.flight sound.kept.unscheduled sound.flight) t c d in_a in_b)
+    spelt_in s s.flight refl c d (stands_spelled j s.kept (entry_in s.flight) stands (flight_follows s.kept s.greatest s.flight sound.flight) t c d in_a in_b)
 
 -- one event more
 pub book_after : (v v' : DatabaseView) (caller moment : ℕ) (event : Event) (outcome : Outcome) (reply : Reply) (kept : Kept) (flight : Option Made)
@@ -178,7 +181,7 @@ book_begins j opening users state events w rs begins start none shown =
     begins_sound = record { kept = begins.sound; no_later = omega arith; flight = tt }
 
     stands : Stands j opening None
-    stands = record { records = begins.records; are = are_of opening begins.records begins.reads begins.sound.unscheduled; holds = begins.holds; entry = tt }
+    stands = record { records = begins.records; are = are_of opening begins.records begins.reads; holds = begins.holds; entry = tt }
 
     zero_a : (calls_of j).a ≡ 0
     zero_a = ap (λ (m : Calls). m.a) begins.calls
@@ -196,3 +199,13 @@ book_begins j opening users state events w rs begins start none shown =
 
     starts_safe : Tell j → IsSafeWhile (opening_of opening users) [] (calls_of j) (a_of j) (b_of j)
     starts_safe t few_a few_b = record { within_a = omega (arith, zero_a); within_b = omega (arith, zero_b); safe = spans t }
+
+-- a scheduled commit that waits as the list's last entry has room for the one that it becomes
+pub sound_waiting : (kept : Kept) (scheduled : Option Scheduled) → IfSome scheduled (IsWaiting Accepts kept) → IfSome scheduled (IsSoundWaiting kept)
+sound_waiting kept None is = tt
+sound_waiting kept (Some waiting) is = record {
+  number = is.number;
+  room = is.room;
+  no_run = is.no_run;
+  comment = record { short = is.is_scheduled.comment.short; printing = is.is_scheduled.comment.each };
+}

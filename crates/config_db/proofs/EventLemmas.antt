@@ -35,7 +35,7 @@ use Rattle.config_db.proofs.CalledLemmas.{called_left, called_none}
 use Rattle.config_db.proofs.DiskLemmas.{goes_nowhere, tell_since}
 use Rattle.config_db.proofs.NumberLemmas.{rising_more}
 use Rattle.config_db.proofs.SafeLemmas.{appends_safe, noted_safe, settles_safe}
-use Rattle.config_db.proofs.MachineLemmas.{Leaves, flying, free_steps, kept_settled, made_comes, plan_leaves, put_off_leaves, put_off_turns, settling_fits, settling_leaves, settling_makes_none, settling_turns}
+use Rattle.config_db.proofs.MachineLemmas.{Leaves, flying, free_steps, kept_settled, made_follows, plan_leaves, put_off_leaves, put_off_turns, settling_fits, settling_leaves, settling_makes_none, settling_turns}
 use Rattle.config_db.proofs.ShownLemmas.{settled_on, shows_on, shows_settled, shows_written, still_shown, written_on}
 use Rattle.config_db.proofs.BookLemmas.{book_after, book_unsettled, stands_found, stands_unfound}
 use Rattle.config_db.proofs.WritingLemmas.{Wrote}
@@ -176,7 +176,7 @@ module _ (v : DatabaseView) (book : IsBook v)
         comes j' events' s' w' caller moment (Settle is_kept) Done (replied by.plan.effect by.plan.reply Done) calls (kept_settled v.state.kept made is_kept) None told grown
         (record { fits = turned.fits; turned = turned.turned; steps = turned.steps; state = by.is ∙ turned.state; replied = turned.replied })
         leaves
-        (stands_found v.journal j' v.state.kept made is_kept here found (made_comes v.state.kept v.state.greatest made book.sound.kept.unscheduled made_sound))
+        (stands_found v.journal j' v.state.kept made is_kept here found (made_follows v.state.kept v.state.greatest (Some made) made_sound))
         found.goes (λ t. called_left v.journal j' (WasLeft (a_of v.journal) (b_of v.journal)) t found.counts (found.crash t)) (λ done. refl) (λ failed. absurd (cc))
         (notes j' (noted caller moment (Settle is_kept) Done (calls_of j')) s' found.goes.calls refl (settles j' found.goes found.counts found.crash))
         (λ leads. shows_settled (opened v) v.events v.state v.shown book.shows (noted caller moment (Settle is_kept) Done (calls_of j') ∷ []) s' leads made is_kept w' is_made shown leaves.kept_is leaves.flight_is)

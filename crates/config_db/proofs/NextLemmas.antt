@@ -4,7 +4,7 @@ use Rattle.std.proofs.lemmas.List.{append-nil}
 use Rattle.std.specs.List.{AllByRecursion}
 use Rattle.commands.specs.declared.command.Command.{Command}
 use Rattle.config_core.specs.declared.event.Event.{Event}
-use Rattle.config_core.specs.declared.event.Event.TheVariants.{Settle, Revert, Command as CommandOf}
+use Rattle.config_core.specs.declared.event.Event.TheVariants.{Settle, Revert, Carry, Command as CommandOf}
 use Rattle.config_core.specs.Machine.{Fits, FitsIn, Free, waiting_of}
 use Rattle.config_core.specs.State.{State}
 use Rattle.session_history.specs.declared.history.Happened.{Happened}
@@ -18,6 +18,7 @@ use Rattle.config_db.specs.View.{DatabaseView}
 commands_fit : (event : Event) → FitsIn Free event → is_command event ≡ false → ⊥
 commands_fit (Settle is_kept) fits none = fits
 commands_fit Revert fits none = fits
+commands_fit Carry fits none = fits
 commands_fit (CommandOf command) fits none = absurd (cc)
 
 module _ (caller moment : ℕ) where

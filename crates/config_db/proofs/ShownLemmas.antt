@@ -255,8 +255,8 @@ of_made (Some m) entry P told is = let same : m.entry ≡ entry = cc in subst P 
 brings : (kept : Kept) (entry : Entry) → IsSoundEntry kept entry → BringsMap Accepts entry
 brings kept (CommitOf commit) sound = sound.accepted
 brings kept (ConfirmOf confirm) sound = tt
-brings kept (ScheduledOf waiting) sound = absurd sound
-brings kept (ClearedOf cleared) sound = absurd sound
+brings kept (ScheduledOf waiting) sound = sound.accepted
+brings kept (ClearedOf cleared) sound = tt
 
 pub can_follow : (e : Effect) (caller moment : ℕ) (s : State) → CanApply e caller s → IfSome (made_in e) (IsSoundMade s.kept moment) → IfSome (made_in e) (λ made. CanFollow s.kept made.entry)
 can_follow effect.Stay caller moment s applies sound = tt

@@ -13,7 +13,6 @@ use Rattle.curly_print.specs.Printed.{printed}
 use Rattle.commit_check.specs.Accepts.{Accepts}
 use Rattle.commit_check.specs.declared.rule.TheConstants.{MAX_TEXT}
 use Rattle.commit_ledger.specs.declared.entry.Entry.{Entry}
-use Rattle.commit_ledger.specs.declared.entry.Entry.TheVariants.{Commit as CommitOf, Confirm as ConfirmOf, Scheduled as ScheduledOf, Cleared as ClearedOf}
 use Rattle.commit_ledger.specs.Checkpoint.{checkpoint}
 use Rattle.commit_ledger.specs.Kept.{Kept}
 use Rattle.commit_ledger.specs.Payload.{text_of, most_text, entry_record}
@@ -31,12 +30,12 @@ use Rattle.config_core.specs.State.{Made}
 use Rattle.config_db.specs.Crash.{BothCalled}
 use Rattle.config_db.specs.Disks.{GoesOn, Holds, HoldsImage}
 use Rattle.config_db.specs.Standing.{AreOf, Stands}
-use Rattle.config_db.specs.Writing.{IsAppend, IsEntryWritten, IsFoundOut, IsWritable, IsWritten, KeepsLimit, entry_in, entry_left, flight_after, kept_after, kept_written}
+use Rattle.config_db.specs.Writing.{IsAppend, IsEntryWritten, IsFoundOut, IsWritten, KeepsLimit, entry_in, entry_left, flight_after, kept_after, kept_written}
 use Rattle.config_db.proofs.AnewLemmas.{both_after}
 use Rattle.config_db.proofs.CalledLemmas.{called_left, called_none, called_then}
 use Rattle.config_db.proofs.DiskLemmas.{goes_further, goes_nowhere, goes_on, rose_last, tell_back, tell_on}
 use Rattle.config_db.proofs.SafeLemmas.{counts_on}
-use Rattle.config_db.proofs.StandingLemmas.{LeavesUnscheduled, are_anew, are_next, spells_anew, spells_either, stands_spelled}
+use Rattle.config_db.proofs.StandingLemmas.{are_anew, are_next, spells_anew, spells_either, stands_spelled}
 
 module _ (j j' : JournalView) (failed : Type 0)
     (stays : Stays j j') (counts : Counts j j')
@@ -104,31 +103,24 @@ module _ (j j' : JournalView) (failed : Type 0)
     crash = λ t. safe.crash t;
   }
 
--- no commit is scheduled after an entry that may be written
-pub leaves_unscheduled : (kept : Kept) (entry : Entry) → kept.scheduled ≡ None → IsWritable entry → LeavesUnscheduled kept entry
-leaves_unscheduled kept (CommitOf commit) none writable = refl
-leaves_unscheduled kept (ConfirmOf confirm) none writable = none
-leaves_unscheduled kept (ScheduledOf waiting) none writable = absurd writable
-leaves_unscheduled kept (ClearedOf cleared) none writable = absurd writable
-
 -- after an append to records of what is kept
-module _ (kept : Kept) (entry : Entry) (next : IsNext kept entry) (none : LeavesUnscheduled kept entry) (i j' : JournalView) (rs : List Record) (are : AreOf kept rs) (held : Holds i rs None) where
+module _ (kept : Kept) (entry : Entry) (next : IsNext kept entry) (i j' : JournalView) (rs : List Record) (are : AreOf kept rs) (held : Holds i rs None) where
   after_append : (outcome : Outcome) → IsAppend (entry_record entry ∷ []) outcome i j' → Stands j' (kept_written kept entry outcome) (entry_left entry outcome)
   after_append Done append =
-      record { records = rs ++ entry_record entry ∷ []; are = are_next kept rs are entry next none; holds = append.holds rs (entry_record entry) refl held; entry = tt }
+      record { records = rs ++ entry_record entry ∷ []; are = are_next kept rs are entry next; holds = append.holds rs (entry_record entry) refl held; entry = tt }
   after_append Fault append = record { records = rs; are = are; holds = inl (append.holds rs (entry_record entry) refl held); entry = next.0 }
 
-module _ (kept : Kept) (entry : Entry) (next : IsNext kept entry) (none : LeavesUnscheduled kept entry) (j : JournalView) (stands : Stands j kept None) where
+module _ (kept : Kept) (entry : Entry) (next : IsNext kept entry) (j : JournalView) (stands : Stands j kept None) where
   -- without a rotation: the file has room
   pub entry_appended : (j' : JournalView) (outcome : Outcome) → j.gate + 1 + length (body 0 (entry_record entry)) ≤ j.limit → IsAppend (entry_record entry ∷ []) outcome j j'
       → IsEntryWritten kept entry outcome j j'
   entry_appended j' outcome room append = record {
-    stands = after_append kept entry next none j j' stands.records stands.are stands.holds outcome append;
+    stands = after_append kept entry next j j' stands.records stands.are stands.holds outcome append;
     goes = append.goes;
     cause = append.cause;
     called = λ t. called_left j j' (SpellsEither stands.records (stands.records ++ entry_record entry ∷ [])) t append.counts (append.crash stands.records (entry_record entry) refl stands.holds t);
     crash = λ t. weaker_pair (a_of j) (b_of j) (a_of j') (b_of j') (SpellsEither stands.records (stands.records ++ entry_record entry ∷ [])) (λ c d. SpellsWith c d kept (Some entry))
-        (λ c d. spells_either kept stands.records stands.are entry next none c d) (append.crash stands.records (entry_record entry) refl stands.holds t);
+        (λ c d. spells_either kept stands.records stands.are entry next c d) (append.crash stands.records (entry_record entry) refl stands.holds t);
     trims = λ done fits. omega (arith, append.gate_is done, append.goes.limit_is, room);
     stays = λ fits. (append.choice, append.other_is);
   }
@@ -170,14 +162,14 @@ module _ (kept : Kept) (entry : Entry) (next : IsNext kept entry) (none : Leaves
 
       pub entry_rotated : (j' : JournalView) (outcome : Outcome) → IsAppend (entry_record entry ∷ []) outcome i j' → IsEntryWritten kept entry outcome j j'
       entry_rotated j' outcome append = record {
-        stands = after_append kept entry next none i j' image anew held outcome append;
+        stands = after_append kept entry next i j' image anew held outcome append;
         goes = goes_further j i j' goes append.goes;
         cause = λ fault. rose_last j i j' goes append.goes (append.cause fault);
         called = λ t. called_then j i j' (either_called t)
             (called_left i j' (SpellsEither image (image ++ entry_record entry ∷ [])) (tell_on j i goes t) append.counts (append.crash image (entry_record entry) refl held (tell_on j i goes t)));
         crash = λ t. weaker_pair (a_of j) (b_of j) (a_of j') (b_of j')
             (λ c d. SpellsEither stands.records image c d ⊎ SpellsEither image (image ++ entry_record entry ∷ []) c d) (λ c d. SpellsWith c d kept (Some entry))
-            (λ c d. ⊎_elim (λ either. inl (spells_anew kept stands.records image stands.are anew c d either)) (λ either. spells_either kept image anew entry next none c d either))
+            (λ c d. ⊎_elim (λ either. inl (spells_anew kept stands.records image stands.are anew c d either)) (λ either. spells_either kept image anew entry next c d either))
             (both_after j i j' (SpellsEither stands.records image) (SpellsEither image (image ++ entry_record entry ∷ [])) rotated.choice rotated.other_is append.choice append.other_is
             (safe.crash stands.records t (stands.holds.1 t)) (append.crash image (entry_record entry) refl held (tell_on j i goes t)));
         trims = λ done fits. omega (arith, append.gate_is done, append.goes.limit_is, stays.limit_is, rotated.gate_is, fits, ap (λ (l : List Record). length (bodies l)) is);

@@ -3,11 +3,12 @@ use Rattle.std.specs.Prelude.{◌≡◌, ◌≤◌, ◌⊎◌, ℕ, ◌+◌, Lis
 use Rattle.commit_journal.specs.Journal.{JournalView, disks_of}
 use Rattle.disk_model.specs.Pair.{FaultOnEither}
 use Rattle.commands.specs.declared.command.Command.{Command}
-use Rattle.config_core.specs.declared.event.Event.TheVariants.{Revert, Command as CommandOf}
+use Rattle.config_core.specs.declared.event.Event.{Event}
+use Rattle.config_core.specs.declared.event.Event.TheVariants.{Revert, Carry, Command as CommandOf}
 use Rattle.config_core.specs.declared.event.Outcome.{Outcome}
 use Rattle.config_core.specs.declared.event.Outcome.TheVariants.{Done, Fault}
 use Rattle.config_core.specs.declared.reply.Reply.{Reply}
-use Rattle.config_core.specs.Machine.{Free, Steps, waiting_of}
+use Rattle.config_core.specs.Machine.{Waiting, InFlight, Missed, Ready, Free, Steps, waiting_of}
 use Rattle.config_core.specs.Prepared.{IsSettling}
 use Rattle.config_core.specs.Serving.{Turned}
 use Rattle.config_core.specs.State.{State}
@@ -16,7 +17,7 @@ use Rattle.session_history.specs.Events.{Leads, NoCommand}
 use Rattle.config_db.specs.declared.answer.Answered.{Answered}
 use Rattle.config_db.specs.declared.answer.Answered.TheVariants.{Kept, NoMemory}
 use Rattle.config_db.specs.declared.answer.Ticked.{Ticked}
-use Rattle.config_db.specs.declared.answer.Ticked.TheVariants.{Nothing, Settled, Reverted, DiskFault, NoMemory as TickedNoMemory}
+use Rattle.config_db.specs.declared.answer.Ticked.TheVariants.{Nothing, Settled, Reverted, Carried, DiskFault, NoMemory as TickedNoMemory}
 use Rattle.config_db.specs.View.{DatabaseView}
 use Rattle.config_db.specs.Numbers.{calls_of}
 use Rattle.config_db.specs.Crash.{last_calls}
@@ -27,17 +28,25 @@ use Rattle.config_db.specs.Moves.{Extends, Happens}
 abbrev pub IsClear : ℕ → DatabaseView → Type 0
 IsClear moment v = waiting_of v.state moment ≡ Free
 
--- the last of the events reverts a missed deadline; its entry leaves the file within its limit, where a checkpoint and the entry fit in it
-pub record EndsReverted (own : List Happened) (v v' : DatabaseView) : Type 0 where
+-- what is due with nothing in flight: the revert of a missed deadline, or the scheduled commit whose time has come
+abbrev pub IsDue : Event → Waiting → Type 0
+IsDue event (InFlight made) = ⊥
+IsDue event Missed = event ≡ Revert
+IsDue event (Ready waiting) = event ≡ Carry
+IsDue event Free = ⊥
+
+-- the last of the events did what was due, by this event; its entry leaves the file within its limit, where a checkpoint and the entry
+-- fit in it
+pub record EndsDue (event : Event) (own : List Happened) (v v' : DatabaseView) : Type 0 where
   pub front : List Happened
   pub last : Happened
   pub is_own : own ≡ front ++ last ∷ []
-  pub reverts : last.event ≡ Revert
+  pub does : last.event ≡ event
   pub done : last.outcome ≡ Done
   pub before : State
   pub leads : Leads v.state front before
   pub turned : Turned
-  pub steps : Steps before last.caller last.moment Revert Done turned
+  pub steps : Steps before last.caller last.moment event Done turned
   pub trims : IfSome turned.made (λ made. KeepsLimit before.kept made.entry v'.journal)
 
 -- one event, which settles what was in flight
@@ -60,7 +69,8 @@ PublishesFirst wanting v v' = (length v.shown.list ≤ v'.shown.published) ⊎ (
 abbrev pub Clears : ℕ → Ticked → List Happened → DatabaseView → DatabaseView → Type 0
 Clears moment Nothing own v v' = (own ≡ []) × IsClear moment v'
 Clears moment Settled own v v' = IsOneSettling own × IsClear moment v'
-Clears moment Reverted own v v' = EndsReverted own v v' × IsClear moment v'
+Clears moment Reverted own v v' = EndsDue Revert own v v' × IsClear moment v'
+Clears moment Carried own v v' = EndsDue Carry own v v' × IsClear moment v'
 Clears moment DiskFault own v v' = IsSome v'.state.flight × FaultOnEither (disks_of v.journal) (disks_of v'.journal)
 Clears moment TickedNoMemory own v v' = NoneCalledBehind own v.journal v'.journal
 
@@ -74,19 +84,21 @@ pub record MakesWay (caller moment : ℕ) (ticked : Ticked) (v v' : DatabaseView
   pub since : v.state.greatest ≤ v'.state.greatest
   pub no_later : v'.state.greatest ≤ moment
 
--- what is reported of a revert
-abbrev pub reverted_as : Outcome → Ticked
-reverted_as Done = Reverted
-reverted_as Fault = DiskFault
+-- what is reported of what was due, by its event
+abbrev pub due_as : Event → Outcome → Ticked
+due_as Carry Done = Carried
+due_as event Done = Reverted
+due_as event Fault = DiskFault
 
--- a missed deadline was reverted, or the revert is in flight
-abbrev pub Reverts : ℕ → ℕ → Ticked → DatabaseView → DatabaseView → Type 0
-Reverts caller moment Reverted v v' = (reply : Reply) × Happens caller moment Revert Done reply v v'
-Reverts caller moment DiskFault v v' =
-    (reply : Reply) × Happens caller moment Revert Fault reply v v' × FaultOnEither (disks_of v.journal) (disks_of v'.journal)
-Reverts caller moment TickedNoMemory v v' = v' ≡ v
-Reverts caller moment Nothing v v' = ⊥
-Reverts caller moment Settled v v' = ⊥
+-- what was due is done, or it is in flight
+abbrev pub DoesDue : ℕ → ℕ → Event → Ticked → DatabaseView → DatabaseView → Type 0
+DoesDue caller moment event Reverted v v' = (event ≡ Revert) × (reply : Reply) × Happens caller moment event Done reply v v'
+DoesDue caller moment event Carried v v' = (event ≡ Carry) × (reply : Reply) × Happens caller moment event Done reply v v'
+DoesDue caller moment event DiskFault v v' =
+    (reply : Reply) × Happens caller moment event Fault reply v v' × FaultOnEither (disks_of v.journal) (disks_of v'.journal)
+DoesDue caller moment event TickedNoMemory v v' = v' ≡ v
+DoesDue caller moment event Nothing v v' = ⊥
+DoesDue caller moment event Settled v v' = ⊥
 
 -- a command is the next event; with a fault it ends only for this cause
 pub record IsTaken (caller moment : ℕ) (command : Command) (place : ℕ) (reply : Reply)
@@ -100,11 +112,12 @@ abbrev pub Takes : ℕ → ℕ → Command → Answered → Type 0 → DatabaseV
 Takes caller moment command (Kept place reply) why v v' = IsTaken caller moment command place reply why v v'
 Takes caller moment command NoMemory why v v' = v' ≡ v
 
--- what is needed after a settling: a missed deadline is reverted, or nothing is
+-- what is needed after a settling: what is due is done, or nothing is needed
 abbrev pub ClearsBehind : ℕ → Ticked → List Happened → DatabaseView → DatabaseView → Type 0
 ClearsBehind moment Nothing own v v' = ⊥
 ClearsBehind moment Settled own v v' = (own ≡ []) × IsClear moment v'
-ClearsBehind moment Reverted own v v' = EndsReverted own v v' × IsClear moment v'
+ClearsBehind moment Reverted own v v' = EndsDue Revert own v v' × IsClear moment v'
+ClearsBehind moment Carried own v v' = EndsDue Carry own v v' × IsClear moment v'
 ClearsBehind moment DiskFault own v v' = IsSome v'.state.flight × FaultOnEither (disks_of v.journal) (disks_of v'.journal)
 ClearsBehind moment TickedNoMemory own v v' = Unit {0}
 

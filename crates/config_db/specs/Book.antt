@@ -36,7 +36,8 @@ pub record IsBook (v : DatabaseView) : Type 0 where
 -- a journal that was just opened holds the list of this ledger
 pub record IsOpening (j : JournalView) (kept : Kept) : Type 0 where
   pub calls : calls_of j ≡ none_called
-  -- its maps are accepted, commits are numbered from 1, an unconfirmed run has room for its revert, and no commit is scheduled
+  -- its maps are accepted, commits are numbered from 1, an unconfirmed run has room for its revert, and a scheduled commit for the one
+  -- that it becomes
   pub sound : IsSoundKept kept
   pub records : List Record
   pub reads : ReadsAs Accepts records kept

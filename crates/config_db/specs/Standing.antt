@@ -1,5 +1,5 @@
 -- The list of commits that a journal holds, and an entry in flight.
-use Rattle.std.specs.Prelude.{◌≡◌, ◌⊎◌, List, Option, None, Some, IfSome}
+use Rattle.std.specs.Prelude.{◌⊎◌, List, Option, None, Some, IfSome}
 use Rattle.record_code.specs.Record.{Record}
 use Rattle.commit_check.specs.Accepts.{Accepts}
 use Rattle.commit_ledger.specs.declared.entry.Entry.{Entry}
@@ -11,12 +11,11 @@ use Rattle.commit_ledger.specs.Rules.{IsEntry}
 use Rattle.commit_journal.specs.Journal.{JournalView}
 use Rattle.config_db.specs.Disks.{Holds, HoldsImage}
 
--- these records are read as a list that agrees with what is kept, in which no commit is scheduled
+-- these records are read as a list that agrees with what is kept
 pub record AreOf (kept : Kept) (records : List Record) : Type 0 where
   pub one : Kept
   pub reads : ReadsAs Accepts records one
   pub agrees : Agrees one kept
-  pub unscheduled : kept.scheduled ≡ None
 
 -- the journal has these records; an entry in flight is its record in flight, or it was to follow an image of what is kept, which is in
 -- flight

@@ -8,6 +8,7 @@ use Rattle.commit_check.specs.Accepts.{Accepts}
 use Rattle.commit_ledger.specs.declared.entry.Entry.{Entry}
 use Rattle.commit_ledger.specs.declared.entry.Entry.TheVariants.{Commit as CommitOf, Confirm as ConfirmOf, Scheduled as ScheduledOf, Cleared as ClearedOf}
 use Rattle.commit_ledger.specs.declared.entry.Commit.{Commit}
+use Rattle.commit_ledger.specs.declared.entry.Scheduled.{Scheduled}
 use Rattle.commit_ledger.specs.Checkpoint.{checkpoint}
 use Rattle.commit_ledger.specs.Kept.{Kept, append_entry}
 use Rattle.commit_ledger.specs.Payload.{entry_record}
@@ -28,12 +29,18 @@ pub record IsWritableCommit (commit : Commit) : Type 0 where
   pub comment : IsPrintable commit.comment
   pub accepted : Accepts commit.tree
 
--- of the entries that the machine makes: it schedules no commit yet, and so calls none off
+-- the same of a scheduled commit
+pub record IsWritableScheduled (waiting : Scheduled) : Type 0 where
+  pub number : 1 ≤ waiting.number
+  pub comment : IsPrintable waiting.comment
+  pub accepted : Accepts waiting.tree
+
+-- and of each entry
 abbrev pub IsWritable : Entry → Type 0
 IsWritable (CommitOf commit) = IsWritableCommit commit
 IsWritable (ConfirmOf confirm) = 1 ≤ confirm.number
-IsWritable (ScheduledOf waiting) = ⊥
-IsWritable (ClearedOf cleared) = ⊥
+IsWritable (ScheduledOf waiting) = IsWritableScheduled waiting
+IsWritable (ClearedOf cleared) = 1 ≤ cleared.number
 
 -- what is kept after the writing of an entry, and what is in flight
 abbrev pub kept_written : Kept → Entry → Outcome → Kept

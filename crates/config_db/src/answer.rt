@@ -15,10 +15,12 @@ pub enum Answered {
 pub enum Ticked {
     /// Nothing was needed.
     Nothing,
-    /// The entry in flight was settled, and no deadline is missed.
+    /// The entry in flight was settled, and nothing is due.
     Settled,
-    /// A missed deadline was reverted.
+    /// A missed deadline was reverted, also after a settling.
     Reverted,
+    /// The scheduled commit was made whose time had come, also after a settling.
+    Carried,
     /// A disk failed, and an entry is in flight.
     DiskFault,
     /// What was needed is not all done.

@@ -23,7 +23,7 @@ impl<D: Disk, J: Naming> Database<D, J> {
                 Outcome::Done => false,
                 Outcome::Fault => true,
             },
-            Need::Revert | Need::Nothing => false,
+            Need::Revert | Need::Carry | Need::Nothing => false,
         }
     }
 

@@ -84,8 +84,8 @@ impl<D: Disk, J: Naming> Database<D, J> {
         self.events.len() as u64
     }
 
-    /// Asks a command of a caller, at that moment or at the greatest one so far. A settling and a revert come first, where they
-    /// are needed.
+    /// Asks a command of a caller, at that moment or at the greatest one so far. A settling comes first, and then a revert or a
+    /// scheduled commit, where they are needed.
     pub fn step<R: Wait>(
         &mut self,
         rt: &R,
@@ -103,7 +103,7 @@ impl<D: Disk, J: Naming> Database<D, J> {
         self.publish_and_answer(rt, caller, moment, command)
     }
 
-    /// Looks at the time: settles and reverts where that is needed, as nobody's command.
+    /// Looks at the time: settles, and reverts or makes a scheduled commit, where that is needed, as nobody's command.
     pub fn tick<R: Wait>(&mut self, rt: &R, moment: Moment) -> Ticked
         ensures way { MakesWay 0 (moment_at moment self.old) result self.old self.new }
         ensures shown { PublishesFirst (result ≡ Ticked.NoMemory) self.old self.new }
@@ -112,8 +112,8 @@ impl<D: Disk, J: Naming> Database<D, J> {
         self.make_way(rt, 0, moment)
     }
 
-    /// Does in a caller's name what its next command would wait for: settles and reverts where that is needed. Unless it is
-    /// answered `DiskFault` or `NoMemory`, nothing comes before a command of that moment.
+    /// Does in a caller's name what its next command would wait for: settles, and reverts or makes a scheduled commit, where that
+    /// is needed. Unless it is answered `DiskFault` or `NoMemory`, nothing comes before a command of that moment.
     pub fn ready<R: Wait>(&mut self, rt: &R, caller: u32, moment: Moment) -> Ticked
         requires { (0 < caller) × (caller ≤ length self.old.users) }
         ensures way { MakesWay caller (moment_at moment self.old) result self.old self.new }

@@ -13,7 +13,8 @@
 //! 1. What was kept and couldn't be published is published (`publish_late`). Where memory runs out for that, nothing else is done.
 //! 2. What is in flight is settled (`settle`). Where a disk fails, it stays in flight and the command is put off, which was made
 //!    ready before (`settle_or_put_off`).
-//! 3. A missed deadline is reverted (`revert`). Where a disk fails, the revert is in flight and the command is put off.
+//! 3. What is due is done (`do_due`): a missed deadline is reverted, or the scheduled commit is made whose time has come; never
+//!    both. Where a disk fails, that is in flight and the command is put off.
 //! 4. The command is prepared, the view after its entry is proposed, the entry is written, the view is kept and published, and the
 //!    command is carried out (`carry_out`). Where a disk fails the entry is in flight, its view waits, and the command is answered so.
 //!

@@ -4,10 +4,10 @@ ghost use Rattle.std.specs.Prelude.{◌≡◌, ◌<◌, ◌≤◌, true, length,
 ghost use Rattle.commit_journal.specs.Journal.{disks_of};
 ghost use Rattle.disk_model.specs.Pair.{FaultOnEither};
 ghost use Rattle.commands.specs.Sound.{IsSound};
-ghost use Rattle.config_core.specs.declared.event.Outcome.TheVariants.{Fault};
-ghost use Rattle.config_core.specs.Machine.{Fits, Missed, waiting_of};
+ghost use Rattle.config_core.specs.declared.event.Outcome.TheVariants.{Done, Fault};
+ghost use Rattle.config_core.specs.Machine.{Fits, waiting_of};
 ghost use Rattle.config_db.specs.Moves.{Happens, Settles, SettlesBefore};
-ghost use Rattle.config_db.specs.Answers.{Answers, CatchesUp, IsClear, MakesWay, PublishesFirst, Reverts, Takes, reverted_as};
+ghost use Rattle.config_db.specs.Answers.{Answers, CatchesUp, DoesDue, IsClear, IsDue, MakesWay, PublishesFirst, Takes, due_as};
 ghost use Rattle.session_history.specs.Events.{is_command};
 
 use crate::answer::{Answered, Before, Ticked};
@@ -102,31 +102,36 @@ impl<D: Disk, J: Naming> Database<D, J> {
         }
     }
 
-    // Reverts a missed deadline.
-    fn revert<R: Wait>(&mut self, rt: &R, caller: u32, moment: Moment) -> Ticked
-        requires missed { waiting_of self.old.state moment ≡ Missed }
+    // Does what is due: reverts a missed deadline, or makes the scheduled commit whose time has come.
+    fn do_due<R: Wait>(&mut self, rt: &R, caller: u32, moment: Moment, event: Event) -> Ticked
+        requires due { IsDue event (waiting_of self.old.state moment) }
         requires no_earlier { self.old.state.greatest ≤ moment }
-        ensures { Reverts caller moment result self.old self.new }
+        ensures { DoesDue caller moment event result self.old self.new }
     {
-        match self.carry_out(rt, caller, moment, Event::Revert) {
+        let done = done_as(&event);
+        match self.carry_out(rt, caller, moment, event) {
             Err(NoMemory) => Ticked::NoMemory,
-            Ok(ended) => reverted(ended.outcome),
+            Ok(ended) => match ended.outcome {
+                Outcome::Done => done,
+                Outcome::Fault => Ticked::DiskFault,
+            },
         }
     }
 
-    // After a settling: a missed deadline is reverted.
+    // After a settling: what is due is done.
     fn catch_up<R: Wait>(&mut self, rt: &R, caller: u32, moment: Moment) -> Ticked
         requires free { self.old.state.flight ≡ None }
         requires no_earlier { self.old.state.greatest ≤ moment }
         ensures { CatchesUp caller moment result self.old self.new }
     {
         match self.core.next(moment) {
-            Need::Revert => self.revert(rt, caller, moment),
+            Need::Revert => self.do_due(rt, caller, moment, Event::Revert),
+            Need::Carry => self.do_due(rt, caller, moment, Event::Carry),
             Need::Settle | Need::Nothing => Ticked::Settled,
         }
     }
 
-    // Settles the entry in flight, and then reverts a missed deadline.
+    // Settles the entry in flight, and then does what is due.
     fn settle_first<R: Wait>(&mut self, rt: &R, caller: u32, moment: Moment) -> Ticked
         requires flying { IsSome self.old.state.flight }
         requires no_earlier { self.old.state.greatest ≤ moment }
@@ -138,14 +143,15 @@ impl<D: Disk, J: Naming> Database<D, J> {
         }
     }
 
-    // Settles and reverts, where that is needed.
+    // Settles and does what is due, where that is needed.
     fn clear<R: Wait>(&mut self, rt: &R, caller: u32, moment: Moment) -> Ticked
         requires { self.old.state.greatest ≤ moment }
         ensures { MakesWay caller moment result self.old self.new }
     {
         match self.core.next(moment) {
             Need::Nothing => Ticked::Nothing,
-            Need::Revert => self.revert(rt, caller, moment),
+            Need::Revert => self.do_due(rt, caller, moment, Event::Revert),
+            Need::Carry => self.do_due(rt, caller, moment, Event::Carry),
             Need::Settle => self.settle_first(rt, caller, moment),
         }
     }
@@ -295,7 +301,7 @@ impl<D: Disk, J: Naming> Database<D, J> {
         match self.catch_up(rt, caller, moment) {
             Ticked::NoMemory => Answered::NoMemory,
             Ticked::DiskFault => self.put_off(caller, moment, command),
-            Ticked::Nothing | Ticked::Settled | Ticked::Reverted => {
+            Ticked::Nothing | Ticked::Settled | Ticked::Reverted | Ticked::Carried => {
                 self.command(rt, caller, moment, command)
             }
         }
@@ -335,7 +341,9 @@ impl<D: Disk, J: Naming> Database<D, J> {
     {
         match self.core.next(moment) {
             Need::Settle => self.answer_in_flight(rt, caller, moment, command),
-            Need::Revert | Need::Nothing => self.answer_at_rest(rt, caller, moment, command),
+            Need::Revert | Need::Carry | Need::Nothing => {
+                self.answer_at_rest(rt, caller, moment, command)
+            }
         }
     }
 
@@ -360,12 +368,12 @@ impl<D: Disk, J: Naming> Database<D, J> {
     }
 }
 
-// What resulted from a revert.
-fn reverted(outcome: Outcome) -> Ticked
-    ensures { result ≡ reverted_as outcome }
+// What is reported of what is due, once it is done.
+fn done_as(event: &Event) -> Ticked
+    ensures { result ≡ due_as event.now Done }
 {
-    match outcome {
-        Outcome::Done => Ticked::Reverted,
-        Outcome::Fault => Ticked::DiskFault,
+    match event {
+        Event::Carry => Ticked::Carried,
+        Event::Revert | Event::Settle(_) | Event::Command(_) => Ticked::Reverted,
     }
 }

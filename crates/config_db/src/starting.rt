@@ -186,6 +186,7 @@ impl<D: Disk, J: Naming> Database<D, J> {
 
     /// Opens the database over the list of commits that two disks hold, for the users of callers 1, 2 and so on, with an empty
     /// book of views. It leaves the contents of the disks as they were. The events of the database are kept as values, or aren't.
+    #[tactic(auto, using(crate::proofs::BookLemmas::sound_waiting))]
     pub fn start(
         alloc: Global,
         shelf: Shelf,

@@ -4,16 +4,16 @@ ghost use Rattle.std.specs.Prelude.{◌≡◌, ◌<◌, ◌≤◌, ◌^◌, ◌�
 ghost use Rattle.commit_check.specs.Accepts.{Accepts};
 ghost use Rattle.commit_journal.specs.Journal.{IsIdle, IsInFlight};
 ghost use Rattle.commit_ledger.specs.Payload.{entry_record};
-ghost use Rattle.commit_ledger.specs.Rules.{Follows, IsCommit, IsConfirm, IsEntry};
+ghost use Rattle.commit_ledger.specs.Rules.{Follows, IsCleared, IsCommit, IsConfirm, IsEntry, IsScheduled};
 ghost use Rattle.config_core.specs.Plan.{made_in};
 ghost use Rattle.stored_ledger.specs.Stored.{IsNext};
 ghost use Rattle.config_db.specs.Standing.{Stands};
-ghost use Rattle.config_db.specs.Writing.{IsAppend, IsEntryWritten, IsFoundOut, IsWritable, IsWritableCommit, IsWritten};
+ghost use Rattle.config_db.specs.Writing.{IsAppend, IsEntryWritten, IsFoundOut, IsWritable, IsWritableCommit, IsWritableScheduled, IsWritten};
 
 use cfg_base::NoMemory;
 use commit_check::accepted_configurations_fit;
 use commit_journal::{Journal, Settled};
-use commit_ledger::{Commit, Confirm, Entry, Ledger, payload_of};
+use commit_ledger::{Cleared, Commit, Confirm, Entry, Ledger, Scheduled, payload_of};
 use config_core::{Outcome, Prepared};
 use disk_model::Disk;
 use record_code::{Encoded, encode};
@@ -45,6 +45,28 @@ fn confirm_keeps_ranges(confirm: &Confirm)
     is_in_64_bits(confirm.number);
 }
 
+/// So do a scheduled commit's.
+fn scheduled_keeps_ranges(waiting: &Scheduled)
+    requires { IsWritableScheduled waiting.now }
+    ensures { IsScheduled Accepts waiting.now }
+{
+    accepted_configurations_fit();
+    let _ = waiting.user.as_word();
+    let _ = waiting.moment.seconds();
+    let _ = waiting.at.seconds();
+    is_in_64_bits(waiting.number);
+}
+
+/// So do those of what calls one off.
+fn cleared_keeps_ranges(cleared: &Cleared)
+    requires { 1 ≤ cleared.now.number }
+    ensures { IsCleared cleared.now }
+{
+    let _ = cleared.user.as_word();
+    let _ = cleared.moment.seconds();
+    is_in_64_bits(cleared.number);
+}
+
 fn entry_keeps_ranges(entry: &Entry)
     requires { IsWritable entry.now }
     ensures { IsEntry Accepts entry.now }
@@ -52,7 +74,8 @@ fn entry_keeps_ranges(entry: &Entry)
     match entry {
         Entry::Commit(commit) => commit_keeps_ranges(commit),
         Entry::Confirm(confirm) => confirm_keeps_ranges(confirm),
-        Entry::Scheduled(_) | Entry::Cleared(_) => unreachable!(),
+        Entry::Scheduled(waiting) => scheduled_keeps_ranges(waiting),
+        Entry::Cleared(cleared) => cleared_keeps_ranges(cleared),
     }
 }
 
@@ -91,7 +114,6 @@ fn write_record<D: Disk>(
     body: &Encoded,
 ) -> Result<Outcome, NoMemory>
     requires stands { Stands journal.old ledger.now None }
-    requires writable { IsWritable entry.now }
     requires next { IsNext ledger.now entry.now }
     requires body { body.now ≡ entry_record entry.now ∷ [] }
     ensures ok { IfOk result (λ outcome. IsEntryWritten ledger.now entry.now outcome journal.old journal.new) }

@@ -108,6 +108,7 @@ fn event_as(event: &Event) -> &'static str {
         Event::Settle(true) => " settle kept",
         Event::Settle(false) => " settle lost",
         Event::Revert => " revert",
+        Event::Carry => " carry",
         Event::Command(_) => " command",
     }
 }

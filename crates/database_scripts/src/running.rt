@@ -107,6 +107,7 @@ fn say_ticked(out: &mut Text, ticked: Ticked) {
         Ticked::Nothing => say(out, "nothing"),
         Ticked::Settled => say(out, "settled"),
         Ticked::Reverted => say(out, "reverted"),
+        Ticked::Carried => say(out, "carried"),
         Ticked::DiskFault => say(out, "disk fault"),
         Ticked::NoMemory => out.lacks_memory(),
     }

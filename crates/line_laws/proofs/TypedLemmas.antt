@@ -290,11 +290,11 @@ rows_typed = (
           (
             without Unprotect (7, lit< tt, refl),
             (
-              two_marks Rename Rename refl (record { keyword = refl; names = refl }) (31, lit< tt, refl) (record { keyword = refl; names = refl }) (31, lit< tt, refl),
+              two_marks Rename Rename refl (record { keyword = refl; names = refl }) (33, lit< tt, refl) (record { keyword = refl; names = refl }) (33, lit< tt, refl),
               (
-                two_marks Copy Copy refl (record { keyword = refl; names = refl }) (32, lit< tt, refl) (record { keyword = refl; names = refl }) (32, lit< tt, refl),
+                two_marks Copy Copy refl (record { keyword = refl; names = refl }) (34, lit< tt, refl) (record { keyword = refl; names = refl }) (34, lit< tt, refl),
                 (
-                  two_marks InsertBefore InsertAfter refl (record { keyword = refl; names = refl }) (33, lit< tt, refl) (record { keyword = refl; names = refl }) (34, lit< tt, refl),
+                  two_marks InsertBefore InsertAfter refl (record { keyword = refl; names = refl }) (35, lit< tt, refl) (record { keyword = refl; names = refl }) (36, lit< tt, refl),
                   tt,
                 ),
               ),

@@ -6,11 +6,12 @@ use Rattle.access_rules.specs.declared.right.Right.{Right}
 use Rattle.access_rules.specs.Rights.{word_of}
 use Rattle.commands.specs.declared.command.Mode.{Mode}
 use Rattle.commands.specs.declared.command.Mode.TheVariants.{Shared, Private, Exclusive}
+use Rattle.commit_ledger.specs.Date.{date_text_at}
 use Rattle.config_core.specs.declared.reply.Refusal.{Refusal}
-use Rattle.config_core.specs.declared.reply.Refusal.TheVariants.{WrongMode, Locked, Modified, Unknown, BadValue, Incomplete, Extra, NotNamed, NotOrdered, NotThere, AlreadyThere, NotALevel, Protected, TooMany, Conflict, TooWide, NoRollback, Line, LineEdit, Check, Exhausted, DiskFault}
+use Rattle.config_core.specs.declared.reply.Refusal.TheVariants.{WrongMode, Locked, Waiting, Unconfirmed, NotLater, NothingWaits, Modified, Unknown, BadValue, Incomplete, Extra, NotNamed, NotOrdered, NotThere, AlreadyThere, NotALevel, Protected, TooMany, Conflict, TooWide, NoRollback, Line, LineEdit, Check, Exhausted, DiskFault}
 use Rattle.config_core.specs.declared.reply.Refusal.TheVariants as refusal
 use Rattle.config_core.specs.declared.reply.Reply.{Reply}
-use Rattle.config_core.specs.declared.reply.Reply.TheVariants.{Done, LoggedOut, Text, Entered, Left, Loaded, Checked, Committed, Refused}
+use Rattle.config_core.specs.declared.reply.Reply.TheVariants.{Done, LoggedOut, Text, Entered, Left, Loaded, Checked, Committed, Scheduled, ClearedCommit, Refused}
 use Rattle.curly_grammar.specs.declared.fault.TextFault.{TextFault}
 use Rattle.curly_grammar.specs.declared.fault.TextFault.TheVariants as text
 use Rattle.edit_ops.specs.declared.fault.EditFault.{EditFault}
@@ -88,6 +89,10 @@ in_line line = codes "line " ++ (decimal line ++ codes ": ")
 abbrev pub message_of : Refusal → List ℕ
 message_of WrongMode = codes "not in this mode"
 message_of (Locked user) = codes "configuration database locked by: " ++ user
+message_of (Waiting at) = codes "commit pending at " ++ (date_text_at at ++ codes " UTC")
+message_of (Unconfirmed deadline) = codes "commit not confirmed, deadline " ++ decimal deadline
+message_of (NotLater at moment) = codes "time is not after now"
+message_of NothingWaits = codes "no commit pending"
 message_of Modified = codes "configuration database modified"
 message_of (Unknown path) = message_of_edit (edit.Unknown path)
 message_of (BadValue path) = message_of_edit (edit.BadValue path)
@@ -142,6 +147,8 @@ text_of_reply Left = codes "Exiting configuration mode\n"
 text_of_reply Loaded = codes "load complete\n"
 text_of_reply Checked = codes "configuration check succeeds\n"
 text_of_reply (Committed minutes quit) = deadline_text minutes ++ complete_text quit
+text_of_reply (Scheduled at) = codes "commit at " ++ (date_text_at at ++ codes " UTC scheduled\n")
+text_of_reply ClearedCommit = codes "pending commit cleared\n"
 text_of_reply (Refused refusal) = text_of_refusal refusal
 
 -- what is written for a line that was refused without a turn

@@ -7,7 +7,8 @@ ghost use Rattle.io_edge.specs.Wrote.{Wrote};
 ghost use Rattle.reply_text.specs.Texts.{message_of, message_of_edit, message_of_text, text_of_refusal};
 
 use crate::writing::{
-    put_both, put_number_before, put_number_behind, put_number_between, put_path, put_told,
+    put_both, put_date_between, put_number_before, put_number_behind, put_number_between, put_path,
+    put_told,
 };
 use cfg_base::{Path, UserName};
 use config_core::Refusal;
@@ -67,7 +68,7 @@ fn put_line_syntax<K: Sink>(sink: &mut K, line: u32, place: u32) -> Result<(), P
     ensures later { (K.view sink.old).faults ≤ (K.view sink.new).faults }
 {
     match put_number_between(sink, b"line ", line, b": ") {
-        Ok(()) => put_number_behind(sink, b"syntax error at byte ", place),
+        Ok(()) => put_number_behind(sink, b"syntax error at byte ", u64::from(place)),
         Err(failed) => Err(failed),
     }
 }
@@ -125,6 +126,12 @@ fn put_message<K: Sink>(sink: &mut K, refusal: &Refusal) -> Result<(), PutFailed
     match refusal {
         Refusal::WrongMode => put_all(sink, b"not in this mode"),
         Refusal::Locked(user) => put_locked(sink, user),
+        Refusal::Waiting(at) => put_date_between(sink, b"commit pending at ", *at, b" UTC"),
+        Refusal::Unconfirmed(deadline) => {
+            put_number_behind(sink, b"commit not confirmed, deadline ", *deadline)
+        }
+        Refusal::NotLater { .. } => put_all(sink, b"time is not after now"),
+        Refusal::NothingWaits => put_all(sink, b"no commit pending"),
         Refusal::Modified => put_all(sink, b"configuration database modified"),
         Refusal::Unknown(path) => put_told(sink, b"unknown statement: ", path),
         Refusal::BadValue(path) => put_told(sink, b"bad value: ", path),

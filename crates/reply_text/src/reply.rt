@@ -9,7 +9,7 @@ ghost use Rattle.reply_text.specs.Texts.{complete_text, deadline_text, no_memory
 use crate::fault::ShellFault;
 use crate::json::put_json_fault;
 use crate::refusal::put_refusal;
-use crate::writing::put_number_between;
+use crate::writing::{put_date_between, put_number_between};
 use commands::Mode;
 use config_core::Reply;
 use io_edge::{PutFailed, Sink, put_all};
@@ -81,6 +81,8 @@ pub fn put_reply<K: Sink>(sink: &mut K, reply: &Reply) -> Result<(), PutFailed>
         Reply::Loaded => put_all(sink, b"load complete\n"),
         Reply::Checked => put_all(sink, b"configuration check succeeds\n"),
         Reply::Committed { minutes, quit } => put_committed(sink, *minutes, *quit),
+        Reply::Scheduled(at) => put_date_between(sink, b"commit at ", *at, b" UTC scheduled\n"),
+        Reply::ClearedCommit => put_all(sink, b"pending commit cleared\n"),
         Reply::Refused(refusal) => put_refusal(sink, refusal),
     }
 }

@@ -1,14 +1,16 @@
-//! The pieces of texts, written without memory: words, steps, paths and numbers.
+//! The pieces of texts, written without memory: words, steps, paths, numbers and dates.
 
 ghost use Rattle.std.specs.Prelude.{◌≤◌, ◌∷◌, ◌++◌, [], OnErr, decimal};
 ghost use Rattle.std.specs.List.{flat_map};
 ghost use Rattle.cfg_base.specs.Counts.{Rose};
 ghost use Rattle.io_edge.specs.Wrote.{Wrote};
 ghost use Rattle.cfg_lex.specs.Printed.{escaped, printed_word};
+ghost use Rattle.commit_ledger.specs.Date.{date_text_at};
 ghost use Rattle.reply_text.specs.Texts.{printed_path, printed_step};
 
-use cfg_base::{Path, Step, Word};
+use cfg_base::{Moment, Path, Step, Word};
 use cfg_lex::is_plain;
+use commit_ledger::date_bytes_at;
 use io_edge::{PutFailed, Sink, put_all};
 use itoa::Buffer;
 
@@ -190,7 +192,7 @@ pub(crate) fn put_number_before<K: Sink>(
 pub(crate) fn put_number_behind<K: Sink>(
     sink: &mut K,
     front: &[u8],
-    number: u32,
+    number: u64,
 ) -> Result<(), PutFailed>
     ensures wrote { Wrote result (front.now ++ decimal number) (K.view sink.old).held (K.view sink.new).held }
     ensures cause { OnErr result (Rose (K.view sink.old).faults (K.view sink.new).faults) }
@@ -213,6 +215,23 @@ pub(crate) fn put_number_between<K: Sink>(
 {
     match put_all(sink, front) {
         Ok(()) => put_number_before(sink, number, back),
+        Err(failed) => Err(failed),
+    }
+}
+
+/// Writes the date and time of a moment, in UTC, between two texts.
+pub(crate) fn put_date_between<K: Sink>(
+    sink: &mut K,
+    front: &[u8],
+    moment: Moment,
+    back: &[u8],
+) -> Result<(), PutFailed>
+    ensures wrote { Wrote result (front.now ++ (date_text_at moment ++ back.now)) (K.view sink.old).held (K.view sink.new).held }
+    ensures cause { OnErr result (Rose (K.view sink.old).faults (K.view sink.new).faults) }
+    ensures later { (K.view sink.old).faults ≤ (K.view sink.new).faults }
+{
+    match put_all(sink, front) {
+        Ok(()) => put_both(sink, &date_bytes_at(moment), back),
         Err(failed) => Err(failed),
     }
 }

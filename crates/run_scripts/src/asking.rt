@@ -1,7 +1,7 @@
 //! Commands by their words.
 
 use cfg_base::{Bytes, Word};
-use commands::{Command, Form, LoadWay, Mode};
+use commands::{Command, Form, LoadWay, Mode, When};
 use script_lines::{Text, put_bytes, say, say_change, say_counted, say_number, say_words};
 
 fn show_active_as(form: Form) -> &'static str {
@@ -77,6 +77,30 @@ fn say_commit(out: &mut Text, minutes: u32, comment: &Word, quit: bool) {
     put_quit(out, quit);
 }
 
+fn say_when(out: &mut Text, when: When) {
+    match when {
+        When::Today { second } => {
+            out.put(" second ");
+            out.put_number(u64::from(second));
+            out.put(" of today");
+        }
+        When::OnDay { day, second } => {
+            out.put(" second ");
+            out.put_number(u64::from(second));
+            out.put(" of day ");
+            out.put_number(u64::from(day));
+        }
+    }
+}
+
+/// A commit that is set for a later time, with its comment.
+fn say_commit_at(out: &mut Text, when: When, comment: &Word) {
+    out.put("= commit at");
+    say_when(out, when);
+    put_comment(out, comment);
+    out.put("\n");
+}
+
 fn say_rollback(out: &mut Text, n: u32) {
     say_counted(out, "rollback", u64::from(n));
 }
@@ -96,6 +120,7 @@ pub(crate) fn say_command(out: &mut Text, command: &Command) {
             say_words(out, show_active_as(*form), words.as_slice())
         }
         Command::ShowCommits => say(out, "show commits"),
+        Command::ClearCommit => say(out, "clear commit"),
         Command::Logout => say(out, "log out"),
         Command::Edit(words) => say_words(out, "edit", words.as_slice()),
         Command::Up(levels) => say_up(out, *levels),
@@ -112,6 +137,7 @@ pub(crate) fn say_command(out: &mut Text, command: &Command) {
             comment,
             quit,
         } => say_commit(out, *minutes, comment, *quit),
+        Command::CommitAt { when, comment } => say_commit_at(out, *when, comment),
         Command::Update => say(out, "update"),
         Command::Status => say(out, "status"),
     }

@@ -75,6 +75,7 @@ fn say_event(out: &mut Text, happened: &Happened) {
         Event::Settle(true) => say(out, "settle kept"),
         Event::Settle(false) => say(out, "settle lost"),
         Event::Revert => say(out, "revert"),
+        Event::Carry => say(out, "carry"),
         Event::Command(command) => say_command(out, command),
     }
     if let Outcome::Fault = happened.outcome {

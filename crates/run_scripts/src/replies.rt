@@ -1,13 +1,13 @@
 //! Replies of the machine.
 
 use crate::asking::{put_minutes, put_quit};
-use cfg_base::UserName;
+use cfg_base::{Moment, UserName};
 use commands::Mode;
 use config_core::{Refusal, Reply};
 use curly_grammar::TextFault;
 use script_lines::{
-    Text, say, say_broken, say_bytes, say_fault_of_line, say_line_fault, say_number, say_path,
-    say_text, say_text_fault,
+    Text, say, say_broken, say_bytes, say_counted, say_fault_of_line, say_line_fault, say_number,
+    say_path, say_text, say_text_fault,
 };
 
 fn say_no_rollback(out: &mut Text, n: u32, kept: u32) {
@@ -36,10 +36,23 @@ fn say_locked(out: &mut Text, user: &UserName) {
     say_bytes(out, "locked by", user.as_word().as_bytes());
 }
 
+/// A time that isn't after a moment.
+fn say_not_later(out: &mut Text, at: Moment, moment: Moment) {
+    out.put("= not later ");
+    out.put_number(at.seconds());
+    out.put(" than ");
+    out.put_number(moment.seconds());
+    out.put("\n");
+}
+
 fn say_refusal(out: &mut Text, refusal: &Refusal) {
     match refusal {
         Refusal::WrongMode => say(out, "wrong mode"),
         Refusal::Locked(user) => say_locked(out, user),
+        Refusal::Waiting(at) => say_counted(out, "waiting", at.seconds()),
+        Refusal::Unconfirmed(deadline) => say_counted(out, "unconfirmed", *deadline),
+        Refusal::NotLater { at, moment } => say_not_later(out, *at, *moment),
+        Refusal::NothingWaits => say(out, "nothing waits"),
         Refusal::Modified => say(out, "modified"),
         Refusal::Unknown(path) => say_path(out, "unknown", path),
         Refusal::BadValue(path) => say_path(out, "bad value", path),
@@ -81,6 +94,8 @@ pub(crate) fn say_reply(out: &mut Text, reply: &Reply) {
         Reply::Loaded => say(out, "loaded"),
         Reply::Checked => say(out, "checked"),
         Reply::Committed { minutes, quit } => say_committed(out, *minutes, *quit),
+        Reply::Scheduled(at) => say_counted(out, "scheduled", at.seconds()),
+        Reply::ClearedCommit => say(out, "cleared commit"),
         Reply::Refused(refusal) => say_refusal(out, refusal),
     }
 }

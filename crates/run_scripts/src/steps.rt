@@ -129,6 +129,7 @@ impl Machine {
             Need::Nothing => self.done(caller, moment, &Event::Command(command)),
             Need::Settle => Err(Fault::Script("no entry is in flight")),
             Need::Revert => Err(Fault::Script("no deadline is due")),
+            Need::Carry => Err(Fault::Script("no scheduled commit is due")),
         }
     }
 
@@ -142,6 +143,7 @@ impl Machine {
             Need::Nothing => self.failed_entry(caller, moment, &Event::Command(command)),
             Need::Settle => self.failed(caller, moment, &Event::Command(command)),
             Need::Revert => Err(Fault::Script("no deadline is due")),
+            Need::Carry => Err(Fault::Script("no scheduled commit is due")),
         }
     }
 
@@ -149,7 +151,9 @@ impl Machine {
         let moment = later(&self.core, moment);
         match self.core.next(moment) {
             Need::Settle => self.done(0, moment, &Event::Settle(kept)),
-            Need::Revert | Need::Nothing => Err(Fault::Script("an entry is in flight")),
+            Need::Revert | Need::Carry | Need::Nothing => {
+                Err(Fault::Script("an entry is in flight"))
+            }
         }
     }
 
@@ -157,7 +161,9 @@ impl Machine {
         let moment = later(&self.core, moment);
         match self.core.next(moment) {
             Need::Revert => self.done(0, moment, &Event::Revert),
-            Need::Settle | Need::Nothing => Err(Fault::Script("a deadline is due")),
+            Need::Settle | Need::Carry | Need::Nothing => {
+                Err(Fault::Script("a deadline is due"))
+            }
         }
     }
 
@@ -165,7 +171,29 @@ impl Machine {
         let moment = later(&self.core, moment);
         match self.core.next(moment) {
             Need::Revert => self.failed(0, moment, &Event::Revert),
-            Need::Settle | Need::Nothing => Err(Fault::Script("a deadline is due")),
+            Need::Settle | Need::Carry | Need::Nothing => {
+                Err(Fault::Script("a deadline is due"))
+            }
+        }
+    }
+
+    fn carry(&mut self, moment: Moment) -> Result<Reply, Fault> {
+        let moment = later(&self.core, moment);
+        match self.core.next(moment) {
+            Need::Carry => self.done(0, moment, &Event::Carry),
+            Need::Settle | Need::Revert | Need::Nothing => {
+                Err(Fault::Script("a scheduled commit is due"))
+            }
+        }
+    }
+
+    fn carry_failing(&mut self, moment: Moment) -> Result<Reply, Fault> {
+        let moment = later(&self.core, moment);
+        match self.core.next(moment) {
+            Need::Carry => self.failed(0, moment, &Event::Carry),
+            Need::Settle | Need::Revert | Need::Nothing => {
+                Err(Fault::Script("a scheduled commit is due"))
+            }
         }
     }
 
@@ -173,11 +201,18 @@ impl Machine {
         self.core.next(later(&self.core, moment))
     }
 
-    /// Rolls back what is due, and says so.
-    fn revert_due(&mut self, moment: Moment, out: &mut Text) -> Result<(), Fault> {
-        if self.need(moment) == Need::Revert {
-            self.revert(moment)?;
-            say(out, "reverted");
+    /// Rolls back what is due, or makes a scheduled commit that is due, and says so.
+    fn make_due(&mut self, moment: Moment, out: &mut Text) -> Result<(), Fault> {
+        match self.need(moment) {
+            Need::Revert => {
+                self.revert(moment)?;
+                say(out, "reverted");
+            }
+            Need::Carry => {
+                self.carry(moment)?;
+                say(out, "carried");
+            }
+            Need::Settle | Need::Nothing => {}
         }
         Ok(())
     }
@@ -193,7 +228,7 @@ impl Machine {
         requires caller { (0 < caller) × (caller ≤ 4) }
         requires sound { IsSound command }
     {
-        match self.revert_due(moment, out) {
+        match self.make_due(moment, out) {
             Ok(()) => say_answer(out, self.ask(caller, moment, command)),
             Err(fault) => Err(fault),
         }
@@ -208,6 +243,7 @@ impl Machine {
         match self.need(moment) {
             Need::Settle => say(out, "settle"),
             Need::Revert => say(out, "revert"),
+            Need::Carry => say(out, "carry"),
             Need::Nothing => say(out, "nothing"),
         }
         Ok(())
@@ -236,6 +272,19 @@ impl Machine {
             b"done" => say_answer(out, self.revert(moment)),
             b"failing" => say_answer(out, self.revert_failing(moment)),
             _ => Err(Fault::Script("revert SECONDS done|failing")),
+        }
+    }
+
+    /// carry SECONDS done|failing
+    fn ask_carry(&mut self, args: &[Arg], out: &mut Text) -> Result<(), Fault> {
+        let [seconds, end] = args else {
+            return Err(Fault::Script("carry SECONDS done|failing"));
+        };
+        let moment = Moment::of(number(seconds)?);
+        match end.as_slice() {
+            b"done" => say_answer(out, self.carry(moment)),
+            b"failing" => say_answer(out, self.carry_failing(moment)),
+            _ => Err(Fault::Script("carry SECONDS done|failing")),
         }
     }
 
@@ -289,6 +338,7 @@ impl Machine {
             "need" => self.ask_need(args, out),
             "settle" => self.ask_settle(args, out),
             "revert" => self.ask_revert(args, out),
+            "carry" => self.ask_carry(args, out),
             _ => return None,
         })
     }

@@ -5,12 +5,13 @@ use Rattle.std.proofs.lemmas.List.{append-nil, length-append}
 use Rattle.std.specs.List.{AllByRecursion}
 use Rattle.commands.specs.declared.command.Command.{Command}
 use Rattle.config_core.specs.declared.event.Event.{Event}
-use Rattle.config_core.specs.declared.event.Event.TheVariants.{Settle, Revert, Command as CommandOf}
+use Rattle.config_core.specs.declared.event.Event.TheVariants.{Settle, Revert, Carry, Command as CommandOf}
+use Rattle.config_core.specs.declared.event.Outcome.{Outcome}
 use Rattle.config_core.specs.declared.event.Outcome.TheVariants.{Done}
 use Rattle.config_core.specs.declared.reply.Reply.{Reply}
 use Rattle.config_core.specs.State.{State}
 use Rattle.config_core.specs.Serving.{Turned}
-use Rattle.config_core.specs.Machine.{Free, InFlight, Missed, Steps, StepsFrom, Waiting, later, waiting_of}
+use Rattle.config_core.specs.Machine.{Free, InFlight, Missed, Ready, Steps, StepsFrom, Waiting, later, waiting_of}
 use Rattle.config_db.specs.declared.answer.Answered.{Answered}
 use Rattle.config_db.specs.declared.answer.Answered.TheVariants.{Kept as DoneAt}
 use Rattle.session_history.specs.declared.history.Happened.{Happened}
@@ -48,17 +49,54 @@ done_is caller moment event happened made plain is =
     ∙ ap (λ x. record { caller = caller; moment = moment; event = event; outcome = x; calls = happened.calls }) plain.0
     ∙ ap (λ x. record { caller = caller; moment = moment; event = event; outcome = Done; calls = x }) plain.1
 
--- what comes before a command is a revert, where no entry was in flight
-reverts : (event : Event) → is_command event ≡ false → is_settling event ≡ false → event ≡ Revert
-reverts (Settle is_kept) is is' = absurd (false≢true (sym is'))
-reverts Revert is is' = refl
-reverts (CommandOf command) is is' = absurd (false≢true (sym is))
+-- what comes before a command where no entry was in flight: a scheduled commit whose time has come, or else a revert
+abbrev due_in : Waiting → Event
+due_in (Ready waiting) = Carry
+due_in waiting = Revert
 
--- where a command is done, no revert is
-not_both : (w : Waiting) (s s' : State) (caller : ℕ) (command : Command) (one other : Turned) → StepsFrom w s caller (CommandOf command) Done one → StepsFrom w s' caller Revert Done other → ⊥
-not_both (InFlight made) s s' caller command one other steps steps' = steps
-not_both Missed s s' caller command one other steps steps' = steps
-not_both Free s s' caller command one other steps steps' = steps'
+due_is : (w : Waiting) (s : State) (caller : ℕ) (event : Event) (outcome : Outcome) (turned : Turned) → is_command event ≡ false
+    → is_settling event ≡ false → StepsFrom w s caller event outcome turned → event ≡ due_in w
+due_is w s caller (Settle is_kept) outcome turned is is' steps = absurd (false≢true (sym is'))
+due_is (InFlight made) s caller Revert outcome turned is is' steps = absurd steps
+due_is Missed s caller Revert outcome turned is is' steps = refl
+due_is (Ready waiting) s caller Revert outcome turned is is' steps = absurd steps
+due_is Free s caller Revert outcome turned is is' steps = absurd steps
+due_is (InFlight made) s caller Carry outcome turned is is' steps = absurd steps
+due_is Missed s caller Carry outcome turned is is' steps = absurd steps
+due_is (Ready waiting) s caller Carry outcome turned is is' steps = refl
+due_is Free s caller Carry outcome turned is is' steps = absurd steps
+due_is w s caller (CommandOf command) outcome turned is is' steps = absurd (false≢true (sym is))
+
+-- where a command is done, no other event is
+not_both : (w : Waiting) (s s' : State) (caller other : ℕ) (command : Command) (event : Event) (outcome : Outcome) (turned turned' : Turned)
+    → is_command event ≡ false → StepsFrom w s caller (CommandOf command) Done turned → StepsFrom w s' other event outcome turned' → ⊥
+not_both (InFlight made) s s' caller other command event outcome turned turned' is steps steps' = steps
+not_both Missed s s' caller other command event outcome turned turned' is steps steps' = steps
+not_both (Ready waiting) s s' caller other command event outcome turned turned' is steps steps' = steps
+not_both Free s s' caller other command (Settle is_kept) outcome turned turned' is steps steps' = steps'
+not_both Free s s' caller other command Revert outcome turned turned' is steps steps' = steps'
+not_both Free s s' caller other command Carry outcome turned turned' is steps steps' = steps'
+not_both Free s s' caller other command (CommandOf command') outcome turned turned' is steps steps' = absurd (false≢true (sym is))
+
+-- a step at a moment
+step_at : (caller moment : ℕ) (s : State) (x : Happened) (turned : Turned) → IsEventOf caller moment x
+    → Steps s x.caller x.moment x.event x.outcome turned → StepsFrom (waiting_of s moment) (later s moment) x.caller x.event x.outcome turned
+step_at caller moment s x turned made steps =
+    subst (λ m. StepsFrom (waiting_of s m) (later s m) x.caller x.event x.outcome turned) made.1 steps
+
+-- so what comes before a command is one event
+due_event : (caller moment : ℕ) (s : State) (x : Happened) (turned : Turned) → IsEventOf caller moment x → IsPlain x → is_command x.event ≡ false
+    → Steps s x.caller x.moment x.event x.outcome turned → x ≡ done_event caller moment (due_in (waiting_of s moment))
+due_event caller moment s x turned made plain none steps =
+    done_is caller moment (due_in (waiting_of s moment)) x made plain
+    (due_is (waiting_of s moment) (later s moment) x.caller x.event x.outcome turned none plain.2 (step_at caller moment s x turned made steps))
+
+-- and none comes before a command that is done
+not_before : (caller moment : ℕ) (s : State) (command : Command) (x : Happened) (turned turned' : Turned) → IsEventOf caller moment x
+    → is_command x.event ≡ false → Steps s caller moment (CommandOf command) Done turned → Steps s x.caller x.moment x.event x.outcome turned' → ⊥
+not_before caller moment s command x turned turned' made none steps steps' =
+    not_both (waiting_of s moment) (later s moment) (later s moment) caller x.caller command x.event x.outcome turned turned' none steps
+    (step_at caller moment s x turned' made steps')
 
 -- plain events of a caller at a moment
 abbrev pub AreOwn : ℕ → ℕ → List Happened → Type 0
@@ -70,15 +108,12 @@ module _ (opening : State) (leads_once : (events : List Happened) (one other : S
       Leads s (front ++ done_event caller moment (CommandOf command) ∷ []) last → Leads s (front' ++ done_event caller moment (CommandOf command) ∷ []) last' → front ≡ front'
   same_front events s caller moment command [] [] last last' at none none' own own' leads leads' = refl
   same_front events s caller moment command [] (y ∷ ys) last last' at none none' own own' leads leads' =
-      let is : y ≡ done_event caller moment Revert = done_is caller moment Revert y own'.0.0 own'.1.0 (reverts y.event none'.0 own'.1.0.2) in
-      absurd (not_both (waiting_of s moment) (later s moment) (later s moment) caller command leads.1 leads'.1 leads.2 (subst (λ e. Steps s e.caller e.moment e.event e.outcome leads'.1) is leads'.2))
+      absurd (not_before caller moment s command y leads.1 leads'.1 own'.0.0 none'.0 leads.2 leads'.2)
   same_front events s caller moment command (x ∷ xs) [] last last' at none none' own own' leads leads' =
-      let is : x ≡ done_event caller moment Revert = done_is caller moment Revert x own.0.0 own.1.0 (reverts x.event none.0 own.1.0.2) in
-      absurd (not_both (waiting_of s moment) (later s moment) (later s moment) caller command leads'.1 leads.1 leads'.2 (subst (λ e. Steps s e.caller e.moment e.event e.outcome leads.1) is leads.2))
+      absurd (not_before caller moment s command x leads'.1 leads.1 own.0.0 none.0 leads'.2 leads.2)
   same_front events s caller moment command (x ∷ xs) (y ∷ ys) last last' at none none' own own' leads leads' =
-      let is : x ≡ done_event caller moment Revert = done_is caller moment Revert x own.0.0 own.1.0 (reverts x.event none.0 own.1.0.2) in
-      let is' : y ≡ done_event caller moment Revert = done_is caller moment Revert y own'.0.0 own'.1.0 (reverts y.event none'.0 own'.1.0.2) in
-      let same : x ≡ y = is ∙ sym is' in
+      let same : x ≡ y = due_event caller moment s x leads.1 own.0.0 own.1.0 none.0 leads.2
+      ∙ sym (due_event caller moment s y leads'.1 own'.0.0 own'.1.0 none'.0 leads'.2) in
       let on : Leads opening (events ++ y ∷ []) leads.1.state = Leads-append opening events (y ∷ []) s leads.1.state at (subst (λ e. Leads s (e ∷ []) leads.1.state) same (leads.0, leads.1, leads.2, refl)) in
       let on' : Leads opening (events ++ y ∷ []) leads'.1.state = Leads-append opening events (y ∷ []) s leads'.1.state at (leads'.0, leads'.1, leads'.2, refl) in
       let state : leads.1.state ≡ leads'.1.state = leads_once (events ++ y ∷ []) leads.1.state leads'.1.state on on' in

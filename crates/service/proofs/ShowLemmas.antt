@@ -3,7 +3,7 @@ use Rattle.std.proofs.Common.{◌≡◌, ℕ, [], refl, ap, None}
 use Rattle.cfg_tree.proofs.TopLemmas.{top_is_level}
 use Rattle.cfg_tree.specs.Typed.{IsLevelPath}
 use Rattle.commands.specs.declared.command.Command.{Command}
-use Rattle.commands.specs.declared.command.Command.TheVariants.{Configure, ShowActive, ShowCommits, Logout, Edit, Up, Top, Exit, ExitAll, Show, Change, Load, Rollback, CheckOnly, Commit, Update, Status}
+use Rattle.commands.specs.declared.command.Command.TheVariants.{Configure, ShowActive, ShowCommits, ClearCommit, Logout, Edit, Up, Top, Exit, ExitAll, Show, Change, Load, Rollback, CheckOnly, Commit, CommitAt, Update, Status}
 use Rattle.commit_ledger.specs.Kept.{Kept}
 use Rattle.config_core.specs.declared.event.Event.{Event}
 use Rattle.config_core.specs.declared.event.Event.TheVariants.{Command as CommandOf}
@@ -16,9 +16,9 @@ use Rattle.config_core.specs.Serving.{Turned, answered}
 use Rattle.config_core.specs.State.{State, opening_of}
 use Rattle.session_threads.specs.History.{ShowsKept}
 
--- the machine over a list of which nothing is pending
+-- the machine over a list of which nothing is pending and nothing scheduled
 abbrev at_rest : Kept → State
-at_rest kept = opening_of (record kept { pending = None }) []
+at_rest kept = opening_of (record kept { pending = None; scheduled = None }) []
 
 -- a step has one outcome
 abbrev pub StepsOnce : Type 0
@@ -47,6 +47,8 @@ module _ (kept : Kept) where
   answers (Rollback n) reply shows = absurd shows
   answers CheckOnly reply shows = absurd shows
   answers (Commit minutes comment quit) reply shows = absurd shows
+  answers (CommitAt when comment) reply shows = absurd shows
+  answers ClearCommit reply shows = absurd shows
   answers Update reply shows = absurd shows
   answers Status reply shows = absurd shows
 

@@ -1,9 +1,7 @@
 -- One event of the machine in memory, where nothing is in flight.
 use Rattle.std.proofs.Common.{◌≡◌, ℕ, ◌-◌, List, [], ◌∷◌, ◌++◌, length, Bool, true, false, refl, sym, ap, subst, ◌∙◌, Option, None, Some}
 use Rattle.config_core.specs.declared.event.Event.{Event}
-use Rattle.config_core.specs.declared.event.Event.TheVariants.{Settle, Revert, Command as CommandOf}
-use Rattle.config_core.specs.declared.event.Need.{Need}
-use Rattle.config_core.specs.declared.event.Need.TheVariants as need
+use Rattle.config_core.specs.declared.event.Event.TheVariants.{Settle, Revert, Carry, Command as CommandOf}
 use Rattle.config_core.specs.declared.event.Outcome.TheVariants.{Done}
 use Rattle.config_core.specs.declared.effect.Effect.{Effect}
 use Rattle.config_core.specs.declared.effect.Effect.TheVariants as effect
@@ -11,34 +9,43 @@ use Rattle.config_core.specs.Callers.{caller_of, with_caller}
 use Rattle.config_core.specs.Entries.{taken}
 use Rattle.config_core.specs.Levels.{Position, at_top}
 use Rattle.config_core.specs.declared.reply.Reply.{Reply}
-use Rattle.commit_ledger.specs.Kept.{is_revert_due}
+use Rattle.commit_ledger.specs.declared.entry.Scheduled.{Scheduled}
+use Rattle.commit_ledger.specs.Kept.{is_revert_due, ready_in}
 use Rattle.config_core.specs.State.{State, Made}
 use Rattle.config_core.specs.Plan.{PreparedView, made_in, made_of}
-use Rattle.config_core.specs.Serving.{Turned, left_if}
+use Rattle.config_core.specs.Serving.{left_if}
 use Rattle.commands.specs.declared.command.Mode.{Mode}
 use Rattle.std.proofs.Math.ListN.{length-set}
-use Rattle.config_core.specs.Machine.{Fits, FitsIn, Free, InFlight, Missed, Steps, StepsFrom, Waiting, later, reverted, waiting_for, waiting_of}
-use Rattle.config_core.specs.Prepared.{CanEnd, IsPrepared, applied, effected, ended, need_in, replied, settled_in}
+use Rattle.config_core.specs.Machine.{Fits, FitsIn, later, waiting_for, waiting_of}
+use Rattle.config_core.specs.Prepared.{CanEnd, IsPrepared, applied, effected, ended, replied, settled_in}
 use Rattle.session_history.specs.declared.history.Happened.{Happened}
 use Rattle.service.specs.Taking.{Happens, done_event}
 
--- with nothing in flight, what stands before a command is a missed deadline or nothing
-waits : (s : State) (moment : ℕ) → s.flight ≡ None → waiting_of s moment ≡ waiting_for None (is_revert_due s.kept moment)
-waits s moment free = ap (λ flight. waiting_for flight (is_revert_due s.kept moment)) free
+-- with nothing in flight, what stands before a command is a missed deadline, a scheduled commit whose time has come, or nothing
+waits : (s : State) (moment : ℕ) → s.flight ≡ None → waiting_of s moment ≡ waiting_for None (is_revert_due s.kept moment) (ready_in s.kept moment)
+waits s moment free = ap (λ flight. waiting_for flight (is_revert_due s.kept moment) (ready_in s.kept moment)) free
 
-can_end : (missed : Bool) (event : Event) (made : Option Made) → FitsIn (waiting_for None missed) event → CanEnd (waiting_for None missed) event made Done
-can_end true (Settle is_kept) made fits = absurd fits
-can_end true Revert made fits = tt
-can_end true (CommandOf command) made fits = absurd fits
-can_end false (Settle is_kept) made fits = absurd fits
-can_end false Revert made fits = absurd fits
-can_end false (CommandOf command) made fits = tt
+can_end : (missed : Bool) (ready : Option Scheduled) (event : Event) (made : Option Made) → FitsIn (waiting_for None missed ready) event
+    → CanEnd (waiting_for None missed ready) event made Done
+can_end true ready (Settle is_kept) made fits = absurd fits
+can_end true ready Revert made fits = tt
+can_end true ready Carry made fits = absurd fits
+can_end true ready (CommandOf command) made fits = absurd fits
+can_end false (Some waiting) (Settle is_kept) made fits = absurd fits
+can_end false (Some waiting) Revert made fits = absurd fits
+can_end false (Some waiting) Carry made fits = tt
+can_end false (Some waiting) (CommandOf command) made fits = absurd fits
+can_end false None (Settle is_kept) made fits = absurd fits
+can_end false None Revert made fits = absurd fits
+can_end false None Carry made fits = absurd fits
+can_end false None (CommandOf command) made fits = tt
 
 -- an event that fits may be done
 can_be_done : (s : State) (moment : ℕ) (event : Event) (made : Option Made) → s.flight ≡ None → FitsIn (waiting_of s moment) event → CanEnd (waiting_of s moment) event made Done
 can_be_done s moment event made free fits =
-    let same : waiting_of s moment ≡ waiting_for None (is_revert_due s.kept moment) = waits s moment free in
-    subst (λ w. CanEnd w event made Done) (sym same) (can_end (is_revert_due s.kept moment) event made (subst (λ w. FitsIn w event) same fits))
+    let same : waiting_of s moment ≡ waiting_for None (is_revert_due s.kept moment) (ready_in s.kept moment) = waits s moment free in
+    subst (λ w. CanEnd w event made Done) (sym same)
+    (can_end (is_revert_due s.kept moment) (ready_in s.kept moment) event made (subst (λ w. FitsIn w event) same fits))
 
 moved : (s : State) (caller : ℕ) (mode : Option Mode) (position : Position) → length (with_caller s caller mode position).callers ≡ length s.callers
 moved s caller mode position = length-set s.callers (caller - 1) _
@@ -72,24 +79,3 @@ Happens-of caller moment event reply plan s s' events events' fits free prepared
   free = ap (λ x. x.flight) is ∙ (keeps plan.effect plan.caller (later s plan.moment) free).0;
   callers = ap (λ x. length x.callers) is ∙ (keeps plan.effect plan.caller (later s plan.moment) free).1;
 }
-
-missed_in : (w : Waiting) → need.Revert ≡ need_in w → w ≡ Missed
-missed_in (InFlight made) is = cc
-missed_in Missed is = refl
-missed_in Free is = cc
-
-free_in : (missed : Bool) (n : Need) → n ≡ need_in (waiting_for None missed) → (n ≡ need.Revert → ⊥) → waiting_for None missed ≡ Free
-free_in true n is other = absurd (other is)
-free_in false n is other = refl
-
--- nothing comes before a command
-pub free_of : (s : State) (moment : ℕ) (n : Need) → s.flight ≡ None → n ≡ need_in (waiting_of s moment) → (n ≡ need.Revert → ⊥) → waiting_of s moment ≡ Free
-free_of s moment n free is other =
-    let same : waiting_of s moment ≡ waiting_for None (is_revert_due s.kept moment) = waits s moment free in
-    same ∙ free_in (is_revert_due s.kept moment) n (is ∙ ap need_in same) other
-
--- a revert ends the run of commits, so that nothing comes before the next command
-pub after_revert : (s : State) (caller moment : ℕ) (turned : Turned) → waiting_of s moment ≡ Missed → Steps s caller moment Revert Done turned → (waiting_of turned.state moment ≡ Free) × (turned.state.greatest ≡ moment)
-after_revert s caller moment turned missed steps =
-    let is : turned ≡ reverted (later s moment) = subst (λ w. StepsFrom w (later s moment) caller Revert Done turned) missed steps in
-    (ap (λ t. waiting_of t.state moment) is, ap (λ t. t.state.greatest) is)

@@ -2,7 +2,7 @@
 use Rattle.std.specs.Prelude.{◌≡◌, ℕ, List, map, Bool, true, false, None}
 use Rattle.std.specs.List.{AllByRecursion}
 use Rattle.config_core.specs.declared.event.Event.{Event}
-use Rattle.config_core.specs.declared.event.Event.TheVariants.{Settle, Revert, Command as CommandOf}
+use Rattle.config_core.specs.declared.event.Event.TheVariants.{Settle, Revert, Carry, Command as CommandOf}
 use Rattle.config_core.specs.declared.event.Outcome.TheVariants.{Done}
 use Rattle.config_core.specs.State.{State}
 use Rattle.session_history.specs.declared.history.Happened.{Happened}
@@ -17,6 +17,7 @@ unasked opening caller = record { opening = opening; caller = caller; asks = Non
 abbrev pub is_settling : Event → Bool
 is_settling (Settle is_kept) = true
 is_settling Revert = false
+is_settling Carry = false
 is_settling (CommandOf command) = false
 
 -- an event is done, and settles nothing: no entry was in flight

@@ -39,7 +39,7 @@ fn ask(core: &mut Core, events: &mut Trace<Happened>, command: Command) -> Resul
     let moment = core.greatest();
     match core.next(moment) {
         Need::Nothing => take(core, events, 1, moment, Event::Command(command)),
-        Need::Settle | Need::Revert => Err(NoMemory),
+        Need::Settle | Need::Revert | Need::Carry => Err(NoMemory),
     }
 }
 

@@ -5,7 +5,8 @@ use Rattle.std.proofs.lemmas.Bool.{cases_lt}
 use Rattle.commands.specs.declared.command.LoadWay.{LoadWay}
 use Rattle.commands.specs.declared.command.Op.{Op}
 use Rattle.commands.specs.declared.command.Command.{Command}
-use Rattle.commands.specs.declared.command.Command.TheVariants.{Configure, ShowActive, ShowCommits, Logout, Edit, Up, Top, Exit, ExitAll, Show, Change, Load, Rollback, CheckOnly, Commit as CommitAsked, Update, Status}
+use Rattle.commands.specs.declared.command.Command.TheVariants.{Configure, ShowActive, ShowCommits, ClearCommit, Logout, Edit, Up, Top, Exit, ExitAll, Show, Change, Load, Rollback, CheckOnly, Commit as CommitAsked, CommitAt, Update, Status}
+use Rattle.commands.specs.When.{at_of}
 use Rattle.cfg_base.specs.declared.path.Step.{Step}
 use Rattle.commit_ledger.specs.declared.entry.Commit.{Commit}
 use Rattle.commit_ledger.specs.declared.entry.Entry.{Entry}
@@ -13,7 +14,7 @@ use Rattle.commit_ledger.specs.declared.entry.Entry.TheVariants.{Commit as Commi
 use Rattle.commit_ledger.specs.declared.limit.TheConstants.{MAX_ENTRIES}
 use Rattle.commit_ledger.specs.Kept.{Kept, Unconfirmed, append_entry, nth_last}
 use Rattle.config_core.specs.declared.event.Event.{Event}
-use Rattle.config_core.specs.declared.event.Event.TheVariants.{Settle, Revert, Command as CommandOf}
+use Rattle.config_core.specs.declared.event.Event.TheVariants.{Settle, Revert, Carry, Command as CommandOf}
 use Rattle.config_core.specs.declared.event.Outcome.{Outcome}
 use Rattle.config_core.specs.declared.event.Outcome.TheVariants.{Done, Fault}
 use Rattle.config_core.specs.declared.reply.Reply.{Reply}
@@ -21,9 +22,9 @@ use Rattle.config_core.specs.Levels.{Position, is_level_at}
 use Rattle.config_core.specs.State.{State, Made}
 use Rattle.config_core.specs.Access.{bar_to}
 use Rattle.config_core.specs.Callers.{candidate_of, level_of, own_of, without_mode}
-use Rattle.config_core.specs.Entries.{commit_of, confirm_of, made_by, revert_made, taken}
+use Rattle.config_core.specs.Entries.{carry_made, cleared_of, commit_of, confirm_of, made_by, revert_made, scheduled_of, taken}
 use Rattle.config_core.specs.Serving.{Turned, exited, edited, makes, left_if, checked, Moves, IsLost, Changes, IsUnchanged, Loads, IsNotLoaded, Replaces, RollsTo, IsNotMerged, Updates, Does, Serves}
-use Rattle.config_core.specs.Machine.{Waiting, InFlight, Missed, Free, waiting_of, is_logout, settled, reverted, left_by, Ends, StepsFrom, Steps, later}
+use Rattle.config_core.specs.Machine.{Waiting, InFlight, Missed, Ready, Free, waiting_of, is_logout, settled, reverted, carried, left_by, Ends, StepsFrom, Steps, later}
 use Rattle.config_core.proofs.StepLemmas.{by_bar, by_bool, by_check}
 use Rattle.session_history.specs.declared.history.Happened.{Happened}
 use Rattle.session_history.specs.Events.{Leads}
@@ -107,6 +108,10 @@ module _ (s : State) where
         by_check s (own_of s caller) turned _ (Keeps s) (λ m accepted. checked_keeps caller s.kept.pending) (λ refusal. inl refl) checks
     does_keep (CommitAsked minutes comment quit) checks =
         by_check s (own_of s caller) turned _ (Keeps s) (λ m accepted. makes_keep caller (CommitOf (commit_of s caller m minutes comment)) quit _) (λ refusal. inl refl) checks
+    does_keep (CommitAt when comment) checks =
+        by_check s (own_of s caller) turned _ (Keeps s)
+        (λ m accepted. makes_keep caller (ScheduledOf (scheduled_of s caller m (at_of when s.greatest) comment)) false _) (λ refusal. inl refl) checks
+    does_keep ClearCommit is = kept_by s turned _ is (makes_keep caller (ClearedOf (cleared_of s caller)) false _)
     does_keep Update updates = updates_keep updates
     does_keep Status is = stays turned _ refl is
 
@@ -132,13 +137,21 @@ module _ (s : State) where
   from_keeps (InFlight made) caller (Settle is_kept) Done turned is = kept_by s turned _ is (settled_keeps made is_kept)
   from_keeps (InFlight made) caller (Settle is_kept) Fault turned is = absurd is
   from_keeps (InFlight made) caller Revert outcome turned is = absurd is
+  from_keeps (InFlight made) caller Carry outcome turned is = absurd is
   from_keeps (InFlight made) caller (CommandOf command) Done turned is = absurd is
   from_keeps (InFlight made) caller (CommandOf command) Fault turned is = stays turned _ (left_by_keeps caller command) is
   from_keeps Missed caller (Settle is_kept) outcome turned is = absurd is
   from_keeps Missed caller Revert outcome turned is = ends_keep outcome (reverted s) turned (inr ((revert_made s).entry, refl)) is
+  from_keeps Missed caller Carry outcome turned is = absurd is
   from_keeps Missed caller (CommandOf command) outcome turned is = absurd is
+  from_keeps (Ready waiting) caller (Settle is_kept) outcome turned is = absurd is
+  from_keeps (Ready waiting) caller Revert outcome turned is = absurd is
+  from_keeps (Ready waiting) caller Carry outcome turned is =
+      ends_keep outcome (carried s waiting is.same) turned (inr ((carry_made s waiting is.same).entry, refl)) is.ends
+  from_keeps (Ready waiting) caller (CommandOf command) outcome turned is = absurd is
   from_keeps Free caller (Settle is_kept) outcome turned is = absurd is
   from_keeps Free caller Revert outcome turned is = absurd is
+  from_keeps Free caller Carry outcome turned is = absurd is
   from_keeps Free caller (CommandOf command) outcome turned is = ends_keep outcome is.done turned (serves_keep caller is.done command is.serves) is.ends
 
 -- a step leaves the list, or adds an entry to it

@@ -5,19 +5,20 @@ use Rattle.std.proofs.lemmas.List.Elements.{All-nil, All-cons, All-head, All-tai
 use Rattle.commands.specs.declared.command.Form.{Form}
 use Rattle.commands.specs.declared.command.Mode.{Mode}
 use Rattle.commands.specs.declared.command.Command.{Command}
-use Rattle.commands.specs.declared.command.Command.TheVariants.{Configure, ShowActive, ShowCommits, Logout, Edit, Up, Top, Exit, ExitAll, Show, Change, Load, Rollback, CheckOnly, Commit, Update, Status}
+use Rattle.commands.specs.declared.command.Command.TheVariants.{Configure, ShowActive, ShowCommits, ClearCommit, Logout, Edit, Up, Top, Exit, ExitAll, Show, Change, Load, Rollback, CheckOnly, Commit, CommitAt, Update, Status}
+use Rattle.commands.specs.When.{at_of}
 use Rattle.cfg_base.specs.declared.path.Step.{Step}
 use Rattle.cfg_tree.specs.Statements.{Statements}
 use Rattle.cfg_tree.specs.Typed.{IsTypedPath, IsLevelPath}
 use Rattle.cfg_resolve.proofs.TargetLemmas.{resolved_target}
 use Rattle.commit_ledger.specs.declared.entry.Commit.{Commit as CommitMade}
 use Rattle.commit_ledger.specs.declared.entry.Entry.{Entry}
-use Rattle.commit_ledger.specs.declared.entry.Entry.TheVariants.{Commit as CommitOf, Confirm as ConfirmOf}
+use Rattle.commit_ledger.specs.declared.entry.Entry.TheVariants.{Commit as CommitOf, Confirm as ConfirmOf, Scheduled as ScheduledOf, Cleared as ClearedOf}
 use Rattle.commit_ledger.specs.declared.limit.TheConstants.{MAX_ENTRIES}
 use Rattle.commit_ledger.specs.Kept.{Unconfirmed, active_of, nth_last}
 use Rattle.config_core.specs.declared.caller.Caller.{Caller}
 use Rattle.config_core.specs.declared.event.Event.{Event}
-use Rattle.config_core.specs.declared.event.Event.TheVariants.{Settle, Revert, Command as CommandOf}
+use Rattle.config_core.specs.declared.event.Event.TheVariants.{Settle, Revert, Carry, Command as CommandOf}
 use Rattle.config_core.specs.declared.event.Outcome.{Outcome}
 use Rattle.config_core.specs.declared.event.Outcome.TheVariants.{Done as IsDone, Fault}
 use Rattle.config_core.specs.declared.reply.Refusal.TheVariants.{NotALevel, Exhausted}
@@ -27,9 +28,9 @@ use Rattle.config_core.specs.Levels.{Position, AreLevels, at_top, is_level_place
 use Rattle.config_core.specs.State.{State, Made, operational}
 use Rattle.config_core.specs.Callers.{caller_in, candidate_of, own_of, position_of, level_of, with_caller, with_position, without_mode}
 use Rattle.config_core.specs.Access.{bar_to}
-use Rattle.config_core.specs.Entries.{commit_of, confirm_of, made_by, taken}
+use Rattle.config_core.specs.Entries.{cleared_of, commit_of, confirm_of, made_by, scheduled_of, taken}
 use Rattle.config_core.specs.Serving.{Turned, answered, refused, exited, edited, Replaces, RollsTo, Shows, checked, left_if, makes, Does, Serves}
-use Rattle.config_core.specs.Machine.{Waiting, InFlight, Missed, Free, Ends, Steps, StepsFrom, is_logout, later, left_by, reverted, settled, waiting_of}
+use Rattle.config_core.specs.Machine.{Waiting, InFlight, Missed, Ready, Free, Ends, Steps, StepsFrom, carried, is_logout, later, left_by, reverted, settled, waiting_of}
 use Rattle.config_core.proofs.LevelLemmas.{top_alone, level_front}
 use Rattle.config_core.proofs.StepLemmas.{by_bar, by_bool, by_check, shows_stay}
 use Rattle.session_history.specs.declared.history.Happened.{Happened}
@@ -149,6 +150,10 @@ does_stand s caller CheckOnly turned stand checks =
 does_stand s caller (Commit minutes comment quit) turned stand checks =
     by_check s (own_of s caller) turned _ Stands (λ m accepted. makes_stands s caller (CommitOf (commit_of s caller m minutes comment)) quit _ stand)
     (λ refusal. stand) checks
+does_stand s caller (CommitAt when comment) turned stand checks =
+    by_check s (own_of s caller) turned _ Stands
+    (λ m accepted. makes_stands s caller (ScheduledOf (scheduled_of s caller m (at_of when s.greatest) comment)) false _ stand) (λ refusal. stand) checks
+does_stand s caller ClearCommit turned stand is = stands_by turned _ is (makes_stands s caller (ClearedOf (cleared_of s caller)) false _ stand)
 does_stand s caller Update turned stand (inl updates) = stands_by turned _ updates.is stand
 does_stand s caller Update turned stand (inr unmerged) = stands_by turned _ unmerged.is stand
 does_stand s caller Status turned stand is = stands_by turned _ is stand
@@ -177,13 +182,21 @@ from_stands : (waiting : Waiting) (s : State) (caller : ℕ) (event : Event) (ou
 from_stands (InFlight made) s caller (Settle is_kept) IsDone turned stand steps = stands_by turned _ steps (settled_stands s made is_kept stand)
 from_stands (InFlight made) s caller (Settle is_kept) Fault turned stand steps = absurd steps
 from_stands (InFlight made) s caller Revert outcome turned stand steps = absurd steps
+from_stands (InFlight made) s caller Carry outcome turned stand steps = absurd steps
 from_stands (InFlight made) s caller (CommandOf command) IsDone turned stand steps = absurd steps
 from_stands (InFlight made) s caller (CommandOf command) Fault turned stand steps = stands_by turned _ steps (left_by_stands s caller command stand)
 from_stands Missed s caller (Settle is_kept) outcome turned stand steps = absurd steps
 from_stands Missed s caller Revert outcome turned stand steps = ends_stand outcome s (reverted s) turned stand stand steps
+from_stands Missed s caller Carry outcome turned stand steps = absurd steps
 from_stands Missed s caller (CommandOf command) outcome turned stand steps = absurd steps
+from_stands (Ready waiting) s caller (Settle is_kept) outcome turned stand steps = absurd steps
+from_stands (Ready waiting) s caller Revert outcome turned stand steps = absurd steps
+from_stands (Ready waiting) s caller Carry outcome turned stand steps =
+    ends_stand outcome s (carried s waiting steps.same) turned stand stand steps.ends
+from_stands (Ready waiting) s caller (CommandOf command) outcome turned stand steps = absurd steps
 from_stands Free s caller (Settle is_kept) outcome turned stand steps = absurd steps
 from_stands Free s caller Revert outcome turned stand steps = absurd steps
+from_stands Free s caller Carry outcome turned stand steps = absurd steps
 from_stands Free s caller (CommandOf command) outcome turned stand steps = ends_stand outcome s steps.done turned stand (serves_stands s caller command steps.done stand steps.serves) steps.ends
 
 steps_stand : (s : State) (caller moment : ℕ) (event : Event) (outcome : Outcome) (turned : Turned) → Stand s.callers → Steps s caller moment event outcome turned → Stands turned

@@ -3,7 +3,7 @@ use Rattle.std.specs.Prelude.{◌≡◌, ℕ, ◌+◌, ◌==◌, ◌<◌, ◌&&�
 use Rattle.std.specs.List.{AllByRecursion}
 use Rattle.commands.specs.declared.command.Command.{Command}
 use Rattle.config_core.specs.declared.event.Event.{Event}
-use Rattle.config_core.specs.declared.event.Event.TheVariants.{Settle, Revert, Command as CommandOf}
+use Rattle.config_core.specs.declared.event.Event.TheVariants.{Settle, Revert, Carry, Command as CommandOf}
 use Rattle.config_core.specs.declared.reply.Reply.{Reply}
 use Rattle.config_core.specs.State.{State, IsActiveAccepted}
 use Rattle.config_core.specs.Serving.{Turned}
@@ -40,11 +40,12 @@ pub record IsAskedAt (s : State) (events : List Happened) (place caller answer :
   pub when : event.moment ≡ max answer before.greatest
   pub asks : event.event ≡ CommandOf command
 
--- an event is a command; a settling or a revert isn't
+-- an event is a command; a settling, a revert or a scheduled commit isn't
 abbrev pub is_command : Event → Bool
 is_command (CommandOf command) = true
 is_command (Settle is_kept) = false
 is_command Revert = false
+is_command Carry = false
 
 -- no event is a command
 abbrev pub NoCommand : List Happened → Type 0

@@ -4,7 +4,7 @@ use Rattle.access_rules.specs.declared.right.Right.{Right}
 use Rattle.commands.specs.declared.command.Command.{Command}
 use Rattle.config_core.specs.declared.reply.Reply.{Reply}
 use Rattle.config_core.specs.declared.reply.Reply.TheVariants.{Done, LoggedOut, Text, Entered, Left}
-use Rattle.config_core.specs.declared.reply.Reply.TheVariants.{Loaded, Checked, Committed, Refused as Declined}
+use Rattle.config_core.specs.declared.reply.Reply.TheVariants.{Loaded, Checked, Committed, Scheduled, ClearedCommit, Refused as Declined}
 use Rattle.reply_text.specs.declared.fault.ShellFault.{ShellFault}
 use Rattle.reply_text.specs.Texts.{text_of_denial, text_of_fault, text_of_reply, no_memory_text, unready_text}
 use Rattle.session_shell.specs.declared.door.Given0.{Given0}
@@ -133,6 +133,8 @@ after_reply reading Left = Operational
 after_reply reading Loaded = reading
 after_reply reading Checked = reading
 after_reply reading (Committed minutes quit) = if quit then Operational else reading
+after_reply reading (Scheduled at) = reading
+after_reply reading ClearedCommit = reading
 after_reply reading (Declined refusal) = reading
 
 -- how a session reads on after what was given; where no event was made nobody moves

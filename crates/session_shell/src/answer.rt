@@ -81,6 +81,8 @@ fn follow_reply(reading: &mut Reading, reply: &Reply)
             minutes: _,
             quit: false,
         }
+        | Reply::Scheduled(_)
+        | Reply::ClearedCommit
         | Reply::Refused(_) => {}
     }
 }

@@ -20,7 +20,7 @@ use Rattle.commit_journal.specs.Journal.{disks_of}
 use Rattle.commit_ledger.specs.Kept.{Kept as KeptList, active_of}
 use Rattle.config_core.specs.declared.caller.Caller.{Caller}
 use Rattle.config_core.specs.declared.event.Event.{Event}
-use Rattle.config_core.specs.declared.event.Event.TheVariants.{Settle, Revert, Command as CommandOf}
+use Rattle.config_core.specs.declared.event.Event.TheVariants.{Settle, Revert, Carry, Command as CommandOf}
 use Rattle.config_core.specs.declared.event.Outcome.{Outcome}
 use Rattle.config_core.specs.Callers.{caller_of, level_of}
 use Rattle.config_core.specs.Machine.{IsNotAskedBy, Steps}
@@ -69,10 +69,11 @@ AddsOwn-then caller a b c first next = (
   All-append (λ (entry : Noted). caller_in entry ≡ caller) first.0 next.0 first.2 next.2,
 )
 
--- a settling or a revert is nobody's command
+-- a settling, a revert or a scheduled commit is nobody's command
 not_asked : (other caller : ℕ) (event : Event) → is_command event ≡ false → IsNotAskedBy other caller event
 not_asked other caller (Settle is_kept) is = tt
 not_asked other caller Revert is = tt
+not_asked other caller Carry is = tt
 not_asked other caller (CommandOf command) is = absurd (false≢true (sym is))
 
 -- so it moves no caller's level

@@ -7,7 +7,7 @@ use Rattle.commands.specs.declared.command.Command.{Command}
 use Rattle.commands.specs.declared.command.Form.TheVariants.{Curly}
 use Rattle.commit_ledger.specs.Kept.{Kept, active_of}
 use Rattle.config_core.specs.Access.{bar_to}
-use Rattle.config_core.specs.Machine.{Ends, Free, InFlight, Missed, Steps, StepsFrom, Waiting, later, waiting_of}
+use Rattle.config_core.specs.Machine.{Ends, Free, InFlight, Missed, Ready, Steps, StepsFrom, Waiting, later, waiting_of}
 use Rattle.config_core.specs.Serving.{Shows, Turned, Unless}
 use Rattle.config_core.specs.Showing.{IsShow, ShowsAnswer}
 use Rattle.config_core.specs.State.{State}
@@ -70,6 +70,7 @@ module _ (s : State) (caller moment : ℕ) (tree : IsTree (active_of s.kept)) wh
   waits_whole (InFlight made) Done turned steps = absurd steps
   waits_whole (InFlight made) Fault turned steps = subst (λ (t : Turned). IsWholeText t.reply) (sym steps) tt
   waits_whole Missed outcome turned steps = absurd steps
+  waits_whole (Ready waiting) outcome turned steps = absurd steps
   waits_whole Free outcome turned steps =
       ends_whole outcome steps.done turned (serves_whole (bar_to (later s moment) caller whole_show) steps.done steps.serves) steps.ends
 

@@ -48,7 +48,8 @@ abbrev pub HasEvent : State → ℕ → List Happened → Command → ℕ → An
 HasEvent opening caller events command answer (Done place reply) = IsAskedAt opening events place caller answer command reply
 HasEvent opening caller events command answer Wanting = Unit {0}
 
--- a turn's own events are a settling or a revert, and then, where it was answered, the command, which is the last event
+-- a turn's own events are a settling, a revert or a scheduled commit, and then, where it was answered, the command, which is the last
+-- event
 pub record EndsAtPlace (place : ℕ) (own events : List Happened) : Type 0 where
   pub front : List Happened
   pub last : Happened

@@ -116,7 +116,9 @@ impl<D: Disk, J: Naming> Served<D, J> {
             return Readied::NoMemory;
         }
         match self.database.ready(rt, caller, moment) {
-            Ticked::Nothing | Ticked::Settled | Ticked::Reverted => Readied::Ready,
+            Ticked::Nothing | Ticked::Settled | Ticked::Reverted | Ticked::Carried => {
+                Readied::Ready
+            }
             Ticked::DiskFault => {
                 let before = self.database.count();
                 self.notes.push_reserved(Note { before, caller });

@@ -6,6 +6,7 @@ use Rattle.std.proofs.lemmas.List.Elements.{All-nil, All-cons}
 use Rattle.cfg_lex.specs.Tokens.{tokens_at}
 use Rattle.shell_words.specs.declared.form.CommandForm.{CommandForm}
 use Rattle.shell_words.specs.declared.making.Words0.{Words0}
+use Rattle.jiff_core.specs.Calendar.{days_of_years, days_of_months, day_count, days_from_civil}
 use Rattle.shell_words.specs.Item.{Item, item_in}
 use Rattle.shell_words.specs.Form.{forms_of, parts_of}
 use Rattle.shell_words.specs.Walk.{fits, given, furthest, form_for}
@@ -61,7 +62,7 @@ examples_simple false = refl
 
 -- each of them asks what is shown
 examples_answered : (configuring : Bool) → map (answer_of configuring) (examples configuring) ≡ map (λ (example : Example). example.asked) (examples configuring)
-unfolding forms_of
+unfolding forms_of days_from_civil day_count days_of_years days_of_months
 examples_answered true = refl
 examples_answered false = refl
 

@@ -7,7 +7,7 @@ use Rattle.cfg_lex.specs.declared.token.TokenKind.{TokenKind}
 use Rattle.cfg_lex.specs.declared.token.TokenKind.TheVariants as kind
 use Rattle.cfg_lex.specs.Lexed.{lexed}
 use Rattle.shell_words.specs.declared.form.Symbol.{Symbol}
-use Rattle.shell_words.specs.declared.form.Symbol.TheVariants.{Keyword, Mark, Word, Neither, Number, OpenBracket, CloseBracket}
+use Rattle.shell_words.specs.declared.form.Symbol.TheVariants.{Keyword, Mark, Word, Neither, Number, Time, OpenBracket, CloseBracket}
 use Rattle.shell_words.specs.declared.form.Part.{Part}
 use Rattle.shell_words.specs.declared.form.Part.TheVariants.{Nothing, One, Many}
 use Rattle.shell_words.specs.declared.form.Makes.{Makes}
@@ -28,6 +28,7 @@ are_words (Mark keyword) = true
 are_words Word = true
 are_words (Neither one other) = true
 are_words (Number low high) = true
+are_words Time = true
 are_words OpenBracket = false
 are_words CloseBracket = false
 
@@ -69,6 +70,7 @@ example_word (Mark keyword) = spelled keyword
 example_word Word = codes "1"
 example_word (Neither one other) = codes "1"
 example_word (Number low high) = codes "1"
+example_word Time = codes "00:00"
 example_word OpenBracket = []
 example_word CloseBracket = []
 
@@ -78,6 +80,7 @@ example_kind (Mark keyword) = kind.Bare
 example_kind Word = kind.Bare
 example_kind (Neither one other) = kind.Bare
 example_kind (Number low high) = kind.Bare
+example_kind Time = kind.Bare
 example_kind OpenBracket = kind.OpenBracket
 example_kind CloseBracket = kind.CloseBracket
 

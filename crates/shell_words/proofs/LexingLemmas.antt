@@ -12,14 +12,18 @@ use Rattle.cfg_lex.specs.Lexeme.{Lexeme, Space, LineComment, Comment, Sign, Bare
 use Rattle.cfg_lex.specs.Tokens.{tokens_at, IsCut}
 use Rattle.shell_words.proofs.SymbolLemmas.{same_is}
 
--- what stands between the spaces of a line
+-- what stands between the spaces of a line that are in no quotes
 abbrev in_first : ℕ → List (List ℕ) → List (List ℕ)
 in_first b [] = (b ∷ []) ∷ []
 in_first b (piece ∷ pieces) = (b ∷ piece) ∷ pieces
 
-abbrev pieces_of : List ℕ → List (List ℕ)
-pieces_of [] = [] ∷ []
-pieces_of (b ∷ bytes) = if b == 32 then [] ∷ pieces_of bytes else in_first b (pieces_of bytes)
+abbrev add_byte : Bool → ℕ → List (List ℕ) → List (List ℕ)
+add_byte true b pieces = [] ∷ pieces
+add_byte false b pieces = in_first b pieces
+
+abbrev pieces_of : Bool → List ℕ → List (List ℕ)
+pieces_of quoted [] = [] ∷ []
+pieces_of quoted (b ∷ bytes) = add_byte (b == 32 && not quoted) b (pieces_of (if b == 34 then not quoted else quoted) bytes)
 
 -- a sign, a quoted word or a bare one
 abbrev lexeme_at : Option TokenKind → ℕ → List ℕ → Lexeme
@@ -36,7 +40,7 @@ behind_spaces (piece ∷ pieces) = Space 32 ∷ (lexemes_of piece ++ behind_spac
 
 -- the lexemes of a line
 abbrev pub lexemes_in : List ℕ → List Lexeme
-lexemes_in line = drop 1 (behind_spaces (pieces_of line))
+lexemes_in line = drop 1 (behind_spaces (pieces_of false line))
 
 -- the byte is this bracket
 abbrev is_bracket : ℕ → TokenKind → Bool

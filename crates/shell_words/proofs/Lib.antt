@@ -1,4 +1,5 @@
 pub mod NumberLemmas
+pub mod TimeLemmas
 pub mod FormTests
 pub mod FormFacts
 pub mod SymbolLemmas

@@ -97,6 +97,7 @@ no_change (makes.Configure mode) e items words change asked = cc
 no_change (makes.ShowActive form) e items words change asked = cc
 no_change makes.ShowJson e items words change asked = cc
 no_change makes.ShowCommits e items words change asked = cc
+no_change makes.ClearCommit e items words change asked = cc
 no_change makes.Logout e items words change asked = cc
 no_change (makes.Change verb) e items words change asked = false≢true (sym e)
 no_change (makes.Move mover) e items words change asked = false≢true (sym e)
@@ -111,6 +112,7 @@ no_change (makes.LoadJson way) e items words change asked = cc
 no_change makes.Rollback e items words change asked = cc
 no_change makes.CheckOnly e items words change asked = cc
 no_change (makes.Commit confirmed comment quit) e items words change asked = cc
+no_change (makes.CommitAt comment) e items words change asked = cc
 no_change makes.Update e items words change asked = cc
 no_change makes.Status e items words change asked = cc
 

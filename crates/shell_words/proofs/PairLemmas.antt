@@ -7,7 +7,7 @@ use Rattle.cfg_base.specs.Words.{same_word}
 use Rattle.cfg_lex.specs.Lexed.{is_bare_kind}
 use Rattle.commands.specs.declared.mover.Mover.{Mover}
 use Rattle.shell_words.specs.declared.form.Symbol.{Symbol}
-use Rattle.shell_words.specs.declared.form.Symbol.TheVariants.{Keyword, Mark, Word, Neither, Number, OpenBracket, CloseBracket}
+use Rattle.shell_words.specs.declared.form.Symbol.TheVariants.{Keyword, Mark, Word, Neither, Number, Time, OpenBracket, CloseBracket}
 use Rattle.shell_words.specs.declared.form.Part.{Part}
 use Rattle.shell_words.specs.declared.form.Part.TheVariants.{Nothing, One, Many}
 use Rattle.shell_words.specs.declared.form.Makes.TheVariants.{Move}
@@ -108,6 +108,7 @@ mark_is mark (Keyword other) item e is = absurd (false≢true e)
 mark_is mark Word item e is = absurd (false≢true e)
 mark_is mark (Neither one other) item e is = absurd (false≢true e)
 mark_is mark (Number low high) item e is = absurd (false≢true e)
+mark_is mark Time item e is = absurd (false≢true e)
 mark_is mark OpenBracket item e is = absurd (false≢true e)
 mark_is mark CloseBracket item e is = absurd (false≢true e)
 

@@ -19,7 +19,7 @@ use Rattle.shell_words.specs.declared.form.Confirmed.TheVariants.{No, InTen, InM
 use Rattle.shell_words.specs.declared.form.Makes.{Makes}
 use Rattle.shell_words.specs.declared.form.Makes.TheVariants as makes
 use Rattle.shell_words.specs.declared.form.Symbol.{Symbol}
-use Rattle.shell_words.specs.declared.form.Symbol.TheVariants.{Keyword, Mark, Word, Neither, Number, OpenBracket, CloseBracket}
+use Rattle.shell_words.specs.declared.form.Symbol.TheVariants.{Keyword, Mark, Word, Neither, Number, Time, OpenBracket, CloseBracket}
 use Rattle.shell_words.specs.declared.form.Part.{Part}
 use Rattle.shell_words.specs.declared.form.Part.TheVariants.{Nothing, One, Many}
 use Rattle.shell_words.specs.declared.form.CommandForm.{CommandForm}
@@ -33,6 +33,7 @@ use Rattle.shell_words.specs.Reading.{AnswersWhole, Answers, IsReading, Gives}
 use Rattle.shell_words.proofs.FormTests.{leads, are_timed, is_unnamed, is_minutes}
 use Rattle.shell_words.proofs.FormFacts.{forms_timed}
 use Rattle.shell_words.proofs.ApartLemmas.{all_at}
+use Rattle.shell_words.proofs.TimeLemmas.{time_sound}
 
 -- bytes that are all printing
 abbrev ArePrinting : List ℕ → Type 0
@@ -173,43 +174,44 @@ behind_unnamed rest Goal on (One symbol ∷ parts) items words e fit =
     none false e = refl
 behind_unnamed rest Goal on (Many symbol ∷ parts) items words e fit = absurd (false≢true e)
 
-abbrev IsTime : List (List ℕ) → Type 0
-IsTime words = number_or 10 words ≤ 65535
+abbrev AreMinutes : List (List ℕ) → Type 0
+AreMinutes words = number_or 10 words ≤ 65535
 
-between_time : (low high : ℕ) (number : Option ℕ) → leb high 65535 ≡ true → is_between low high number ≡ true → unwrap_or number 10 ≤ 65535
-between_time low high None small e = omega arith
-between_time low high (Some number) small e =
+between_minutes : (low high : ℕ) (number : Option ℕ) → leb high 65535 ≡ true → is_between low high number ≡ true → unwrap_or number 10 ≤ 65535
+between_minutes low high None small e = omega arith
+between_minutes low high (Some number) small e =
     let range = and_parts (leb low number) (leb number high) e in
     grind (arith, nat_tests, range.1, small)
 
 -- a number of minutes is small
-minutes_small : (symbol : Symbol) (item : Item) (others : List (List ℕ)) → is_minutes symbol ≡ true → is_of symbol item ≡ true → IsTime (given_by (names symbol) (item ∷ []) ++ others)
+minutes_small : (symbol : Symbol) (item : Item) (others : List (List ℕ)) → is_minutes symbol ≡ true → is_of symbol item ≡ true → AreMinutes (given_by (names symbol) (item ∷ []) ++ others)
 minutes_small (Number low high) item others e is =
-    between_time low high (number_of item.token.word) e (and_parts (is_word_kind item.token.kind) (is_between low high (number_of item.token.word)) is).1
+    between_minutes low high (number_of item.token.word) e (and_parts (is_word_kind item.token.kind) (is_between low high (number_of item.token.word)) is).1
 minutes_small (Keyword keyword) item others e is = absurd (false≢true e)
 minutes_small (Mark keyword) item others e is = absurd (false≢true e)
 minutes_small Word item others e is = absurd (false≢true e)
 minutes_small (Neither one other) item others e is = absurd (false≢true e)
+minutes_small Time item others e is = absurd (false≢true e)
 minutes_small OpenBracket item others e is = absurd (false≢true e)
 minutes_small CloseBracket item others e is = absurd (false≢true e)
 
-first_time : (parts : List Part) (items : List Item) (words : List (List ℕ)) → leads is_minutes (λ others. true) parts ≡ true → FitsParts parts items words → IsTime words
-first_time [] items words e fit = absurd (false≢true e)
-first_time (Nothing ∷ parts) items words e fit = absurd (false≢true e)
-first_time (One symbol ∷ parts) items words e fit =
-    subst IsTime (sym fit.given) (minutes_small symbol fit.first fit.others (and_parts (is_minutes symbol) true e).0 fit.is)
-first_time (Many symbol ∷ parts) items words e fit = absurd (false≢true e)
+first_minutes : (parts : List Part) (items : List Item) (words : List (List ℕ)) → leads is_minutes (λ others. true) parts ≡ true → FitsParts parts items words → AreMinutes words
+first_minutes [] items words e fit = absurd (false≢true e)
+first_minutes (Nothing ∷ parts) items words e fit = absurd (false≢true e)
+first_minutes (One symbol ∷ parts) items words e fit =
+    subst AreMinutes (sym fit.given) (minutes_small symbol fit.first fit.others (and_parts (is_minutes symbol) true e).0 fit.is)
+first_minutes (Many symbol ∷ parts) items words e fit = absurd (false≢true e)
 
 -- the minutes of a commit are after its two keywords
-third_time : (parts : List Part) (items : List Item) (words : List (List ℕ)) → leads is_unnamed (leads is_unnamed (leads is_minutes (λ others. true))) parts ≡ true → FitsParts parts items words → IsTime words
-third_time parts items words e fit =
-    behind_unnamed (leads is_unnamed (leads is_minutes (λ others. true))) IsTime
-    (behind_unnamed (leads is_minutes (λ others. true)) IsTime first_time) parts items words e fit
+third_minutes : (parts : List Part) (items : List Item) (words : List (List ℕ)) → leads is_unnamed (leads is_unnamed (leads is_minutes (λ others. true))) parts ≡ true → FitsParts parts items words → AreMinutes words
+third_minutes parts items words e fit =
+    behind_unnamed (leads is_unnamed (leads is_minutes (λ others. true))) AreMinutes
+    (behind_unnamed (leads is_minutes (λ others. true)) AreMinutes first_minutes) parts items words e fit
 
 minutes_sound : (confirmed : Confirmed) (comment quit : Bool) (parts : List Part) (items : List Item) (words : List (List ℕ)) → are_timed (makes.Commit confirmed comment quit) parts ≡ true → FitsParts parts items words → minutes_in confirmed words ≤ 65535
 minutes_sound No comment quit parts items words e fit = omega arith
 minutes_sound InTen comment quit parts items words e fit = omega arith
-minutes_sound InMinutes comment quit parts items words e fit = third_time parts items words e fit
+minutes_sound InMinutes comment quit parts items words e fit = third_minutes parts items words e fit
 
 -- what a form makes of a line is sound
 made_sound : (made : Makes) (parts : List Part) (items : List Item) (words : List (List ℕ)) → are_timed made parts ≡ true → ArePrintable (words_in items) → FitsParts parts items words → AsksSound (Some (made_by made items words))
@@ -217,6 +219,7 @@ made_sound (makes.Configure mode) parts items words e all fit = tt
 made_sound (makes.ShowActive form) parts items words e all fit = tt
 made_sound makes.ShowJson parts items words e all fit = tt
 made_sound makes.ShowCommits parts items words e all fit = tt
+made_sound makes.ClearCommit parts items words e all fit = tt
 made_sound makes.Logout parts items words e all fit = tt
 made_sound (makes.Change verb) parts items words e all fit = tt
 made_sound (makes.Move mover) parts items words e all fit = tt
@@ -234,6 +237,7 @@ made_sound (makes.Commit confirmed comment quit) parts items words e all fit = (
   minutes_sound confirmed comment quit parts items words e fit,
   comment_printable comment words (fit_printable parts items words all fit),
 )
+made_sound (makes.CommitAt comment) parts items words e all fit = (time_sound words, comment_printable comment words (fit_printable parts items words all fit))
 made_sound makes.Update parts items words e all fit = tt
 made_sound makes.Status parts items words e all fit = tt
 

@@ -1,5 +1,5 @@
 -- Symbols that share no token.
-use Rattle.std.proofs.Common.{◌≡◌, ℕ, List, [], ◌∷◌, Bool, true, false, not, ◌&&◌, ◌||◌, refl, sym, ap, subst, ◌∙◌, inl, inr, eqb}
+use Rattle.std.proofs.Common.{◌≡◌, ℕ, List, [], ◌∷◌, Bool, true, false, not, ◌&&◌, ◌||◌, is_some, refl, sym, ap, subst, ◌∙◌, inl, inr, eqb}
 use Rattle.std.proofs.lemmas.Bool.{false≢true, and_parts, and_from, or_cases, eqb-true}
 use Rattle.cfg_base.specs.Words.{same_word}
 use Rattle.cfg_lex.specs.declared.token.TokenKind.{TokenKind}
@@ -7,12 +7,13 @@ use Rattle.cfg_lex.specs.declared.token.TokenKind.TheVariants.{OpenBrace, CloseB
 use Rattle.cfg_lex.specs.declared.token.TokenKind.TheVariants as kind
 use Rattle.cfg_lex.specs.Lexed.{is_word_kind, is_bare_kind, is_open_bracket, is_close_bracket}
 use Rattle.shell_words.specs.declared.form.Symbol.{Symbol}
-use Rattle.shell_words.specs.declared.form.Symbol.TheVariants.{Keyword, Mark, Word, Neither, Number, OpenBracket, CloseBracket}
+use Rattle.shell_words.specs.declared.form.Symbol.TheVariants.{Keyword, Mark, Word, Neither, Number, Time, OpenBracket, CloseBracket}
 use Rattle.shell_words.specs.declared.keyword.Keyword as keywords
 use Rattle.shell_words.specs.Item.{Item}
 use Rattle.shell_words.specs.Form.{is_keyword, is_mark, is_of}
 use Rattle.shell_words.specs.Keyword.{spelled}
 use Rattle.shell_words.specs.Number.{number_of, is_between}
+use Rattle.shell_words.specs.Time.{when_of}
 use Rattle.shell_words.proofs.FormTests.{are_words, differ, disjoint}
 
 pub same_is : (one other : List ℕ) → same_word one other ≡ true → one ≡ other
@@ -65,6 +66,7 @@ word_is (Mark keyword) item words is = bare_is_word item.token.kind (and_parts (
 word_is Word item words is = is
 word_is (Neither one other) item words is = (and_parts (is_word_kind item.token.kind) (not (is_mark one item || is_mark other item)) is).0
 word_is (Number low high) item words is = (and_parts (is_word_kind item.token.kind) (is_between low high (number_of item.token.word)) is).0
+word_is Time item words is = (and_parts (is_word_kind item.token.kind) (is_some (when_of item.token.word)) is).0
 word_is OpenBracket item words is = absurd (false≢true words)
 word_is CloseBracket item words is = absurd (false≢true words)
 
@@ -118,11 +120,13 @@ differ_sound (Mark one) OpenBracket item e a b = open_word (Mark one) item e a b
 differ_sound Word OpenBracket item e a b = open_word Word item e a b
 differ_sound (Neither one other) OpenBracket item e a b = open_word (Neither one other) item e a b
 differ_sound (Number low high) OpenBracket item e a b = open_word (Number low high) item e a b
+differ_sound Time OpenBracket item e a b = open_word Time item e a b
 differ_sound (Keyword one) CloseBracket item e a b = close_word (Keyword one) item e a b
 differ_sound (Mark one) CloseBracket item e a b = close_word (Mark one) item e a b
 differ_sound Word CloseBracket item e a b = close_word Word item e a b
 differ_sound (Neither one other) CloseBracket item e a b = close_word (Neither one other) item e a b
 differ_sound (Number low high) CloseBracket item e a b = close_word (Number low high) item e a b
+differ_sound Time CloseBracket item e a b = close_word Time item e a b
 differ_sound one other item e a b = absurd (false≢true e)
 
 pub disjoint_sound : (one other : Symbol) (item : Item) → disjoint one other ≡ true → is_of one item ≡ true → is_of other item ≡ true → ⊥

@@ -11,6 +11,7 @@ use Rattle.commands.specs.declared.command.LoadWay.TheVariants as load
 use Rattle.commands.specs.declared.command.Mode.TheVariants as mode
 use Rattle.commands.specs.declared.command.Op.{Op}
 use Rattle.commands.specs.declared.command.Op.TheVariants as op
+use Rattle.commands.specs.declared.when.When.TheVariants.{Today, OnDay}
 use Rattle.cfg_lex.specs.declared.token.Token.{Token}
 use Rattle.cfg_lex.specs.Tokens.{IsCut}
 use Rattle.shell_words.specs.declared.form.CommandForm.{CommandForm}
@@ -77,6 +78,10 @@ operational =
     ∷ refused "show configuration | display json interfaces" 34
     ∷ refused "show configuration | json" 21
     ∷ asks "show system commit" command.ShowCommits
+    ∷ asks "clear system commit" command.ClearCommit
+    ∷ refused "clear system" 12
+    ∷ refused "clear commit" 6
+    ∷ refused "clear system commit at" 20
     ∷ asks "exit" command.Logout
     ∷ asks "quit" command.Logout
     ∷ refused "set system" 0
@@ -194,6 +199,29 @@ committing =
     ∷ asks "commit confirmed 65535 comment fix" (command.Commit 65535 (codes "fix") false)
     ∷ asks "commit confirmed 1 comment fix and-quit" (command.Commit 1 (codes "fix") true)
     ∷ asks "commit confirmed 65535 comment fix and-quit" (command.Commit 65535 (codes "fix") true)
+    ∷ asks "commit at 00:17" (command.CommitAt (Today 1020) [])
+    ∷ asks "commit at 00:17:00" (command.CommitAt (Today 1020) [])
+    ∷ asks "commit at 23:59:59" (command.CommitAt (Today 86399) [])
+    ∷ asks "commit at 00:00 comment fix" (command.CommitAt (Today 0) (codes "fix"))
+    ∷ asks "commit at \"00:00\" comment \"fix it\"" (command.CommitAt (Today 0) (codes "fix it"))
+    ∷ asks "commit at \"1970-01-02 00:17\"" (command.CommitAt (OnDay 1 1020) [])
+    ∷ asks "commit at \"2000-02-29 00:00:01\" comment fix" (command.CommitAt (OnDay 11016 1) (codes "fix"))
+    ∷ asks "commit at \"9998-12-31 23:59:59\"" (command.CommitAt (OnDay 2932531 86399) [])
+    ∷ refused "commit at" 9
+    ∷ refused "commit at 24:00" 10
+    ∷ refused "commit at 23:60" 10
+    ∷ refused "commit at 23:59:60" 10
+    ∷ refused "commit at 0:17" 10
+    ∷ refused "commit at 00-17" 10
+    ∷ refused "commit at \"1969-12-31 00:17\"" 10
+    ∷ refused "commit at \"9999-01-01 00:17\"" 10
+    ∷ refused "commit at \"2001-02-29 00:17\"" 10
+    ∷ refused "commit at \"2000-13-01 00:17\"" 10
+    ∷ refused "commit at 2000-02-29 00:17" 10
+    ∷ refused "commit at \"2000-02-29\"" 10
+    ∷ refused "commit at 00:17 and-quit" 16
+    ∷ refused "commit at 00:17 comment fix and-quit" 28
+    ∷ refused "commit at comment fix" 10
     ∷ refused "commit confirmed 0" 17
     ∷ refused "commit confirmed 65536" 17
     ∷ refused "commit comment" 14

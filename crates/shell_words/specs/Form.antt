@@ -1,9 +1,9 @@
 -- What is in a form. Junos OS CLI User Guide, on the commands of operational and of configuration mode.
-use Rattle.std.specs.Prelude.{◌≡◌, ℕ, List, [], ◌∷◌, ◌++◌, Bool, true, false, not, ◌&&◌, ◌||◌, map}
+use Rattle.std.specs.Prelude.{◌≡◌, ℕ, List, [], ◌∷◌, ◌++◌, Bool, true, false, not, ◌&&◌, ◌||◌, map, is_some}
 use Rattle.std.specs.List.{list_all, Contains}
 use Rattle.cfg_lex.specs.Lexed.{is_word_kind, is_open_bracket, is_close_bracket, is_this_word, is_bare_word}
 use Rattle.shell_words.specs.declared.form.Symbol.{Symbol}
-use Rattle.shell_words.specs.declared.form.Symbol.TheVariants.{Keyword, Mark, Word, Neither, Number, OpenBracket, CloseBracket}
+use Rattle.shell_words.specs.declared.form.Symbol.TheVariants.{Keyword, Mark, Word, Neither, Number, Time, OpenBracket, CloseBracket}
 use Rattle.shell_words.specs.declared.form.Part.{Part}
 use Rattle.shell_words.specs.declared.form.Part.TheVariants.{Nothing, One, Many}
 use Rattle.shell_words.specs.declared.form.CommandForm.{CommandForm}
@@ -12,6 +12,7 @@ use Rattle.shell_words.specs.declared.keyword.Keyword as keywords
 use Rattle.shell_words.specs.Item.{Item}
 use Rattle.shell_words.specs.Keyword.{spelled}
 use Rattle.shell_words.specs.Number.{number_of, is_between}
+use Rattle.shell_words.specs.Time.{when_of}
 
 -- the token is this word, bare or in quotes
 abbrev pub is_keyword : keywords.Keyword → Item → Bool
@@ -28,6 +29,7 @@ is_of (Mark keyword) item = is_mark keyword item
 is_of Word item = is_word_kind item.token.kind
 is_of (Neither one other) item = is_word_kind item.token.kind && not (is_mark one item || is_mark other item)
 is_of (Number low high) item = is_word_kind item.token.kind && is_between low high (number_of item.token.word)
+is_of Time item = is_word_kind item.token.kind && is_some (when_of item.token.word)
 is_of OpenBracket item = is_open_bracket item.token.kind
 is_of CloseBracket item = is_close_bracket item.token.kind
 
@@ -38,6 +40,7 @@ names (Mark keyword) = false
 names Word = true
 names (Neither one other) = true
 names (Number low high) = true
+names Time = true
 names OpenBracket = false
 names CloseBracket = false
 

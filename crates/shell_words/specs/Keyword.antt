@@ -40,4 +40,6 @@ spelled key.Check = codes "check"
 spelled key.Confirmed = codes "confirmed"
 spelled key.Comment = codes "comment"
 spelled key.AndQuit = codes "and-quit"
+spelled key.At = codes "at"
+spelled key.Clear = codes "clear"
 spelled key.Pipe = mark_word Pipe

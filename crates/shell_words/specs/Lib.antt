@@ -1,5 +1,6 @@
 pub mod Keyword
 pub mod Number
+pub mod Time
 pub mod Item
 pub mod Form
 pub mod Pair

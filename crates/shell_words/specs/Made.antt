@@ -2,6 +2,8 @@
 use Rattle.std.specs.Prelude.{ℕ, ◌-◌, List, [], ◌∷◌, length, slice_index_or, Bool, if◌then◌else◌, Option, Some, unwrap_or}
 use Rattle.commands.specs.declared.command.Command.{Command}
 use Rattle.commands.specs.declared.command.Command.TheVariants as command
+use Rattle.commands.specs.declared.when.When.{When}
+use Rattle.commands.specs.declared.when.When.TheVariants.{Today}
 use Rattle.commands.specs.Sound.{IsSound}
 use Rattle.commands.specs.Verb.{op_of}
 use Rattle.shell_words.specs.declared.form.Confirmed.{Confirmed}
@@ -13,6 +15,7 @@ use Rattle.shell_words.specs.declared.making.Words0.TheVariants.{Whole, ShowJson
 use Rattle.shell_words.specs.Item.{Item}
 use Rattle.shell_words.specs.Number.{number_of}
 use Rattle.shell_words.specs.Pair.{change_in}
+use Rattle.shell_words.specs.Time.{when_of}
 
 -- the number that the first of the words says, or else this one
 abbrev pub number_or : ℕ → List (List ℕ) → ℕ
@@ -24,6 +27,11 @@ abbrev pub minutes_in : Confirmed → List (List ℕ) → ℕ
 minutes_in No words = 0
 minutes_in InTen words = 10
 minutes_in InMinutes words = number_or 10 words
+
+-- the time that the first of the words says, or else midnight
+abbrev pub when_in : List (List ℕ) → When
+when_in [] = Today 0
+when_in (word ∷ words) = unwrap_or (when_of word) (Today 0)
 
 -- the last of the words, where it is a comment
 abbrev pub comment_in : Bool → List (List ℕ) → List ℕ
@@ -39,6 +47,7 @@ made_by (makes.Configure mode) items words = Whole (command.Configure mode)
 made_by (makes.ShowActive form) items words = Whole (command.ShowActive words form)
 made_by makes.ShowJson items words = ShowJson
 made_by makes.ShowCommits items words = Whole command.ShowCommits
+made_by makes.ClearCommit items words = Whole command.ClearCommit
 made_by makes.Logout items words = Whole command.Logout
 made_by (makes.Change verb) items words = Whole (command.Change (op_of verb words))
 made_by (makes.Move mover) items words = Whole (command.Change (change_in mover items))
@@ -53,6 +62,7 @@ made_by (makes.LoadJson way) items words = NeedsJson way
 made_by makes.Rollback items words = Whole (command.Rollback (number_or 0 words))
 made_by makes.CheckOnly items words = Whole command.CheckOnly
 made_by (makes.Commit confirmed comment quit) items words = Whole (commit_of confirmed comment quit words)
+made_by (makes.CommitAt comment) items words = Whole (command.CommitAt (when_in words) (comment_in comment words))
 made_by makes.Update items words = Whole command.Update
 made_by makes.Status items words = Whole command.Status
 

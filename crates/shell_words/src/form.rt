@@ -19,6 +19,8 @@ pub(crate) enum Symbol {
     Neither(Keyword, Keyword),
     /// A word of 1 to 10 digits, of a number between these two or one of them.
     Number(u32, u32),
+    /// A word that says a time.
+    Time,
     OpenBracket,
     CloseBracket,
 }
@@ -52,6 +54,7 @@ pub(crate) enum Makes {
     /// A show of the whole active configuration as JSON.
     ShowJson,
     ShowCommits,
+    ClearCommit,
     Logout,
     Change(Verb),
     /// A change of two statements.
@@ -73,6 +76,10 @@ pub(crate) enum Makes {
         confirmed: Confirmed,
         comment: bool,
         quit: bool,
+    },
+    /// A commit at the time of the line's first word, whose comment is the last one where it has one.
+    CommitAt {
+        comment: bool,
     },
     Update,
     Status,
@@ -106,7 +113,7 @@ impl CommandForm {
     }
 }
 
-/// Which tokens: `Word`, `OpenBracket`, `CloseBracket`, `mark Pipe`, `until Pipe`, `mark of Rename` (the one between its
+/// Which tokens: `Word`, `Time`, `OpenBracket`, `CloseBracket`, `mark Pipe`, `until Pipe`, `mark of Rename` (the one between its
 /// two statements), `until mark of Rename`, `until mark of InsertBefore or InsertAfter`, `number 1 to 9`.
 macro_rules! symbol {
     (mark $mark:ident) => { Symbol::Mark(Keyword::$mark) };
@@ -146,7 +153,7 @@ macro_rules! form {
     ($makes:expr; $($parts:tt)+) => { form!($makes; $($parts)+ [nothing]) };
 }
 
-static OPERATIONAL: [CommandForm; 10] = [
+static OPERATIONAL: [CommandForm; 11] = [
     form!(Makes::Configure(Mode::Shared); [Configure]),
     form!(Makes::Configure(Mode::Private); [Configure] [Private]),
     form!(Makes::Configure(Mode::Exclusive); [Configure] [Exclusive]),
@@ -157,11 +164,12 @@ static OPERATIONAL: [CommandForm; 10] = [
         [one mark Pipe] [Display] [Inheritance]),
     form!(Makes::ShowJson; [Show] [Configuration] [one mark Pipe] [Display] [Json]),
     form!(Makes::ShowCommits; [Show] [System] [Commit]),
+    form!(Makes::ClearCommit; [Clear] [System] [Commit]),
     form!(Makes::Logout; [Exit]),
     form!(Makes::Logout; [Quit]),
 ];
 
-static CONFIGURING: [CommandForm; 45] = [
+static CONFIGURING: [CommandForm; 47] = [
     form!(Makes::Change(Verb::Set); [verb Set] [one Word] [many Word]),
     form!(Makes::Change(Verb::Set); [verb Set] [many Word] [one OpenBracket] [one Word] [many Word] [one CloseBracket]),
     form!(Makes::Change(Verb::Delete); [verb Delete] [one Word] [many Word]),
@@ -200,6 +208,8 @@ static CONFIGURING: [CommandForm; 45] = [
         [Commit] [Confirmed] [one number 1 to 65535] [Comment] [one Word]),
     form!(Makes::Commit { confirmed: Confirmed::InMinutes, comment: true, quit: true };
         [Commit] [Confirmed] [one number 1 to 65535] [Comment] [one Word] [AndQuit]),
+    form!(Makes::CommitAt { comment: false }; [Commit] [At] [one Time]),
+    form!(Makes::CommitAt { comment: true }; [Commit] [At] [one Time] [Comment] [one Word]),
     form!(Makes::Move(Mover::Rename); [mover Rename] [one until mark of Rename] [many until mark of Rename]
         [one mark of Rename] [one Word] [many Word]),
     form!(Makes::Move(Mover::Copy); [mover Copy] [one until mark of Copy] [many until mark of Copy]

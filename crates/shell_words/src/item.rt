@@ -1,15 +1,17 @@
 //! The tokens of a line with their words.
 
-ghost use Rattle.std.specs.Prelude.{◌≡◌, ◌&&◌, ◌≤◌, ◌∷◌, ◌++◌, [], length, map, IfOk, OnOk};
+ghost use Rattle.std.specs.Prelude.{◌≡◌, ◌&&◌, ◌≤◌, ◌∷◌, ◌++◌, [], length, map, is_some, IfOk, OnOk};
 ghost use Rattle.std.specs.List.{All};
 ghost use Rattle.cfg_lex.specs.Lexed.{is_close_bracket, is_open_bracket, is_word_kind};
 ghost use Rattle.cfg_lex.specs.Tokens.{IsPlaced};
 ghost use Rattle.shell_words.specs.Form.{is_keyword, is_mark};
 ghost use Rattle.shell_words.specs.Item.{item_in};
 ghost use Rattle.shell_words.specs.Number.{is_between, number_of};
+ghost use Rattle.shell_words.specs.Time.{when_of};
 
 use crate::keyword::Keyword;
 use crate::number::number_of;
+use crate::time::when_of;
 use cfg_base::{NoMemory, Word, Words};
 use cfg_lex::{Token, TokenKind};
 use std::alloc::Global;
@@ -105,6 +107,13 @@ impl<'a> Item<'a> {
                 Some(number) => low <= number && number <= high,
                 None => false,
             }
+    }
+
+    /// Whether the token is a word that says a time.
+    pub(crate) fn is_time(&self) -> bool
+        ensures { result ≡ (is_word_kind self.now.token.kind && is_some (when_of self.now.token.word)) }
+    {
+        self.is_word() && when_of(self.word()).is_some()
     }
 
     /// Puts the token's word at the end of the words.

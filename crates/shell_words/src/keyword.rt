@@ -43,6 +43,8 @@ pub(crate) enum Keyword {
     Confirmed,
     Comment,
     AndQuit,
+    At,
+    Clear,
     Pipe,
 }
 
@@ -83,6 +85,8 @@ impl Keyword {
             Keyword::Confirmed => b"confirmed",
             Keyword::Comment => b"comment",
             Keyword::AndQuit => b"and-quit",
+            Keyword::At => b"at",
+            Keyword::Clear => b"clear",
             Keyword::Pipe => Mark::Pipe.word(),
         }
     }

@@ -31,7 +31,8 @@ pub fn lines_are_read_in_one_way()
     cfg_lex::texts_are_read_in_one_way();
 }
 
-/// Each command that a line asks is sound: its minutes are at most 65,535, and its comment is of printing bytes.
+/// Each command that a line asks is sound: its minutes are at most 65,535, its time is one of a day and before the last
+/// moment, and its comment is of printing bytes.
 pub fn lines_ask_sound_commands()
     ensures { (configuring : Bool) (line : List ℕ) (made : Option Words0) → IsReading configuring line (Ok made) → AsksSound made }
 {}

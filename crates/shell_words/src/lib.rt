@@ -15,6 +15,7 @@ mod making;
 mod number;
 mod pair;
 mod reader;
+mod time;
 mod walk;
 
 pub use laws::{

@@ -1,18 +1,20 @@
 //! What a form makes of the tokens of a line of it.
 
 ghost use Rattle.std.specs.Prelude.{◌≡◌, IfOk};
+ghost use Rattle.commands.specs.declared.command.Command.TheVariants.{CommitAt};
 ghost use Rattle.shell_words.specs.declared.making.Words0.TheVariants.{Whole};
 ghost use Rattle.shell_words.specs.Form.{parts_of};
-ghost use Rattle.shell_words.specs.Made.{comment_in, commit_of, made_by, minutes_in, number_or};
+ghost use Rattle.shell_words.specs.Made.{comment_in, commit_of, made_by, minutes_in, number_or, when_in};
 ghost use Rattle.shell_words.specs.Walk.{given};
 
 use crate::form::{CommandForm, Confirmed, Makes};
 use crate::item::Item;
 use crate::number::number_of;
 use crate::pair::change_in;
+use crate::time::when_of;
 use crate::walk::give;
 use cfg_base::{NoMemory, Word, Words};
-use commands::{Command, LoadWay};
+use commands::{Command, LoadWay, When};
 use std::alloc::Global;
 
 /// What a line asks.
@@ -87,6 +89,25 @@ fn commit_of(
     })
 }
 
+/// The time that the first of the words says, or else midnight.
+fn when_in(words: &Words) -> When
+    ensures { result ≡ when_in words.now }
+{
+    match words.as_slice() {
+        [] => When::Today { second: 0 },
+        [word, ..] => when_of(word.as_bytes()).unwrap_or(When::Today { second: 0 }),
+    }
+}
+
+/// The commit at the time of the first of the words.
+fn commit_at(alloc: Global, comment: bool, words: &Words) -> Result<Command, NoMemory>
+    ensures { IfOk result (λ command. command ≡ CommitAt (when_in words.now) (comment_in comment words.now)) }
+{
+    let when = when_in(words);
+    let comment = comment_in(alloc, comment, words)?;
+    Ok(Command::CommitAt { when, comment })
+}
+
 fn whole(command: Command) -> Words0
     ensures { result ≡ Whole command }
 {
@@ -109,6 +130,7 @@ pub(crate) fn made_by(
         }
         Makes::ShowJson => Ok(Words0::ShowJson),
         Makes::ShowCommits => Ok(whole(Command::ShowCommits)),
+        Makes::ClearCommit => Ok(whole(Command::ClearCommit)),
         Makes::Logout => Ok(whole(Command::Logout)),
         Makes::Change(verb) => {
             let words = words_of(alloc, form, items)?;
@@ -138,6 +160,10 @@ pub(crate) fn made_by(
         } => {
             let words = words_of(alloc, form, items)?;
             Ok(whole(commit_of(alloc, confirmed, comment, quit, &words)?))
+        }
+        Makes::CommitAt { comment } => {
+            let words = words_of(alloc, form, items)?;
+            Ok(whole(commit_at(alloc, comment, &words)?))
         }
         Makes::Update => Ok(whole(Command::Update)),
         Makes::Status => Ok(whole(Command::Status)),

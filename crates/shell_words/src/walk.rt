@@ -22,6 +22,7 @@ impl Symbol {
                 item.is_word() && !(item.is_mark(one) || item.is_mark(other))
             }
             Symbol::Number(low, high) => item.is_number(low, high),
+            Symbol::Time => item.is_time(),
             Symbol::OpenBracket => item.is_open_bracket(),
             Symbol::CloseBracket => item.is_close_bracket(),
         }
@@ -32,7 +33,7 @@ impl Symbol {
         ensures { result ≡ names self }
     {
         match self {
-            Symbol::Word | Symbol::Neither(_, _) | Symbol::Number(_, _) => true,
+            Symbol::Word | Symbol::Neither(_, _) | Symbol::Number(_, _) | Symbol::Time => true,
             Symbol::Keyword(_) | Symbol::Mark(_) | Symbol::OpenBracket | Symbol::CloseBracket => {
                 false
             }

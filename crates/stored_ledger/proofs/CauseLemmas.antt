@@ -1,6 +1,5 @@
 -- Files spell one list at most, and a refusal of them has one cause.
-use Rattle.std.proofs.Common.{◌≡◌, ◌+◌, ◌-◌, ℕ, List, [], ◌∷◌, length, Option, None, Some, inl, inr, refl, sym, subst, ap, ◌∙◌, arith}
-use Rattle.std.specs.Prelude.{IsSome, slice_get}
+use Rattle.std.proofs.Common.{◌≡◌, ◌+◌, ℕ, List, [], ◌∷◌, length, refl, sym, subst, ap, ◌∙◌}
 use Rattle.record_code.specs.declared.payloads.Placed.{Placed}
 use Rattle.record_code.specs.Listed.{record_of, records_of, PlacedFrom}
 use Rattle.record_code.specs.Reading.{first_gate}
@@ -14,13 +13,11 @@ use Rattle.stored_ledger.specs.declared.why.StartWhy.TheVariants.{Exists, NotAJo
 use Rattle.commit_journal.specs.Attach.{ExplainsPair, IsRefusal}
 use Rattle.commit_journal.specs.Pair.{PairSpells, counting_of}
 use Rattle.commit_journal.proofs.CauseLemmas.{spelled as journal_spelled, apart as journal_apart, owed as journal_owed}
-use Rattle.commit_ledger.specs.declared.entry.Scheduled.{Scheduled}
 use Rattle.commit_ledger.specs.Kept.{Kept}
-use Rattle.commit_ledger.specs.Reading.{ReadsAs}
+use Rattle.commit_ledger.specs.Reading.{ReadsAs, IsUnread}
 use Rattle.commit_ledger.proofs.ReadingLemmas.{one_reading, not_read, one_unread}
 use Rattle.stored_ledger.specs.Starting.{Explains, IsBadList, IsByBytes}
 use Rattle.stored_ledger.specs.Stored.{SpellsKept}
-use Rattle.stored_ledger.specs.Whys.{EndsScheduled, IsNotOpened}
 
 -- two files spell one list of records
 pair_one : (a b : List ℕ) (rs rs' : List Record) → PairSpells a b rs → PairSpells a b rs' → rs ≡ rs'
@@ -31,49 +28,13 @@ pub one_list : (a b : List ℕ) (one two : Kept) → SpellsKept a b one → Spel
 one_list a b one two first second =
     one_reading Accepts first.0 one two first.2 (subst (λ (rs : List Record). ReadsAs Accepts rs two) (pair_one a b second.0 first.0 second.1 first.1) second.2)
 
--- records that are read have a last one
-last_there : (p : Placed) (ps : List Placed) → slice_get (p ∷ ps) (length ps) ≡ None → ⊥
-last_there p [] is = absurd (cc)
-last_there p (q ∷ ps) is = last_there q ps is
-
-pub some_last : (placed : List Placed) (kept : Kept) → ReadsAs Accepts (records_of placed) kept → slice_get placed (length placed - 1) ≡ None → ⊥
-some_last [] kept reads is = not_read Accepts [] first_gate kept refl reads
-some_last (p ∷ ps) kept reads is =
-    let place : length (p ∷ ps) - 1 ≡ length ps = omega arith in
-    last_there p ps (subst (λ (n : ℕ). slice_get (p ∷ ps) n ≡ None) place is)
-
--- a list in which no commit is scheduled isn't one in which one is
-ends_apart : (placed : List Placed) (offset : ℕ) (kept : Kept) → ReadsAs Accepts (records_of placed) kept → kept.scheduled ≡ None → EndsScheduled placed offset → ⊥
-ends_apart placed offset kept reads none ends =
-    let same : ends.kept ≡ kept = one_reading Accepts (records_of placed) ends.kept kept ends.reads reads in
-    absurd (let no = subst (λ (w : Option Scheduled). IsSome w) (ap (λ (k : Kept). k.scheduled) same ∙ none) ends.scheduled in cc)
-
--- records that are opened as a list aren't refused
-opens_apart : (placed : List Placed) (offset : ℕ) (kept : Kept) → ReadsAs Accepts (records_of placed) kept → kept.scheduled ≡ None → IsNotOpened placed offset → ⊥
-opens_apart placed offset kept reads none (inl unread) = not_read Accepts placed offset kept unread reads
-opens_apart placed offset kept reads none (inr ends) = ends_apart placed offset kept reads none ends
-
--- and they are refused at one place
-one_end : (placed : List Placed) (m n : ℕ) → EndsScheduled placed m → EndsScheduled placed n → m ≡ n
-one_end placed m n one two =
-    let last : Some one.end ≡ Some two.end = sym one.last ∙ two.last in
-    let same : one.end ≡ two.end = cc last in
-    one.place ∙ (ap (λ (p : Placed). p.offset) same ∙ sym two.place)
-
-one_refusal : (placed : List Placed) (m n : ℕ) → IsNotOpened placed m → IsNotOpened placed n → m ≡ n
-one_refusal placed m n (inl one) (inl two) = one_unread Accepts placed m n one two
-one_refusal placed m n (inl one) (inr two) = absurd (not_read Accepts placed m two.kept one two.reads)
-one_refusal placed m n (inr one) (inl two) = absurd (not_read Accepts placed n one.kept two one.reads)
-one_refusal placed m n (inr one) (inr two) = one_end placed m n one two
-
 -- and a list that is spelled is refused for nothing
 pub spelled : (a b : List ℕ) (kept : Kept) (why : StartWhy) → SpellsKept a b kept → IsByBytes why → Explains a b why → ⊥
 spelled a b kept Exists spells by is = is
 spelled a b kept NotAJournal spells by is = journal_spelled a b spells.0 NoPair spells.1 tt is
 spelled a b kept (Damaged offset digest computed) spells by is = journal_spelled a b spells.0 (DamagedPair offset digest computed) spells.1 tt is
 spelled a b kept (BadRecord offset) spells by is =
-    let same : spells.0 ≡ records_of is.placed = pair_one a b spells.0 (records_of is.placed) spells.1 is.spelled in
-    opens_apart is.placed offset kept (subst (λ (rs : List Record). ReadsAs Accepts rs kept) same spells.2) spells.3 is.unread
+    not_read Accepts is.placed offset kept is.unread (subst (λ (rs : List Record). ReadsAs Accepts rs kept) (pair_one a b spells.0 (records_of is.placed) spells.1 is.spelled) spells.2)
 spelled a b kept DiskFault spells by is = by
 spelled a b kept NoMemory spells by is = by
 
@@ -110,7 +71,7 @@ one_offset : (a b : List ℕ) (m n : ℕ) → IsBadList a b m → IsBadList a b 
 one_offset a b m n one two =
     let same : two.placed ≡ one.placed =
     placed_one first_gate two.placed one.placed two.last one.last (pair_one a b (records_of two.placed) (records_of one.placed) two.spelled one.spelled) two.places one.places in
-    one_refusal one.placed m n one.unread (subst (λ (l : List Placed). IsNotOpened l n) same two.unread)
+    one_unread Accepts one.placed m n one.unread (subst (λ (l : List Placed). IsUnread Accepts l n) same two.unread)
 
 -- a list that is spelled isn't refused as a journal
 not_both : (a b : List ℕ) (offset : ℕ) (why : AttachWhy) → IsBadList a b offset → IsRefusal why → ExplainsPair a b why → ⊥

@@ -1,7 +1,5 @@
 -- A journal that was made or attached, as a list of commits.
-use Rattle.std.proofs.Common.{◌≡◌, ℕ, Bool, true, false, List, [], ◌∷◌, Option, None, Some, is_some, IsTrue, refl, sym, subst, ap, ◌∙◌, rules}
-use Rattle.std.specs.Prelude.{IfOk, IsSome, Result, Ok, Err}
-use Rattle.std.specs.Option.{option_map}
+use Rattle.std.proofs.Common.{◌≡◌, ℕ, Bool, true, false, List, [], ◌∷◌, IsTrue, refl, sym, subst, ap, ◌∙◌, rules}
 use Rattle.disk_model.specs.Disk.{DiskView, History, Sync, Called, DiskGoesOn, IsImage, state_of, contents_of}
 use Rattle.disk_model.specs.Pair.{DiskPair}
 use Rattle.record_code.specs.declared.payloads.Placed.{Placed}
@@ -20,7 +18,7 @@ use Rattle.commit_ledger.specs.declared.entry.Entry.TheVariants.{Commit as Commi
 use Rattle.commit_ledger.specs.Kept.{Kept, factory, factory_commit}
 use Rattle.commit_ledger.specs.Payload.{entry_record, kind_of, payload_bytes}
 use Rattle.commit_ledger.specs.Reading.{ReadsAs}
-use Rattle.commit_ledger.proofs.ReadingLemmas.{read_maps_are_accepted}
+use Rattle.commit_ledger.proofs.ReadingLemmas.{read_maps_are_accepted, read_waits}
 use Rattle.stored_ledger.specs.Stored.{IsStored, factory_records}
 use Rattle.stored_ledger.specs.Starting.{Explains, IsMade, IsNotMade, IsFound}
 use Rattle.stored_ledger.specs.Whys.{why_of_opening}
@@ -35,20 +33,6 @@ record_is commit kind payload same kind_is payload_is =
     ∙ ap (λ (p : List ℕ). record { kind = kind_of (CommitOf commit); payload = p } ∷ []) payload_is
     ∙ ap (λ (c : Commit). entry_record (CommitOf c) ∷ []) same in
     path
-
--- there is a value where a reference to it is
-pub some_under : {A B : Type 0} (f : A → B) (o : Option A) (w : Option B) → option_map f o ≡ w → is_some o ≡ true → IsSome w
-some_under f None w is some = absurd (cc)
-some_under f (Some a) w is some = subst IsSome is refl
-
-pub none_under : {A B : Type 0} (f : A → B) (o : Option A) (w : Option B) → option_map f o ≡ w → is_some o ≡ false → w ≡ None
-none_under f None w is none = sym is
-none_under f (Some a) w is none = absurd (cc)
-
--- what holds of a list holds of the one that is handed on
-pub ok_of : {E : Type 0} (P : Kept → Type 0) (result : Result Kept E) (kept : Kept) → IfOk result (λ list. list ≡ kept) → P kept → IfOk result P
-ok_of P (Ok list) kept same is = subst P (sym same) is
-ok_of P (Err e) kept same is = tt
 
 -- of two disks that tell the one of A tells, and that of B
 tell_a : (b : Bool) (c o : DiskView) → IsTrue c.tells → IsTrue o.tells → IsTrue (first_of b c o).tells
@@ -120,20 +104,19 @@ module _ (a b : DiskView) (limit : ℕ) (v : JournalView) (is_opened : IsOpened 
     maps = read_maps_are_accepted Accepts factory_records factory reads;
     number = (read_lists_are_numbered Accepts factory_records factory reads).number;
     room = (read_lists_are_numbered Accepts factory_records factory reads).room;
-    unscheduled = refl;
+    waits = read_waits Accepts factory_records factory reads;
   }
 
   pub made_is : IsCreated a b factory_records v → ReadsAs Accepts factory_records factory → IsMade (pair a b) (disks_of v)
   made_is made reads = record {
     none_there = λ tell. made.none_there tell.0 tell.1;
-    only = λ tell c d left right. (factory_records, made.only tell.0 tell.1 (entry_record (CommitOf factory_commit)) refl c d (image_a c left) (image_b d right), reads, refl);
+    only = λ tell c d left right. (factory_records, made.only tell.0 tell.1 (entry_record (CommitOf factory_commit)) refl c d (image_a c left) (image_b d right), reads);
     made_a = λ tell. subst (λ (h : History). DiskGoesOn a.history (making_a factory_records) h) (sym a_is) (made.made_a tell);
     made_b = λ tell. subst (λ (h : History). DiskGoesOn b.history making_b h) (sym b_is) (made.made_b tell);
   }
 
-  pub found_is_stored : (placed : List Placed) (kept : Kept) → IsAttached a b placed v → ReadsAs Accepts (records_of placed) kept → kept.scheduled ≡ None
-      → IsStored v kept
-  found_is_stored placed kept found reads none = record {
+  pub found_is_stored : (placed : List Placed) (kept : Kept) → IsAttached a b placed v → ReadsAs Accepts (records_of placed) kept → IsStored v kept
+  found_is_stored placed kept found reads = record {
     idle = is_opened.idle;
     records = records_of placed;
     has = λ tell. found.has (told_a tell) (told_b tell);
@@ -141,7 +124,7 @@ module _ (a b : DiskView) (limit : ℕ) (v : JournalView) (is_opened : IsOpened 
     maps = read_maps_are_accepted Accepts (records_of placed) kept reads;
     number = (read_lists_are_numbered Accepts (records_of placed) kept reads).number;
     room = (read_lists_are_numbered Accepts (records_of placed) kept reads).room;
-    unscheduled = none;
+    waits = read_waits Accepts (records_of placed) kept reads;
   }
 
   called_a : (call : History → Type 0) → call (a_of v) → call (disk_a v).history
@@ -150,11 +133,11 @@ module _ (a b : DiskView) (limit : ℕ) (v : JournalView) (is_opened : IsOpened 
   called_b : (call : History → Type 0) → call (b_of v) → call (disk_b v).history
   called_b call is = subst call (sym b_is) is
 
-  pub found_is : (placed : List Placed) (kept : Kept) → IsAttached a b placed v → ReadsAs Accepts (records_of placed) kept → kept.scheduled ≡ None
+  pub found_is : (placed : List Placed) (kept : Kept) → IsAttached a b placed v → ReadsAs Accepts (records_of placed) kept
       → IsFound (pair a b) (disks_of v) kept
-  found_is placed kept found reads none = record {
-    spelled = λ tell. (records_of placed, found.spelled tell.0 tell.1, reads, none);
-    only = λ tell c d left right. (records_of placed, found.only tell.0 tell.1 c d (image_a c left) (image_b d right), reads, none);
+  found_is placed kept found reads = record {
+    spelled = λ tell. (records_of placed, found.spelled tell.0 tell.1, reads);
+    only = λ tell c d left right. (records_of placed, found.only tell.0 tell.1 c d (image_a c left) (image_b d right), reads);
     synced_a = λ tell. called_a (Called a.history (Sync true)) (found.synced_a tell);
     synced_b = λ tell. called_b (Called b.history (Sync true)) (found.synced_b tell);
     contents = λ tell. (ap contents_of a_is ∙ (found.contents tell.0 tell.1).0, ap contents_of b_is ∙ (found.contents tell.0 tell.1).1);

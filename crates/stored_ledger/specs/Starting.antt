@@ -14,9 +14,10 @@ use Rattle.commit_journal.specs.Attach.{ExplainsPair, IsThere}
 use Rattle.commit_journal.specs.Journal.{PairCause}
 use Rattle.commit_journal.specs.Opening.{IsNotCreated, making_a, making_b}
 use Rattle.commit_journal.specs.Pair.{PairSpells}
+use Rattle.commit_check.specs.Accepts.{Accepts}
 use Rattle.commit_ledger.specs.Kept.{Kept, factory}
+use Rattle.commit_ledger.specs.Reading.{IsUnread}
 use Rattle.stored_ledger.specs.Stored.{OnlyKept, SpellsKept, factory_records}
-use Rattle.stored_ledger.specs.Whys.{IsNotOpened}
 
 -- the disks on which a list was made: no journal was there, and now each pair of images spells the factory commit alone
 pub record IsMade (before after : DiskPair) : Type 0 where
@@ -53,14 +54,13 @@ pub record IsFound (before after : DiskPair) (kept : Kept) : Type 0 where
   pub synced_b : IsTrue before.b.tells → Called before.b.history (Sync true) after.b.history
   pub contents : BothTell before → HaveSameContents before after
 
--- the files spell records of which the first that breaks a rule is at that offset, or none at all; or those of a list in which a
--- commit is scheduled, whose last record is at that offset
+-- the files spell records of which the first that breaks a rule is at that offset, or none at all
 pub record IsBadList (a b : List ℕ) (offset : ℕ) : Type 0 where
   pub placed : List Placed
   pub spelled : PairSpells a b (records_of placed)
   pub last : ℕ
   pub places : PlacedFrom first_gate placed last
-  pub unread : IsNotOpened placed offset
+  pub unread : IsUnread Accepts placed offset
 
 -- why two files don't spell a list of commits
 abbrev pub Explains : List ℕ → List ℕ → StartWhy → Type 0

@@ -1,5 +1,5 @@
 -- Two disks that hold a list of commits, as the records of a journal. This project's own.
-use Rattle.std.specs.Prelude.{◌≡◌, ◌≤◌, ◌⊎◌, IfSome, IsSome, ℕ, List, [], ◌∷◌, Option, None, Some}
+use Rattle.std.specs.Prelude.{◌≤◌, ◌⊎◌, IfSome, IsSome, ℕ, List, [], ◌∷◌, Option, None, Some}
 use Rattle.disk_model.specs.Disk.{History, IsImage, state_of}
 use Rattle.record_code.specs.Record.{Record}
 use Rattle.commit_journal.specs.Pair.{PairSpells}
@@ -12,16 +12,15 @@ use Rattle.commit_ledger.specs.Checkpoint.{Agrees}
 use Rattle.commit_ledger.specs.Kept.{Kept, KeepsMaps, append_entry, factory_commit}
 use Rattle.commit_ledger.specs.Payload.{entry_record}
 use Rattle.commit_ledger.specs.Reading.{ReadsAs}
-use Rattle.commit_ledger.specs.Rules.{Follows, IsEntry}
+use Rattle.commit_ledger.specs.Rules.{Follows, IsEntry, IsWaiting}
 
 -- the record with which a list begins: that of the factory commit
 abbrev pub factory_records : List Record
 factory_records = entry_record (CommitOf factory_commit) ∷ []
 
--- two files spell what is kept of a list: they spell records, which are read as it; no commit is scheduled, since such a list isn't
--- opened yet
+-- two files spell what is kept of a list: they spell records, which are read as it
 abbrev pub SpellsKept : List ℕ → List ℕ → Kept → Type 0
-SpellsKept a b kept = (rs : List Record) × PairSpells a b rs × ReadsAs Accepts rs kept × (kept.scheduled ≡ None)
+SpellsKept a b kept = (rs : List Record) × PairSpells a b rs × ReadsAs Accepts rs kept
 
 -- each pair of images at this moment spells this list
 abbrev pub OnlyKept : History → History → Kept → Type 0
@@ -59,5 +58,5 @@ pub record IsStored (v : JournalView) (kept : Kept) : Type 0 where
   pub maps : KeepsMaps Accepts kept
   pub number : 1 ≤ kept.last.number
   pub room : IsSome kept.pending → kept.count ≤ MAX_ENTRIES
-  -- no commit is scheduled
-  pub unscheduled : kept.scheduled ≡ None
+  -- a scheduled commit waits as the last entry
+  pub waits : IfSome kept.scheduled (IsWaiting Accepts kept)

@@ -1,6 +1,6 @@
 //! A list of commits that is read from two disks.
 
-ghost use Rattle.std.specs.Prelude.{◌≡◌, None, IfOk, IfErr};
+ghost use Rattle.std.specs.Prelude.{◌≡◌, IfOk, IfErr};
 ghost use Rattle.record_code.specs.Listed.{records_of};
 ghost use Rattle.commit_check.specs.Accepts.{Accepts};
 ghost use Rattle.disk_model.specs.Pair.{pair_of};
@@ -18,7 +18,7 @@ use commit_check::Judge;
 use commit_journal::{AttachFault, AttachWhy, Journal};
 use commit_ledger::{Ledger, LedgerFault};
 use disk_model::Disk;
-use record_code::{Payloads, Placed};
+use record_code::Payloads;
 use std::alloc::Global;
 
 fn why_of(why: AttachWhy) -> StartWhy
@@ -50,30 +50,13 @@ fn not_attached<D>(fault: AttachFault<D>) -> StartFault<D>
     }
 }
 
-/// The list of these records, unless a commit is scheduled in it.
-fn unscheduled(ledger: Ledger, placed: &[Placed]) -> Result<Ledger, StartWhy>
-    requires { ReadsAs Accepts (records_of placed.now) ledger }
-    ensures ok { IfOk result (λ list. list ≡ ledger) }
-    ensures unscheduled { IfOk result (λ list. list.scheduled ≡ None) }
-    ensures err { IfErr result (IsUnreadFor placed.now) }
-{
-    match placed.last() {
-        Some(end) if ledger.scheduled().is_some() => Err(StartWhy::BadRecord {
-            offset: end.offset,
-        }),
-        _ => Ok(ledger),
-    }
-}
-
-/// The list that records are read as, or why they aren't. One in which a commit is scheduled isn't opened yet: that is told as a
-/// bad record, the last one.
+/// The list that records are read as, or why they aren't.
 fn read_list(alloc: Global, payloads: &Payloads) -> Result<Ledger, StartWhy>
     ensures ok { IfOk result (ReadsAs Accepts (records_of payloads.now)) }
-    ensures unscheduled { IfOk result (λ list. list.scheduled ≡ None) }
     ensures err { IfErr result (IsUnreadFor payloads.now) }
 {
     match Ledger::of(alloc, payloads, &Judge::of(alloc)) {
-        Ok(ledger) => unscheduled(ledger, payloads.as_slice()),
+        Ok(ledger) => Ok(ledger),
         Err(LedgerFault::BadRecord { offset }) => Err(StartWhy::BadRecord { offset }),
         Err(LedgerFault::NoMemory) => Err(StartWhy::NoMemory),
     }

@@ -19,8 +19,11 @@ first_passed (first ∷ forms) items form parts some are isnt =
     ∙ sym (ap (λ t. cond t (Some first) (form_for forms items)) (ap (λ ps. fits ps items) (sym are) ∙ isnt))
 
 pub returns-then-fits : goal.returns-then-fits
-returns-then-fits t c = first_found c.args.forms.now c.args.items.now _ c.in-len1-up.len_at_least (cc)
+returns-then-fits t c =
+    first_found c.args.forms.now c.args.items.now _ c.in-len1-up.len_at_least
+    (ap (λ parts. fits parts c.args.items.now) (sym c.parts.ensures) ∙ sym c.fits.ensures ∙ c.if-fits.true)
 
 pub returns-else-fits : goal.returns-else-fits
 returns-else-fits t c =
-    c.form_for.ensures ∙ first_passed c.args.forms.now c.args.items.now _ c.parts.result c.in-len1-up.len_at_least c.parts.ensures (cc)
+    c.form_for.ensures
+    ∙ first_passed c.args.forms.now c.args.items.now _ c.parts.result c.in-len1-up.len_at_least c.parts.ensures (sym c.fits.ensures ∙ c.if-fits.false)

@@ -1,8 +1,9 @@
 use Rattle.std.proofs.Common.{◌≡◌, None, sym, ap, subst, ⊎_elim, ◌∙◌}
 use Rattle.std.specs.Prelude.{IsSome}
+use Rattle.config_core.specs.declared.event.Event.TheVariants.{Revert, Carry}
 use Rattle.config_core.specs.declared.event.Outcome.TheVariants.{Done}
 use Rattle.config_db.specs.Moves.{Settles}
-use Rattle.config_db.proofs.MachineLemmas.{none_missed, none_waits, nothing_needed, revert_needed, settle_needed}
+use Rattle.config_db.proofs.MachineLemmas.{carry_needed, none_before, none_waits, nothing_needed, revert_needed, settle_needed}
 use Rattle.config_db.proofs.ClosingLemmas.{last_none, last_settled, last_unsettled}
 use Rattle.config_db.proofs.database.Database.settle_last.Goals as goal
 
@@ -21,5 +22,6 @@ pub returns-in-Revert : goal.returns-in-Revert
 returns-in-Revert g c =
     last_none c.args.self.now
     (subst (λ v. v.state.flight ≡ None) c.self.view_is (⊎_elim
-    (λ is. none_missed c.self.inside.core c.greatest-moment.result (revert_needed c.self.inside.core c.greatest-moment.result (sym is ∙ c.next.ensures)))
-    (λ is. none_waits c.self.inside.core c.greatest-moment.result (nothing_needed c.self.inside.core c.greatest-moment.result (sym is ∙ c.next.ensures))) c.in-Revert.is))
+    (λ is. none_before c.self.inside.core c.greatest-moment.result Revert (revert_needed c.self.inside.core c.greatest-moment.result (sym is ∙ c.next.ensures)))
+    (⊎_elim (λ is. none_before c.self.inside.core c.greatest-moment.result Carry (carry_needed c.self.inside.core c.greatest-moment.result (sym is ∙ c.next.ensures)))
+    (λ is. none_waits c.self.inside.core c.greatest-moment.result (nothing_needed c.self.inside.core c.greatest-moment.result (sym is ∙ c.next.ensures)))) c.in-Revert.is))
