@@ -21,7 +21,7 @@ use Rattle.session_threads.specs.Access.{Asker, IsJudged}
 use Rattle.session_threads.specs.Adding.{answered_of}
 use Rattle.session_threads.specs.Asking.{asker_at}
 use Rattle.session_threads.specs.Gates.{FollowsIn, GateView, GivesShow, GivesView, Held, IsOfTurn, IsRefusal, KnowsNoMore}
-use Rattle.session_threads.specs.Gates.{Learns, LearnsOf, LooksAt, LooksIn, ReadsLast, ReadsOn, ReadsShow, TellsKept, TookIn, TurnsIn}
+use Rattle.session_threads.specs.Gates.{Learns, LearnsOf, LooksAt, LooksIn, ReadsLast, ReadsOn, ReadsShow, TellsKept, TookIn, TurnedIn, TurnsIn}
 use Rattle.session_threads.specs.Gates.{asker_in}
 use Rattle.session_threads.specs.History.{FollowsTurn}
 use Rattle.session_threads.specs.Naming.{IsPrefix-same, IsPrefix-then}
@@ -174,16 +174,19 @@ module _ (d mid e : GateView) (command : Command) (answer : ℕ) (looked : Looks
   counts_from : (given : Given0) → TookIn mid command answer given e → CountsNotes given d.pass e.pass
   counts_from given took = subst (λ p. CountsNotes given p e.pass) looked.same took.noted
 
+  turned_from : (given : Given0) → TookIn mid command answer given e → TurnedIn d command answer given e
+  turned_from given took = record {
+    turns = turns_from given took;
+    missed = λ is. record { mid = mid.reader; before = looked.reads; missed = looked.looks is; behind = took.reads };
+  }
+
   -- a command took its turn
   pub FollowsIn-took : (given : Given0) → TookIn mid command answer given e → FollowsIn d command answer given e
   FollowsIn-took (KeptAt place reply) took = record {
     goes = goes_from (KeptAt place reply) took;
     same_asks = took.same_asks ∙ looked.same_asks;
     reads = reads_from (KeptAt place reply) took;
-    comes = record {
-      turns = turns_from (KeptAt place reply) took;
-      missed = λ is. record { mid = mid.reader; before = looked.reads; missed = looked.looks is; behind = took.reads };
-    };
+    comes = turned_from (KeptAt place reply) took;
     noted = counts_from (KeptAt place reply) took;
     prints = took.prints;
   }
@@ -192,7 +195,7 @@ module _ (d mid e : GateView) (command : Command) (answer : ℕ) (looked : Looks
     goes = goes_from (Denied front right) took;
     same_asks = took.same_asks ∙ looked.same_asks;
     reads = reads_from (Denied front right) took;
-    comes = inl (turns_from (Denied front right) took);
+    comes = inl (turned_from (Denied front right) took);
     noted = counts_from (Denied front right) took;
     prints = took.prints;
   }
@@ -200,7 +203,7 @@ module _ (d mid e : GateView) (command : Command) (answer : ℕ) (looked : Looks
     goes = goes_from (Unready front) took;
     same_asks = took.same_asks ∙ looked.same_asks;
     reads = reads_from (Unready front) took;
-    comes = turns_from (Unready front) took;
+    comes = turned_from (Unready front) took;
     noted = counts_from (Unready front) took;
     prints = took.prints;
   }

@@ -47,6 +47,7 @@ module _ (asker : Asker) (final more : List Happened) where
     is_front = refused.is_front;
     kept = refused.kept;
     was_kept = then_later front refused.kept refused.was_kept;
+    missed = λ show. missed_later d.front answer (refused.missed show);
   }
 
   denied_later : (d : Known) (command : Command) (answer front : ℕ) (right : Right) (e : Known)

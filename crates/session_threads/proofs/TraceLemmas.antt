@@ -21,11 +21,12 @@ use Rattle.session_shell.specs.declared.door.Given0.TheVariants.{Kept as KeptAt,
 use Rattle.session_shell.specs.declared.turn.How.{How}
 use Rattle.session_shell.specs.declared.turn.Turn.{Turn}
 use Rattle.session_shell.specs.Exchange.{Exchange, Asked as AskedOf, Refused, Wanted}
+use Rattle.session_shell.specs.Shows.{IsActiveShow}
 use Rattle.session_shell.specs.Transcript.{EndView, GoesBy, IsSession}
 use Rattle.session_threads.specs.Access.{Asker, IsAllowed, IsAllowedAt, IsDenied, IsDeniedBehind, IsUnreadyBehind}
 use Rattle.session_threads.specs.Asking.{asker_at}
 use Rattle.session_threads.specs.Gates.{FollowsIn, GateView, KnowsNoMore, MissedIn, ReadsLast, ReadsOn, SeenIn, StartsReading, TellsKept}
-use Rattle.session_threads.specs.Gates.{TurnsOver, asker_in}
+use Rattle.session_threads.specs.Gates.{TurnedIn, asker_in}
 use Rattle.session_threads.specs.History.{FollowsAsked, FollowsRefused, FollowsTurn, FollowsView, HasMissed, Known, known_first}
 use Rattle.session_threads.specs.Noted.{events_of}
 use Rattle.session_threads.specs.Passes.{CallerPass, WentOn, events_seen}
@@ -204,9 +205,9 @@ module _ (never_fall : (one two : List Kept) (view later : Kept) → AreViews tw
         → FollowsTurn (opened first) caller (events_seen d.pass) command answer Wanting (events_seen e.pass)
         → TellsKept (opened first) (events_seen e.pass) told → IsPrefix told e.reader.told → KnowsNoMore told d.reader
         → Leads (opened first) (events_seen e.pass) after → shown ≡ after.kept.count → IsPrefix (events_seen e.pass) final
-        → Reaches front d.reader
+        → Reaches front d.reader → (IsActiveShow command → HasMissed (opened first) final front answer)
         → FollowsRefused asker final (known d front) command answer shown (known e shown) × Reaches shown e.reader
-    refused_known d e command answer shown front told after turn tell learned no_more leads is_front begins reaches =
+    refused_known d e command answer shown front told after turn tell learned no_more leads is_front begins reaches missed =
         let same : tell.after.kept.count ≡ after.kept.count =
         ap (λ (s : State). s.kept.count) (leads_once first (events_seen e.pass) tell.after after tell.leads leads) in
         let there : WasKept (opened first) final after.kept =
@@ -224,6 +225,7 @@ module _ (never_fall : (one two : List Kept) (view later : Kept) → AreViews tw
             is_front = refl;
             kept = after.kept;
             was_kept = (there, sym is_front);
+            missed = missed;
           },
           record {
             list = told;
@@ -245,15 +247,17 @@ module _ (never_fall : (one two : List Kept) (view later : Kept) → AreViews tw
 
       -- one denied command
       denied_known : (shown : ℕ) (right : Right) → ReadsOn d.reader e.reader
-          → TurnsOver d command answer (Denied shown right) e ⊎ SeenIn d command answer (Denied shown right) e
+          → TurnedIn d command answer (Denied shown right) e ⊎ SeenIn d command answer (Denied shown right) e
           → Knows (known d front) command answer (Denied shown right) (known e shown) × Reaches shown e.reader
       unfolding view_known
       denied_known shown right on (inl over) =
-          let turns = over first fixed in
+          let turns = over.turns first fixed in
           let judged : IsDeniedBehind asker (events_seen e.pass) command shown right =
           subst (λ (a : Asker). IsDeniedBehind a (events_seen e.pass) command shown right) is turns.judged in
           let refused = refused_known d e command answer shown front turns.list judged.after (turn_known Wanting turns.turn)
-          turns.tells turns.told.0 turns.told.1 judged.leads judged.is_front begins reaches in
+          turns.tells turns.told.0 turns.told.1 judged.leads judged.is_front begins reaches
+          (λ show. missed_in front answer d.reader e.reader within reaches (over.missed show))
+          in
           (inl (refused.0, judged), refused.1)
       denied_known shown right on (inr seen) =
           let read = seen.answers.read in (
@@ -297,11 +301,13 @@ module _ (never_fall : (one two : List Kept) (view later : Kept) → AreViews tw
       one_known (Denied shown right) goes =
           let denied = denied_known shown right goes.reads goes.comes in (shown, denied.0, denied.1)
       one_known (Unready shown) goes =
-          let turns = goes.comes first fixed in
+          let turns = goes.comes.turns first fixed in
           let judged : IsUnreadyBehind asker (events_seen e.pass) command shown =
           subst (λ (a : Asker). IsUnreadyBehind a (events_seen e.pass) command shown) is turns.judged in
           let refused = refused_known d e command answer shown front turns.list judged.after (turn_known Wanting turns.turn)
-          turns.tells turns.told.0 turns.told.1 judged.leads judged.is_front begins reaches in
+          turns.tells turns.told.0 turns.told.1 judged.leads judged.is_front begins reaches
+          (λ show. missed_in front answer d.reader e.reader within reaches (goes.comes.missed show))
+          in
           (shown, (refused.0, judged), refused.1)
       one_known NoMemory goes = (
         front,

@@ -175,10 +175,9 @@ pub record MissedIn (answer : ℕ) (old new : ReaderView) : Type 0 where
   pub missed : ReadsLast answer true mid
   pub behind : ReadsOn mid new
 
--- a command was answered by an event; a show takes a turn only where a deadline has come
-pub record KeptIn (d : GateView) (command : Command) (answer place : ℕ) (reply : Reply) (e : GateView)
-    : Type 0 where
-  pub turns : TurnsOver d command answer (KeptAt place reply) e
+-- a command was answered in its turn; a show takes one only where a deadline has come
+pub record TurnedIn (d : GateView) (command : Command) (answer : ℕ) (given : Given0) (e : GateView) : Type 0 where
+  pub turns : TurnsOver d command answer given e
   pub missed : IsActiveShow command → MissedIn answer d.reader e.reader
 
 -- a show was answered without a turn
@@ -195,11 +194,11 @@ WantingIn d command answer e =
 
 -- by what was given
 abbrev pub ComesIn : GateView → Command → ℕ → Given0 → GateView → Type 0
-ComesIn d command answer (KeptAt place reply) e = KeptIn d command answer place reply e
+ComesIn d command answer (KeptAt place reply) e = TurnedIn d command answer (KeptAt place reply) e
 ComesIn d command answer (Seen front reply) e = SeenIn d command answer (Seen front reply) e
 ComesIn d command answer (Denied front right) e =
-    TurnsOver d command answer (Denied front right) e ⊎ SeenIn d command answer (Denied front right) e
-ComesIn d command answer (Unready front) e = TurnsOver d command answer (Unready front) e
+    TurnedIn d command answer (Denied front right) e ⊎ SeenIn d command answer (Denied front right) e
+ComesIn d command answer (Unready front) e = TurnedIn d command answer (Unready front) e
 ComesIn d command answer NoMemory e = WantingIn d command answer e
 
 -- how a pass and its reader follow after one ask of their caller

@@ -133,7 +133,8 @@ pub record FollowsHidden (asker : Asker) (final : List Happened) (d : Known) (co
   pub view : FollowsView asker.opening final d answer front e
   pub denied : IsDenied asker.asks view.kept [] command right
 
--- a command became no event in its turn; what is kept after it is what its answer rests on, and reaches what had been answered from
+-- a command became no event in its turn, which a show takes only for a missed deadline; what is kept after it is what its answer
+-- rests on, and reaches what had been answered from
 pub record FollowsRefused (asker : Asker) (final : List Happened) (d : Known) (command : Command) (answer front : ℕ) (e : Known)
     : Type 0 where
   pub turn : FollowsTurn asker.opening asker.caller d.events command answer Wanting e.events
@@ -141,6 +142,7 @@ pub record FollowsRefused (asker : Asker) (final : List Happened) (d : Known) (c
   pub is_front : e.front ≡ front
   pub kept : Kept
   pub was_kept : IsKeptThen asker.opening final front kept
+  pub missed : IsActiveShow command → HasMissed asker.opening final d.front answer
 
 -- a command was denied in its turn, or it is a show, and was denied without one
 abbrev pub FollowsDenied : Asker → List Happened → Known → Command → ℕ → ℕ → Right → Known → Type 0
