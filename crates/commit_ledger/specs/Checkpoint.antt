@@ -153,3 +153,8 @@ told_by (Some waiting) last = waiting.moment
 -- as a checkpoint is read
 abbrev pub as_read : Kept → Kept
 as_read kept = record kept { moment = told_by kept.scheduled kept.last.moment }
+
+-- two lists are alike where they are equal in all but the last moment, and where a commit is scheduled in that too: their checkpoints
+-- are read as one list
+abbrev pub AreAlike : Kept → Kept → Type 0
+AreAlike one other = as_read one ≡ as_read other

@@ -95,6 +95,13 @@ append_entry kept (ConfirmOf confirm) = append_confirm kept confirm
 append_entry kept (ScheduledOf waiting) = append_scheduled kept waiting
 append_entry kept (ClearedOf cleared) = append_cleared kept cleared
 
+-- when an entry was made
+abbrev pub moment_of : Entry → ℕ
+moment_of (CommitOf commit) = commit.moment
+moment_of (ConfirmOf confirm) = confirm.moment
+moment_of (ScheduledOf waiting) = waiting.moment
+moment_of (ClearedOf cleared) = cleared.moment
+
 -- what a list of further entries leaves
 abbrev pub after_entries : Kept → List Entry → Kept
 after_entries kept [] = kept

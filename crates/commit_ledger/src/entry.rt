@@ -1,4 +1,5 @@
 ghost use Rattle.std.specs.Prelude.{◌≡◌, IfOk};
+ghost use Rattle.commit_ledger.specs.Kept.{moment_of};
 
 use cfg_base::{Moment, NoMemory, UserName, Word};
 use cfg_tree::Tree;
@@ -96,5 +97,55 @@ impl Scheduled {
             comment: self.comment.clone()?,
             tree: self.tree.copy()?,
         })
+    }
+}
+
+impl Confirm {
+    fn copy(&self) -> Result<Confirm, NoMemory>
+        ensures { IfOk result (λ confirm. confirm ≡ self.now) }
+    {
+        Ok(Confirm {
+            number: self.number,
+            user: self.user.clone()?,
+            moment: self.moment,
+        })
+    }
+}
+
+impl Cleared {
+    fn copy(&self) -> Result<Cleared, NoMemory>
+        ensures { IfOk result (λ cleared. cleared ≡ self.now) }
+    {
+        Ok(Cleared {
+            number: self.number,
+            user: self.user.clone()?,
+            moment: self.moment,
+        })
+    }
+}
+
+impl Entry {
+    /// A copy, whose map shares its pages.
+    pub fn copy(&self) -> Result<Entry, NoMemory>
+        ensures { IfOk result (λ entry. entry ≡ self.now) }
+    {
+        match self {
+            Entry::Commit(commit) => Ok(Entry::Commit(commit.copy()?)),
+            Entry::Confirm(confirm) => Ok(Entry::Confirm(confirm.copy()?)),
+            Entry::Scheduled(waiting) => Ok(Entry::Scheduled(waiting.copy()?)),
+            Entry::Cleared(cleared) => Ok(Entry::Cleared(cleared.copy()?)),
+        }
+    }
+
+    /// When it was made.
+    pub fn moment(&self) -> Moment
+        ensures { result ≡ moment_of self.now }
+    {
+        match self {
+            Entry::Commit(commit) => commit.moment,
+            Entry::Confirm(confirm) => confirm.moment,
+            Entry::Scheduled(waiting) => waiting.moment,
+            Entry::Cleared(cleared) => cleared.moment,
+        }
     }
 }

@@ -10,6 +10,7 @@ mod carry;
 mod copying;
 mod date;
 mod entry;
+mod entry_list;
 mod fields;
 mod form;
 mod image;
@@ -22,13 +23,16 @@ mod opening;
 mod payload;
 mod reading;
 mod ready;
+mod renewing;
 mod restoring;
 mod revert;
 mod sharing;
+mod synced;
 mod text;
 
 pub use date::date_bytes_at;
 pub use entry::{Cleared, Commit, Confirm, Entry, Scheduled, Via};
+pub use entry_list::EntryList;
 pub use laws::{
     checkpoints_are_read, former_lists_are_read, kept_maps_stay_accepted, listings_are_one_text,
     lists_begin_with_one_commit, records_have_one_reading, the_last_fifty_commits_are_kept,
@@ -38,3 +42,4 @@ pub use limit::{MAX_ENTRIES, limits_are_stated};
 pub use opening::LedgerFault;
 pub use payload::payload_of;
 pub use ready::Ready;
+pub use synced::Synced;

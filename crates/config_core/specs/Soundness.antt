@@ -11,7 +11,7 @@ use Rattle.commit_ledger.specs.declared.entry.Cleared.{Cleared}
 use Rattle.commit_ledger.specs.declared.entry.Entry.{Entry}
 use Rattle.commit_ledger.specs.declared.entry.Entry.TheVariants.{Commit as CommitOf, Confirm as ConfirmOf, Scheduled as ScheduledOf, Cleared as ClearedOf}
 use Rattle.commit_ledger.specs.declared.limit.TheConstants.{MAX_ENTRIES}
-use Rattle.commit_ledger.specs.Kept.{Kept, KeepsMaps}
+use Rattle.commit_ledger.specs.Kept.{Kept, KeepsMaps, moment_of}
 use Rattle.commit_ledger.specs.Rules.{CommitFollows, ConfirmFollows, ScheduledFollows, ClearedFollows}
 use Rattle.config_core.specs.declared.caller.Caller.{Caller}
 use Rattle.config_core.specs.Access.{is_private}
@@ -48,12 +48,6 @@ IsSoundEntry kept (CommitOf commit) = IsSoundCommit kept commit
 IsSoundEntry kept (ConfirmOf confirm) = IsSoundConfirm kept confirm
 IsSoundEntry kept (ScheduledOf waiting) = IsSoundScheduled kept waiting
 IsSoundEntry kept (ClearedOf cleared) = IsSoundCleared kept cleared
-
-abbrev pub moment_of : Entry → ℕ
-moment_of (CommitOf commit) = commit.moment
-moment_of (ConfirmOf confirm) = confirm.moment
-moment_of (ScheduledOf waiting) = waiting.moment
-moment_of (ClearedOf cleared) = cleared.moment
 
 -- an entry that is made may be the next one of a list, and isn't of a later moment than the last event
 pub record IsSoundMade (kept : Kept) (greatest : ℕ) (made : Made) : Type 0 where
