@@ -12,3 +12,9 @@ mod OpenLemmas
 mod RotateLemmas
 pub mod TurnLemmas
 mod JournalLemmas
+pub mod SpanLemmas
+pub mod RisingLemmas
+pub mod SafeLemmas
+pub mod HeldLemmas
+pub mod CalledLemmas
+pub mod AnewLemmas
