@@ -2,3 +2,6 @@ mod SoundLemmas
 mod StoredLemmas
 mod CauseLemmas
 mod HeldLemmas
+pub mod StandingLemmas
+mod GrowingLemmas
+mod RangeLemmas
