@@ -145,7 +145,7 @@ around_typed mover one other apart served first (name ∷ front) mark (item ∷ 
                 joined = refl;
                 given = refl;
                 is = marked;
-                behind = record { first = item; rest = items; others = words_in items; joined = refl; given = refl; is = both.0; behind = last_run [] items (refl, refl) both.1 };
+                behind = record { first = item; rest = items; others = words_in items; joined = refl; given = refl; is = both.0; behind = last_run (drop 6 (parts_of (around mover one other))) items (refl, refl) both.1 };
               };
             };
           };
@@ -290,11 +290,11 @@ rows_typed = (
           (
             without Unprotect (7, lit< tt, refl),
             (
-              two_marks Rename Rename refl (record { keyword = refl; names = refl }) (33, lit< tt, refl) (record { keyword = refl; names = refl }) (33, lit< tt, refl),
+              two_marks Rename Rename refl (record { keyword = refl; names = refl }) (45, lit< tt, refl) (record { keyword = refl; names = refl }) (45, lit< tt, refl),
               (
-                two_marks Copy Copy refl (record { keyword = refl; names = refl }) (34, lit< tt, refl) (record { keyword = refl; names = refl }) (34, lit< tt, refl),
+                two_marks Copy Copy refl (record { keyword = refl; names = refl }) (46, lit< tt, refl) (record { keyword = refl; names = refl }) (46, lit< tt, refl),
                 (
-                  two_marks InsertBefore InsertAfter refl (record { keyword = refl; names = refl }) (35, lit< tt, refl) (record { keyword = refl; names = refl }) (36, lit< tt, refl),
+                  two_marks InsertBefore InsertAfter refl (record { keyword = refl; names = refl }) (47, lit< tt, refl) (record { keyword = refl; names = refl }) (48, lit< tt, refl),
                   tt,
                 ),
               ),

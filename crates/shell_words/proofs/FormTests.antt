@@ -11,7 +11,7 @@ use Rattle.shell_words.specs.declared.form.Symbol.TheVariants.{Keyword, Mark, Wo
 use Rattle.shell_words.specs.declared.form.Part.{Part}
 use Rattle.shell_words.specs.declared.form.Part.TheVariants.{Nothing, One, Many}
 use Rattle.shell_words.specs.declared.form.Makes.{Makes}
-use Rattle.shell_words.specs.declared.form.Makes.TheVariants.{Move, Commit}
+use Rattle.shell_words.specs.declared.form.Makes.TheVariants.{Move, Commit, Synchronize}
 use Rattle.shell_words.specs.declared.form.Confirmed.TheVariants.{InMinutes}
 use Rattle.shell_words.specs.declared.form.CommandForm.{CommandForm}
 use Rattle.shell_words.specs.declared.keyword.Keyword as keywords
@@ -146,7 +146,9 @@ runs test rest (Many symbol ∷ parts) = test symbol && rest parts
 
 abbrev pub is_end : List Part → Bool
 is_end [] = true
-is_end (part ∷ parts) = false
+is_end (Nothing ∷ parts) = is_end parts
+is_end (One symbol ∷ parts) = false
+is_end (Many symbol ∷ parts) = false
 
 -- no token of the symbol is the mark, and it is as this says whether it names something
 abbrev pub passes : keywords.Keyword → (Bool → Bool) → Symbol → Bool
@@ -183,7 +185,12 @@ abbrev pub is_minutes : Symbol → Bool
 is_minutes (Number low high) = nat_le high 65535
 is_minutes other = false
 
+-- a test that the minutes are behind one keyword
+abbrev pub from_minutes : List Part → Bool
+from_minutes parts = leads is_unnamed (leads is_minutes (λ others. true)) parts
+
 -- a test that the first word of a commit that states its minutes is their number
 abbrev pub are_timed : Makes → List Part → Bool
-are_timed (Commit InMinutes comment quit) parts = leads is_unnamed (leads is_unnamed (leads is_minutes (λ others. true))) parts
+are_timed (Commit InMinutes comment quit) parts = leads is_unnamed from_minutes parts
+are_timed (Synchronize InMinutes comment quit) parts = leads is_unnamed (leads is_unnamed from_minutes) parts
 are_timed other parts = true

@@ -56,6 +56,7 @@ plain verb = record {
   fourth = Nothing;
   fifth = Nothing;
   sixth = Nothing;
+  seventh = Nothing;
   makes = makes.Change verb;
 }
 
@@ -68,6 +69,7 @@ bracketed verb = record {
   fourth = One Word;
   fifth = Many Word;
   sixth = One CloseBracket;
+  seventh = Nothing;
   makes = makes.Change verb;
 }
 
@@ -80,6 +82,7 @@ around mover one other = record {
   fourth = One (Mark (key.Mark mover));
   fifth = One Word;
   sixth = Many Word;
+  seventh = Nothing;
   makes = makes.Move mover;
 }
 
@@ -112,6 +115,7 @@ no_change (makes.LoadJson way) e items words change asked = cc
 no_change makes.Rollback e items words change asked = cc
 no_change makes.CheckOnly e items words change asked = cc
 no_change (makes.Commit confirmed comment quit) e items words change asked = cc
+no_change (makes.Synchronize confirmed comment quit) e items words change asked = cc
 no_change (makes.CommitAt comment) e items words change asked = cc
 no_change makes.Update e items words change asked = cc
 no_change makes.Status e items words change asked = cc

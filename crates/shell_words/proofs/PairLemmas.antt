@@ -72,16 +72,23 @@ words_join : (front back : List Item) → words_in (front ++ back) ≡ words_in 
 words_join [] back = refl
 words_join (item ∷ front) back = ap (λ ws. item.token.word ∷ ws) (words_join front back)
 
+-- no token is behind the end
+none_behind : (parts : List Part) (items : List Item) (words : List (List ℕ)) → is_end parts ≡ true → FitsParts parts items words → (items ≡ []) × (words ≡ [])
+none_behind [] items words e fit = fit
+none_behind (Nothing ∷ parts) items words e fit = none_behind parts items words e fit
+none_behind (One symbol ∷ parts) items words e fit = absurd (false≢true e)
+none_behind (Many symbol ∷ parts) items words e fit = absurd (false≢true e)
+
 -- the last words
 last_words : (parts : List Part) (items : List Item) (words : List (List ℕ)) → runs names is_end parts ≡ true → FitsParts parts items words → words ≡ words_in items
 last_words [] items words e fit = absurd (false≢true e)
 last_words (Nothing ∷ parts) items words e fit = absurd (false≢true e)
 last_words (One symbol ∷ parts) items words e fit = absurd (false≢true e)
-last_words (Many symbol ∷ []) items words e fit =
-    let named = (and_parts (names symbol) true e).0 in
-    let all : items ≡ fit.run = fit.joined ∙ ap (λ rest. fit.run ++ rest) fit.behind.0 ∙ append-nil fit.run in
-    fit.given ∙ ap (λ others. given_by (names symbol) fit.run ++ others) fit.behind.1 ∙ append-nil (given_by (names symbol) fit.run) ∙ gives symbol fit.run named ∙ ap words_in (sym all)
-last_words (Many symbol ∷ part ∷ parts) items words e fit = absurd (false≢true (and_parts (names symbol) false e).1)
+last_words (Many symbol ∷ parts) items words e fit =
+    let both = and_parts (names symbol) (is_end parts) e in
+    let none = none_behind parts fit.rest fit.others both.1 fit.behind in
+    let all : items ≡ fit.run = fit.joined ∙ ap (λ rest. fit.run ++ rest) none.0 ∙ append-nil fit.run in
+    fit.given ∙ ap (λ others. given_by (names symbol) fit.run ++ others) none.1 ∙ append-nil (given_by (names symbol) fit.run) ∙ gives symbol fit.run both.0 ∙ ap words_in (sym all)
 
 record Behind (items : List Item) (words : List (List ℕ)) : Type 0 where
   some : 0 < length items

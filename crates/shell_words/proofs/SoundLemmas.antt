@@ -30,7 +30,7 @@ use Rattle.shell_words.specs.Form.{is_of, names, given_by, parts_of, FitsParts, 
 use Rattle.shell_words.specs.Number.{number_of, is_between}
 use Rattle.shell_words.specs.Made.{number_or, minutes_in, comment_in, made_by, AsksSound}
 use Rattle.shell_words.specs.Reading.{AnswersWhole, Answers, IsReading, Gives}
-use Rattle.shell_words.proofs.FormTests.{leads, are_timed, is_unnamed, is_minutes}
+use Rattle.shell_words.proofs.FormTests.{leads, are_timed, from_minutes, is_unnamed, is_minutes}
 use Rattle.shell_words.proofs.FormFacts.{forms_timed}
 use Rattle.shell_words.proofs.ApartLemmas.{all_at}
 use Rattle.shell_words.proofs.TimeLemmas.{time_sound}
@@ -202,16 +202,22 @@ first_minutes (One symbol ∷ parts) items words e fit =
     subst AreMinutes (sym fit.given) (minutes_small symbol fit.first fit.others (and_parts (is_minutes symbol) true e).0 fit.is)
 first_minutes (Many symbol ∷ parts) items words e fit = absurd (false≢true e)
 
--- the minutes of a commit are after its two keywords
-third_minutes : (parts : List Part) (items : List Item) (words : List (List ℕ)) → leads is_unnamed (leads is_unnamed (leads is_minutes (λ others. true))) parts ≡ true → FitsParts parts items words → AreMinutes words
-third_minutes parts items words e fit =
-    behind_unnamed (leads is_unnamed (leads is_minutes (λ others. true))) AreMinutes
-    (behind_unnamed (leads is_minutes (λ others. true)) AreMinutes first_minutes) parts items words e fit
+second_minutes : (parts : List Part) (items : List Item) (words : List (List ℕ)) → from_minutes parts ≡ true → FitsParts parts items words → AreMinutes words
+second_minutes parts items words e fit = behind_unnamed (leads is_minutes (λ others. true)) AreMinutes first_minutes parts items words e fit
+
+-- the minutes of a commit are after its two keywords, or three of one that is synchronized
+third_minutes : (parts : List Part) (items : List Item) (words : List (List ℕ)) → leads is_unnamed from_minutes parts ≡ true → FitsParts parts items words → AreMinutes words
+third_minutes parts items words e fit = behind_unnamed from_minutes AreMinutes second_minutes parts items words e fit
 
 minutes_sound : (confirmed : Confirmed) (comment quit : Bool) (parts : List Part) (items : List Item) (words : List (List ℕ)) → are_timed (makes.Commit confirmed comment quit) parts ≡ true → FitsParts parts items words → minutes_in confirmed words ≤ 65535
 minutes_sound No comment quit parts items words e fit = omega arith
 minutes_sound InTen comment quit parts items words e fit = omega arith
 minutes_sound InMinutes comment quit parts items words e fit = third_minutes parts items words e fit
+
+synced_sound : (confirmed : Confirmed) (comment quit : Bool) (parts : List Part) (items : List Item) (words : List (List ℕ)) → are_timed (makes.Synchronize confirmed comment quit) parts ≡ true → FitsParts parts items words → minutes_in confirmed words ≤ 65535
+synced_sound No comment quit parts items words e fit = omega arith
+synced_sound InTen comment quit parts items words e fit = omega arith
+synced_sound InMinutes comment quit parts items words e fit = behind_unnamed (leads is_unnamed from_minutes) AreMinutes third_minutes parts items words e fit
 
 -- what a form makes of a line is sound
 made_sound : (made : Makes) (parts : List Part) (items : List Item) (words : List (List ℕ)) → are_timed made parts ≡ true → ArePrintable (words_in items) → FitsParts parts items words → AsksSound (Some (made_by made items words))
@@ -235,6 +241,10 @@ made_sound makes.Rollback parts items words e all fit = tt
 made_sound makes.CheckOnly parts items words e all fit = tt
 made_sound (makes.Commit confirmed comment quit) parts items words e all fit = (
   minutes_sound confirmed comment quit parts items words e fit,
+  comment_printable comment words (fit_printable parts items words all fit),
+)
+made_sound (makes.Synchronize confirmed comment quit) parts items words e all fit = (
+  synced_sound confirmed comment quit parts items words e fit,
   comment_printable comment words (fit_printable parts items words all fit),
 )
 made_sound (makes.CommitAt comment) parts items words e all fit = (time_sound words, comment_printable comment words (fit_printable parts items words all fit))

@@ -16,7 +16,7 @@ use Rattle.cfg_lex.specs.declared.token.Token.{Token}
 use Rattle.cfg_lex.specs.Tokens.{IsCut}
 use Rattle.shell_words.specs.declared.form.CommandForm.{CommandForm}
 use Rattle.shell_words.specs.declared.making.Words0.{Words0}
-use Rattle.shell_words.specs.declared.making.Words0.TheVariants.{Whole, ShowJson, NeedsText, NeedsJson}
+use Rattle.shell_words.specs.declared.making.Words0.TheVariants.{Whole, Synchronize, ShowJson, NeedsText, NeedsJson}
 use Rattle.shell_words.specs.Item.{item_in}
 use Rattle.shell_words.specs.Form.{IsIn}
 use Rattle.shell_words.specs.Reading.{IsReading}
@@ -29,6 +29,10 @@ pub record Example : Type 0 where
 -- a line that is this command
 abbrev pub asks : String → Command → Example
 asks line command = record { line = codes line; asked = Ok (Some (Whole command)) }
+
+-- a line that is this commit, which is synchronized
+abbrev pub synchronizes : String → Command → Example
+synchronizes line command = record { line = codes line; asked = Ok (Some (Synchronize command)) }
 
 -- a line that is this change
 abbrev pub changes : String → Op → Example
@@ -199,6 +203,27 @@ committing =
     ∷ asks "commit confirmed 65535 comment fix" (command.Commit 65535 (codes "fix") false)
     ∷ asks "commit confirmed 1 comment fix and-quit" (command.Commit 1 (codes "fix") true)
     ∷ asks "commit confirmed 65535 comment fix and-quit" (command.Commit 65535 (codes "fix") true)
+    ∷ synchronizes "commit synchronize" (command.Commit 0 [] false)
+    ∷ synchronizes "commit synchronize and-quit" (command.Commit 0 [] true)
+    ∷ synchronizes "commit synchronize comment fix" (command.Commit 0 (codes "fix") false)
+    ∷ synchronizes "commit synchronize comment fix and-quit" (command.Commit 0 (codes "fix") true)
+    ∷ synchronizes "commit synchronize confirmed" (command.Commit 10 [] false)
+    ∷ synchronizes "commit synchronize confirmed and-quit" (command.Commit 10 [] true)
+    ∷ synchronizes "commit synchronize confirmed comment fix" (command.Commit 10 (codes "fix") false)
+    ∷ synchronizes "commit synchronize confirmed comment fix and-quit" (command.Commit 10 (codes "fix") true)
+    ∷ synchronizes "commit synchronize confirmed 65535" (command.Commit 65535 [] false)
+    ∷ synchronizes "commit synchronize confirmed 1 and-quit" (command.Commit 1 [] true)
+    ∷ synchronizes "commit synchronize confirmed 1 comment fix" (command.Commit 1 (codes "fix") false)
+    ∷ synchronizes "commit synchronize confirmed 65535 comment fix and-quit" (command.Commit 65535 (codes "fix") true)
+    ∷ asks "commit comment synchronize" (command.Commit 0 (codes "synchronize") false)
+    ∷ refused "commit synchronize check" 19
+    ∷ refused "commit synchronize at 00:17" 19
+    ∷ refused "commit synchronize synchronize" 19
+    ∷ refused "commit synchronize confirmed 65536" 29
+    ∷ refused "commit synchronize comment" 26
+    ∷ refused "commit check synchronize" 13
+    ∷ refused "commit confirmed synchronize" 17
+    ∷ refused "commit and-quit synchronize" 16
     ∷ asks "commit at 00:17" (command.CommitAt (Today 1020) [])
     ∷ asks "commit at 00:17:00" (command.CommitAt (Today 1020) [])
     ∷ asks "commit at 23:59:59" (command.CommitAt (Today 86399) [])

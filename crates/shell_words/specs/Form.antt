@@ -78,7 +78,7 @@ FitsParts (Many symbol ∷ parts) items words = IsRun symbol (FitsParts parts) i
 
 -- the parts of a line of a form
 abbrev pub parts_of : CommandForm → List Part
-parts_of form = form.first ∷ form.second ∷ form.third ∷ form.fourth ∷ form.fifth ∷ form.sixth ∷ []
+parts_of form = form.first ∷ form.second ∷ form.third ∷ form.fourth ∷ form.fifth ∷ form.sixth ∷ form.seventh ∷ []
 
 -- the forms of configuration mode, or of operational mode
 unfoldable pub forms_of : Bool → List CommandForm

@@ -41,5 +41,6 @@ spelled key.Confirmed = codes "confirmed"
 spelled key.Comment = codes "comment"
 spelled key.AndQuit = codes "and-quit"
 spelled key.At = codes "at"
+spelled key.Synchronize = codes "synchronize"
 spelled key.Clear = codes "clear"
 spelled key.Pipe = mark_word Pipe

@@ -11,7 +11,7 @@ use Rattle.shell_words.specs.declared.form.Confirmed.TheVariants.{No, InTen, InM
 use Rattle.shell_words.specs.declared.form.Makes.{Makes}
 use Rattle.shell_words.specs.declared.form.Makes.TheVariants as makes
 use Rattle.shell_words.specs.declared.making.Words0.{Words0}
-use Rattle.shell_words.specs.declared.making.Words0.TheVariants.{Whole, ShowJson, NeedsText, NeedsJson}
+use Rattle.shell_words.specs.declared.making.Words0.TheVariants.{Whole, Synchronize, ShowJson, NeedsText, NeedsJson}
 use Rattle.shell_words.specs.Item.{Item}
 use Rattle.shell_words.specs.Number.{number_of}
 use Rattle.shell_words.specs.Pair.{change_in}
@@ -62,11 +62,13 @@ made_by (makes.LoadJson way) items words = NeedsJson way
 made_by makes.Rollback items words = Whole (command.Rollback (number_or 0 words))
 made_by makes.CheckOnly items words = Whole command.CheckOnly
 made_by (makes.Commit confirmed comment quit) items words = Whole (commit_of confirmed comment quit words)
+made_by (makes.Synchronize confirmed comment quit) items words = Synchronize (commit_of confirmed comment quit words)
 made_by (makes.CommitAt comment) items words = Whole (command.CommitAt (when_in words) (comment_in comment words))
 made_by makes.Update items words = Whole command.Update
 made_by makes.Status items words = Whole command.Status
 
--- where it is a command, the command is sound
+-- where it is a command, or a commit that is synchronized, the command is sound
 abbrev pub AsksSound : Option Words0 → Type 0
 AsksSound (Some (Whole command)) = IsSound command
+AsksSound (Some (Synchronize command)) = IsSound command
 AsksSound other = Unit {0}

@@ -77,6 +77,12 @@ pub(crate) enum Makes {
         comment: bool,
         quit: bool,
     },
+    /// The same, of a commit that is synchronized.
+    Synchronize {
+        confirmed: Confirmed,
+        comment: bool,
+        quit: bool,
+    },
     /// A commit at the time of the line's first word, whose comment is the last one where it has one.
     CommitAt {
         comment: bool,
@@ -94,12 +100,13 @@ pub(crate) struct CommandForm {
     pub fourth: Part,
     pub fifth: Part,
     pub sixth: Part,
+    pub seventh: Part,
     pub makes: Makes,
 }
 
 impl CommandForm {
     /// The parts of a line of this form, in order.
-    pub(crate) fn parts(&self) -> [Part; 6]
+    pub(crate) fn parts(&self) -> [Part; 7]
         ensures { result ≡ parts_of self.now }
     {
         [
@@ -109,6 +116,7 @@ impl CommandForm {
             self.fourth,
             self.fifth,
             self.sixth,
+            self.seventh,
         ]
     }
 }
@@ -139,7 +147,7 @@ macro_rules! part {
 
 /// A form: what it makes, and its parts in brackets.
 macro_rules! form {
-    ($makes:expr; [$($a:tt)+] [$($b:tt)+] [$($c:tt)+] [$($d:tt)+] [$($e:tt)+] [$($f:tt)+]) => {
+    ($makes:expr; [$($a:tt)+] [$($b:tt)+] [$($c:tt)+] [$($d:tt)+] [$($e:tt)+] [$($f:tt)+] [$($g:tt)+]) => {
         CommandForm {
             first: part!($($a)+),
             second: part!($($b)+),
@@ -147,6 +155,7 @@ macro_rules! form {
             fourth: part!($($d)+),
             fifth: part!($($e)+),
             sixth: part!($($f)+),
+            seventh: part!($($g)+),
             makes: $makes,
         }
     };
@@ -169,7 +178,7 @@ static OPERATIONAL: [CommandForm; 11] = [
     form!(Makes::Logout; [Quit]),
 ];
 
-static CONFIGURING: [CommandForm; 47] = [
+static CONFIGURING: [CommandForm; 59] = [
     form!(Makes::Change(Verb::Set); [verb Set] [one Word] [many Word]),
     form!(Makes::Change(Verb::Set); [verb Set] [many Word] [one OpenBracket] [one Word] [many Word] [one CloseBracket]),
     form!(Makes::Change(Verb::Delete); [verb Delete] [one Word] [many Word]),
@@ -208,6 +217,25 @@ static CONFIGURING: [CommandForm; 47] = [
         [Commit] [Confirmed] [one number 1 to 65535] [Comment] [one Word]),
     form!(Makes::Commit { confirmed: Confirmed::InMinutes, comment: true, quit: true };
         [Commit] [Confirmed] [one number 1 to 65535] [Comment] [one Word] [AndQuit]),
+    form!(Makes::Synchronize { confirmed: Confirmed::No, comment: false, quit: false }; [Commit] [Synchronize]),
+    form!(Makes::Synchronize { confirmed: Confirmed::No, comment: false, quit: true }; [Commit] [Synchronize] [AndQuit]),
+    form!(Makes::Synchronize { confirmed: Confirmed::No, comment: true, quit: false }; [Commit] [Synchronize] [Comment] [one Word]),
+    form!(Makes::Synchronize { confirmed: Confirmed::No, comment: true, quit: true };
+        [Commit] [Synchronize] [Comment] [one Word] [AndQuit]),
+    form!(Makes::Synchronize { confirmed: Confirmed::InTen, comment: false, quit: false }; [Commit] [Synchronize] [Confirmed]),
+    form!(Makes::Synchronize { confirmed: Confirmed::InTen, comment: false, quit: true }; [Commit] [Synchronize] [Confirmed] [AndQuit]),
+    form!(Makes::Synchronize { confirmed: Confirmed::InTen, comment: true, quit: false };
+        [Commit] [Synchronize] [Confirmed] [Comment] [one Word]),
+    form!(Makes::Synchronize { confirmed: Confirmed::InTen, comment: true, quit: true };
+        [Commit] [Synchronize] [Confirmed] [Comment] [one Word] [AndQuit]),
+    form!(Makes::Synchronize { confirmed: Confirmed::InMinutes, comment: false, quit: false };
+        [Commit] [Synchronize] [Confirmed] [one number 1 to 65535]),
+    form!(Makes::Synchronize { confirmed: Confirmed::InMinutes, comment: false, quit: true };
+        [Commit] [Synchronize] [Confirmed] [one number 1 to 65535] [AndQuit]),
+    form!(Makes::Synchronize { confirmed: Confirmed::InMinutes, comment: true, quit: false };
+        [Commit] [Synchronize] [Confirmed] [one number 1 to 65535] [Comment] [one Word]),
+    form!(Makes::Synchronize { confirmed: Confirmed::InMinutes, comment: true, quit: true };
+        [Commit] [Synchronize] [Confirmed] [one number 1 to 65535] [Comment] [one Word] [AndQuit]),
     form!(Makes::CommitAt { comment: false }; [Commit] [At] [one Time]),
     form!(Makes::CommitAt { comment: true }; [Commit] [At] [one Time] [Comment] [one Word]),
     form!(Makes::Move(Mover::Rename); [mover Rename] [one until mark of Rename] [many until mark of Rename]

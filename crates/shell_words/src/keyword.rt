@@ -44,6 +44,7 @@ pub(crate) enum Keyword {
     Comment,
     AndQuit,
     At,
+    Synchronize,
     Clear,
     Pipe,
 }
@@ -86,6 +87,7 @@ impl Keyword {
             Keyword::Comment => b"comment",
             Keyword::AndQuit => b"and-quit",
             Keyword::At => b"at",
+            Keyword::Synchronize => b"synchronize",
             Keyword::Clear => b"clear",
             Keyword::Pipe => Mark::Pipe.word(),
         }

@@ -22,6 +22,8 @@ use std::alloc::Global;
 pub enum Words0 {
     /// This command.
     Whole(Command),
+    /// This commit, which is to be synchronized with the backup engine once it is made.
+    Synchronize(Command),
     /// A show of the whole active configuration as JSON.
     ShowJson,
     /// A load of the text in the lines that follow.
@@ -160,6 +162,15 @@ pub(crate) fn made_by(
         } => {
             let words = words_of(alloc, form, items)?;
             Ok(whole(commit_of(alloc, confirmed, comment, quit, &words)?))
+        }
+        Makes::Synchronize {
+            confirmed,
+            comment,
+            quit,
+        } => {
+            let words = words_of(alloc, form, items)?;
+            let command = commit_of(alloc, confirmed, comment, quit, &words)?;
+            Ok(Words0::Synchronize(command))
         }
         Makes::CommitAt { comment } => {
             let words = words_of(alloc, form, items)?;
