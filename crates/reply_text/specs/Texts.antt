@@ -7,6 +7,8 @@ use Rattle.access_rules.specs.Rights.{word_of}
 use Rattle.commands.specs.declared.command.Mode.{Mode}
 use Rattle.commands.specs.declared.command.Mode.TheVariants.{Shared, Private, Exclusive}
 use Rattle.commit_ledger.specs.Date.{date_text_at}
+use Rattle.commit_ledger.specs.declared.synced.Synced.{Synced}
+use Rattle.commit_ledger.specs.declared.synced.Synced.TheVariants.{All, Behind, Alone}
 use Rattle.config_core.specs.declared.reply.Refusal.{Refusal}
 use Rattle.config_core.specs.declared.reply.Refusal.TheVariants.{WrongMode, Locked, Waiting, Unconfirmed, NotLater, NothingWaits, Modified, Unknown, BadValue, Incomplete, Extra, NotNamed, NotOrdered, NotThere, AlreadyThere, NotALevel, Protected, TooMany, Conflict, TooWide, NoRollback, Line, LineEdit, Check, Exhausted, DiskFault}
 use Rattle.config_core.specs.declared.reply.Refusal.TheVariants as refusal
@@ -150,6 +152,13 @@ text_of_reply (Committed minutes quit) = deadline_text minutes ++ complete_text 
 text_of_reply (Scheduled at) = codes "commit at " ++ (date_text_at at ++ codes " UTC scheduled\n")
 text_of_reply ClearedCommit = codes "pending commit cleared\n"
 text_of_reply (Refused refusal) = text_of_refusal refusal
+
+-- what is written behind the text of a commit that is synchronized: what is known of the backup's list
+abbrev pub text_of_synced : Synced → List ℕ
+text_of_synced (All count) = codes "backup synchronized\n"
+text_of_synced (Behind acknowledged count) =
+    codes "warning: backup has " ++ (decimal acknowledged ++ (codes " of " ++ (decimal count ++ codes " entries\n")))
+text_of_synced Alone = codes "warning: no backup engine\n"
 
 -- what is written for a line that was refused without a turn
 abbrev pub text_of_fault : ShellFault → List ℕ
