@@ -19,7 +19,7 @@ use Rattle.session_shell.specs.declared.reading.Item.TheVariants.{Ask}
 use Rattle.session_shell.specs.declared.reading.Reading.{Reading}
 use Rattle.session_shell.specs.declared.reading.Reading.TheVariants.{Operational, Configuring, Collecting, Spoilt, Out}
 use Rattle.session_shell.specs.Exchange.{Exchange, item_asked, text_written}
-use Rattle.session_shell.specs.Transcript.{Following, IsInput, IsTranscript, LogsOut, SessionView, Texts, WroteTexts, side}
+use Rattle.session_shell.specs.Transcript.{Following, IsInput, IsTranscript, LogsOut, SessionView, Syncing, Texts, WroteTexts, side}
 use Rattle.session_shell.specs.Steps.{Ends, Finishes, is_out, LastText, ServesItem, standing}
 use Rattle.session_shell.proofs.TurnLemmas.{Turns-then, Turns-none}
 use Rattle.session_shell.proofs.TakeLemmas.{out_is, behind-none}
@@ -43,9 +43,9 @@ text_heard InputFull final old new heard wrote = wrote
 text_heard NoMemory final old new heard wrote = wrote
 
 -- the last logout was asked, and its answer written or not
-pub Finishes-heard : {D T E : Type 0} (follows : Following D) (how : How) (put : Result T E) (d e : D) (reading reading' : Reading) (old new : SessionView) → (how ≡ SinkFault → ⊥) → is_out reading ≡ false →
-    ServesItem follows (Ask Logout) put (standing d reading old) (standing e reading' new) → OnErr put (Rose old.faults new.faults) → old.faults ≤ new.faults → Finishes follows how d e reading old new
-Finishes-heard follows how put d e reading reading' old new heard going serves cause later = record {
+pub Finishes-heard : {D T E : Type 0} (follows : Following D) (syncs : Syncing D) (how : How) (put : Result T E) (d e : D) (reading reading' : Reading) (old new : SessionView) → (how ≡ SinkFault → ⊥) → is_out reading ≡ false →
+    ServesItem follows syncs (Ask Logout) put (standing d reading old) (standing e reading' new) → OnErr put (Rose old.faults new.faults) → old.faults ≤ new.faults → Finishes follows syncs how d e reading old new
+Finishes-heard follows syncs how put d e reading reading' old new heard going serves cause later = record {
   final = serves.exchange ∷ [];
   logs_out = logs_out reading serves.exchange going serves.is_item;
   turns = serves.turns;
@@ -54,11 +54,11 @@ Finishes-heard follows how put d e reading reading' old new heard going serves c
 }
 
 -- a session that is logged out already
-pub Finishes-none : {D : Type 0} (follows : Following D) (how : How) (d : D) (reading : Reading) (view : SessionView) → is_out reading ≡ true → Finishes follows how d d reading view view
-Finishes-none follows how d reading view out = record {
+pub Finishes-none : {D : Type 0} (follows : Following D) (syncs : Syncing D) (how : How) (d : D) (reading : Reading) (view : SessionView) → is_out reading ≡ true → Finishes follows syncs how d d reading view view
+Finishes-none follows syncs how d reading view out = record {
   final = [];
   logs_out = subst (λ r. LogsOut r []) (sym (out_is reading out)) refl;
-  turns = Turns-none follows d view;
+  turns = Turns-none follows syncs d view;
   text = by how;
   later = omega arith;
 }
@@ -111,9 +111,9 @@ input_of lines reading how limit count ahead None None (Some now) so_many is inp
 input_of lines reading how limit count ahead (Some before) (Some left) None so_many is input = absurd (none-some _ (sym is))
 
 -- a session, from all but its last logout and that
-pub IsSession-of : {D : Type 0} (follows : Following D) (limit : ℕ) (how : How) (source source' : Option (List ℕ)) (feed : LinesView) (ahead : List ℕ) (d m e : D) (reading : Reading) (old mid new : SessionView) →
-    Ends follows limit how source d old feed (standing m reading mid) → Finishes follows how m e reading mid new → length ahead ≡ feed.ahead → feed.left ≡ onto ahead source' → old.faults ≤ mid.faults → IsTranscript follows limit how (side source d old) (side source' e new)
-IsSession-of follows limit how source source' feed ahead d m e reading old mid new ends finishes so_many is later = record {
+pub IsSession-of : {D : Type 0} (follows : Following D) (syncs : Syncing D) (limit : ℕ) (how : How) (source source' : Option (List ℕ)) (feed : LinesView) (ahead : List ℕ) (d m e : D) (reading : Reading) (old mid new : SessionView) →
+    Ends follows syncs limit how source d old feed (standing m reading mid) → Finishes follows syncs how m e reading mid new → length ahead ≡ feed.ahead → feed.left ≡ onto ahead source' → old.faults ≤ mid.faults → IsTranscript follows syncs limit how (side source d old) (side source' e new)
+IsSession-of follows syncs limit how source source' feed ahead d m e reading old mid new ends finishes so_many is later = record {
   lines = ends.lines;
   asked = ends.asked;
   final = finishes.final;
@@ -121,7 +121,7 @@ IsSession-of follows limit how source source' feed ahead d m e reading old mid n
   reads = ends.reads;
   input = input_of ends.lines reading how limit feed.ahead ahead source feed.left source' so_many is ends.input;
   logs_out = finishes.logs_out;
-  turns = Turns-then follows ends.asked finishes.final d m e old mid new ends.turns finishes.turns;
+  turns = Turns-then follows syncs ends.asked finishes.final d m e old mid new ends.turns finishes.turns;
   texts = texts_of how ends.asked finishes.final old mid new ends.texts finishes.text later finishes.later;
 }
 
@@ -131,9 +131,9 @@ view_same a b coming held faults turns =
     ∙ ap (λ x. record { coming = b.coming; held = b.held; faults = x; turns = a.turns }) faults ∙ ap (λ x. record { coming = b.coming; held = b.held; faults = b.faults; turns = x }) turns
 
 -- the same session, of views that are the same
-pub IsSession-same : {D : Type 0} (follows : Following D) (limit limit' : ℕ) (how : How) (source given source' : Option (List ℕ)) (d e : D) (old old' new new' : SessionView) → limit ≡ limit' → source ≡ given →
+pub IsSession-same : {D : Type 0} (follows : Following D) (syncs : Syncing D) (limit limit' : ℕ) (how : How) (source given source' : Option (List ℕ)) (d e : D) (old old' new new' : SessionView) → limit ≡ limit' → source ≡ given →
     old.coming ≡ old'.coming → old.held ≡ old'.held → old.faults ≡ old'.faults → old.turns ≡ old'.turns → new.coming ≡ new'.coming → new.held ≡ new'.held → new.faults ≡ new'.faults → new.turns ≡ new'.turns →
-    IsTranscript follows limit how (side source d old) (side source' e new) → IsTranscript follows limit' how (side given d old') (side source' e new')
-IsSession-same follows limit limit' how source given source' d e old old' new new' is is' a b c f a' b' c' f' session =
-    subst (λ l. IsTranscript follows l how (side given d old') (side source' e new')) is (subst (λ s. IsTranscript follows limit how (side s d old') (side source' e new')) is'
-    (subst (λ v. IsTranscript follows limit how (side source d v) (side source' e new')) (view_same old old' a b c f) (subst (λ v. IsTranscript follows limit how (side source d old) (side source' e v)) (view_same new new' a' b' c' f') session)))
+    IsTranscript follows syncs limit how (side source d old) (side source' e new) → IsTranscript follows syncs limit' how (side given d old') (side source' e new')
+IsSession-same follows syncs limit limit' how source given source' d e old old' new new' is is' a b c f a' b' c' f' session =
+    subst (λ l. IsTranscript follows syncs l how (side given d old') (side source' e new')) is (subst (λ s. IsTranscript follows syncs limit how (side s d old') (side source' e new')) is'
+    (subst (λ v. IsTranscript follows syncs limit how (side source d v) (side source' e new')) (view_same old old' a b c f) (subst (λ v. IsTranscript follows syncs limit how (side source d old) (side source' e v)) (view_same new new' a' b' c' f') session)))

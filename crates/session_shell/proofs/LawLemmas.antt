@@ -29,10 +29,12 @@ use Rattle.session_shell.specs.declared.turn.How.{How}
 use Rattle.session_shell.specs.declared.turn.How.TheVariants.{Clean, InputFull}
 use Rattle.session_shell.specs.declared.door.Given0.{Given0}
 use Rattle.session_shell.specs.declared.door.Given0.TheVariants as given
+use Rattle.session_shell.specs.declared.door.SyncedTurn.{SyncedTurn}
+use Rattle.session_shell.specs.declared.door.SyncedTurn.TheVariants as sync
 use Rattle.session_shell.specs.declared.json_show.Manner.{Manner}
-use Rattle.session_shell.specs.declared.json_show.Manner.TheVariants.{Plain, Json, Dry, NoJson}
+use Rattle.session_shell.specs.declared.json_show.Manner.TheVariants.{Plain, Json, Dry, NoJson, Synchronized, NoCommit}
 use Rattle.session_shell.specs.declared.reading.Item.{Item}
-use Rattle.session_shell.specs.declared.reading.Item.TheVariants.{Ask, ShowJson, Wrong}
+use Rattle.session_shell.specs.declared.reading.Item.TheVariants.{Ask, Synchronize, ShowJson, Wrong}
 use Rattle.session_shell.specs.declared.reading.Item.TheVariants as item
 use Rattle.session_shell.specs.declared.reading.Reading.{Reading}
 use Rattle.session_shell.specs.declared.reading.Reading.TheVariants.{Operational, Configuring, Collecting, Spoilt, Out}
@@ -40,36 +42,46 @@ use Rattle.session_shell.specs.Exchange.{Basis, Exchange, Asked, Failure, Lack, 
 use Rattle.session_shell.specs.Items.{ComesOf, Continues, Ended, EndsText, EndsJson, IsLoadOf, ReadsLine, CommandLine, ReadsThrough, SaysLoad, asked_by, is_end_of_text, with_line}
 use Rattle.session_shell.specs.Json.{IsJsonOf, MayBeWritten}
 use Rattle.session_shell.specs.Cut.{lines_read}
-use Rattle.session_shell.specs.Transcript.{AnswersAre, EndsBy, Following, GoesBy, IsInput, LogsOut, Naming, SessionView, TakesAnswers, Texts, WroteTexts}
-use Rattle.session_shell.specs.Law.{Agree, IsDetermined, IsNamed, IsShown, SeeAlike, Undisturbed, basis_at, is_wanting, kept_place, turn_basis}
-use Rattle.session_shell.specs.Shows.{SeesShow, whole_show}
+use Rattle.session_shell.specs.Transcript.{AnswersAre, EndsBy, Following, GoesBy, IsInput, LogsOut, Naming, SessionView, SyncsBy, Syncing, TakesAnswers, Texts, WroteTexts}
+use Rattle.session_shell.specs.Law.{Agree, IsDetermined, IsNamed, IsShown, SeeAlike, Undisturbed, basis_at, is_wanting, kept_place, synced_in, turn_basis}
+use Rattle.session_shell.specs.Shows.{SeesShow, is_committed, whole_show}
 use Rattle.session_shell.proofs.TurnLemmas.{flat_map_over_append}
 use Rattle.session_shell.proofs.TakeLemmas.{not_full}
 
-module _ {D : Type 0} (names : Naming D) (follows : Following D)
+module _ {D : Type 0} (names : Naming D) (follows : Following D) (syncs : Syncing D)
     (named : (d e : D) (command : Command) (moment : ℕ) (given : Given0) → follows d command moment given e → names e command moment given)
-    (keeps : (d e : D) (command : Command) (moment : ℕ) (given : Given0) → follows d command moment given e → (asked : Command) (when : ℕ) (was : Given0) → names d asked when was → names e asked when was) where
-  kept : (exchanges : List Exchange) (d e : D) → GoesBy follows exchanges d e → (asked : Command) (when : ℕ) (was : Given0) → names d asked when was → names e asked when was
+    (keeps : (d e : D) (command : Command) (moment : ℕ) (given : Given0) → follows d command moment given e → (asked : Command) (when : ℕ) (was : Given0) → names d asked when was → names e asked when was)
+    (keeps_synced : (d e : D) (synced : SyncedTurn) → syncs d synced e → (asked : Command) (when : ℕ) (was : Given0) → names d asked when was → names e asked when was) where
+  -- what was named stays, whether the door was synchronized or not
+  sync_keeps : (manner : Manner) (d e : D) → SyncsBy syncs manner d e → (asked : Command) (when : ℕ) (was : Given0) → names d asked when was → names e asked when was
+  sync_keeps (Synchronized synced) d e went asked when was is = keeps_synced d e synced went asked when was is
+  sync_keeps Plain d e went asked when was is = subst (λ x. names x asked when was) (sym went) is
+  sync_keeps (Json text) d e went asked when was is = subst (λ x. names x asked when was) (sym went) is
+  sync_keeps Dry d e went asked when was is = subst (λ x. names x asked when was) (sym went) is
+  sync_keeps NoJson d e went asked when was is = subst (λ x. names x asked when was) (sym went) is
+  sync_keeps NoCommit d e went asked when was is = subst (λ x. names x asked when was) (sym went) is
+
+  kept : (exchanges : List Exchange) (d e : D) → GoesBy follows syncs exchanges d e → (asked : Command) (when : ℕ) (was : Given0) → names d asked when was → names e asked when was
   kept [] d e goes asked when was is = subst (λ x. names x asked when was) (sym goes) is
-  kept (Asked moment command given manner ∷ exchanges) d e goes asked when was is = kept exchanges goes.0 e goes.2 asked when was (keeps d goes.0 command moment given goes.1 asked when was is)
+  kept (Asked moment command given manner ∷ exchanges) d e goes asked when was is = kept exchanges goes.2 e goes.4 asked when was (sync_keeps manner goes.0 goes.2 goes.3 asked when was (keeps d goes.0 command moment given goes.1 asked when was is))
   kept (Refused moment fault ∷ exchanges) d e goes asked when was is = kept exchanges d e goes asked when was is
   kept (Wanted moment ∷ exchanges) d e goes asked when was is = kept exchanges d e goes asked when was is
 
-  pub all_named : (exchanges : List Exchange) (d e : D) → GoesBy follows exchanges d e → AllByRecursion (IsNamed names e) exchanges
+  pub all_named : (exchanges : List Exchange) (d e : D) → GoesBy follows syncs exchanges d e → AllByRecursion (IsNamed names e) exchanges
   all_named [] d e goes = tt
-  all_named (Asked moment command given manner ∷ exchanges) d e goes = (kept exchanges goes.0 e goes.2 command moment given (named d goes.0 command moment given goes.1), all_named exchanges goes.0 e goes.2)
+  all_named (Asked moment command given manner ∷ exchanges) d e goes = (kept exchanges goes.2 e goes.4 command moment given (sync_keeps manner goes.0 goes.2 goes.3 command moment given (named d goes.0 command moment given goes.1)), all_named exchanges goes.2 e goes.4)
   all_named (Refused moment fault ∷ exchanges) d e goes = (tt, all_named exchanges d e goes)
   all_named (Wanted moment ∷ exchanges) d e goes = (tt, all_named exchanges d e goes)
 
 -- what was answered from a snapshot was a show
-pub all_shown : {D : Type 0} (follows : Following D)
+pub all_shown : {D : Type 0} (follows : Following D) (syncs : Syncing D)
     (shows : (d e : D) (command : Command) (moment : ℕ) (given : Given0) → follows d command moment given e → SeesShow command given)
-    (exchanges : List Exchange) (d e : D) → GoesBy follows exchanges d e → AllByRecursion IsShown exchanges
-all_shown follows shows [] d e goes = tt
-all_shown follows shows (Asked moment command given manner ∷ exchanges) d e goes =
-    (shows d goes.0 command moment given goes.1, all_shown follows shows exchanges goes.0 e goes.2)
-all_shown follows shows (Refused moment fault ∷ exchanges) d e goes = (tt, all_shown follows shows exchanges d e goes)
-all_shown follows shows (Wanted moment ∷ exchanges) d e goes = (tt, all_shown follows shows exchanges d e goes)
+    (exchanges : List Exchange) (d e : D) → GoesBy follows syncs exchanges d e → AllByRecursion IsShown exchanges
+all_shown follows syncs shows [] d e goes = tt
+all_shown follows syncs shows (Asked moment command given manner ∷ exchanges) d e goes =
+    (shows d goes.0 command moment given goes.1, all_shown follows syncs shows exchanges goes.2 e goes.4)
+all_shown follows syncs shows (Refused moment fault ∷ exchanges) d e goes = (tt, all_shown follows syncs shows exchanges d e goes)
+all_shown follows syncs shows (Wanted moment ∷ exchanges) d e goes = (tt, all_shown follows syncs shows exchanges d e goes)
 
 head_is : {A : Type 0} {x y : A} {xs ys : List A} → x ∷ xs ≡ y ∷ ys → x ≡ y
 head_is {A} {x} is = ap (λ l. elim l [ [] ↦ x | a ∷ _ ↦ a ]) is
@@ -84,26 +96,25 @@ some_is : {A : Type 0} {x y : A} → Some x ≡ Some y → x ≡ y
 some_is {A} {x} is = ap (λ o. elim o [ None ↦ x | Some a ↦ a ]) is
 
 pub command_is : (one other : Command) → Ask one ≡ Ask other → one ≡ other
-command_is one other is = ap (λ i. elim i [ Ask r ↦ r | ShowJson ↦ one | Wrong f ↦ one | item.NoMemory ↦ one ]) is
+command_is one other is = ap (λ i. elim i [ Ask r ↦ r | Synchronize r ↦ one | ShowJson ↦ one | Wrong f ↦ one | item.NoMemory ↦ one ]) is
+
+synced_is : (one other : Command) → Synchronize one ≡ Synchronize other → one ≡ other
+synced_is one other is = ap (λ i. elim i [ Ask r ↦ one | Synchronize r ↦ r | ShowJson ↦ one | Wrong f ↦ one | item.NoMemory ↦ one ]) is
 
 pub fault_is : (one other : ShellFault) → Wrong one ≡ Wrong other → one ≡ other
-fault_is one other is = ap (λ i. elim i [ Ask r ↦ one | ShowJson ↦ one | Wrong f ↦ f | item.NoMemory ↦ one ]) is
+fault_is one other is = ap (λ i. elim i [ Ask r ↦ one | Synchronize r ↦ one | ShowJson ↦ one | Wrong f ↦ f | item.NoMemory ↦ one ]) is
 
 -- an item asks something
 abbrev is_asking : Item → Bool
 is_asking (Ask command) = true
+is_asking (Synchronize command) = true
 is_asking ShowJson = true
 is_asking (Wrong fault) = false
 is_asking item.NoMemory = false
 
-abbrev is_show : Item → Bool
-is_show (Ask command) = false
-is_show ShowJson = true
-is_show (Wrong fault) = false
-is_show item.NoMemory = false
-
 abbrev is_wrong : Item → Bool
 is_wrong (Ask command) = false
+is_wrong (Synchronize command) = false
 is_wrong ShowJson = false
 is_wrong (Wrong fault) = true
 is_wrong item.NoMemory = false
@@ -114,29 +125,32 @@ item_wrong Plain command fault is = false≢true (sym (ap is_asking is))
 item_wrong (Json text) command fault is = false≢true (sym (ap is_asking is))
 item_wrong Dry command fault is = false≢true (sym (ap is_asking is))
 item_wrong NoJson command fault is = false≢true (sym (ap is_asking is))
+item_wrong (Synchronized synced) command fault is = false≢true (sym (ap is_asking is))
+item_wrong NoCommit command fault is = false≢true (sym (ap is_asking is))
 
 item_wanting : (manner : Manner) (command : Command) → asked_item manner command ≡ item.NoMemory → ⊥
 item_wanting Plain command is = false≢true (sym (ap is_asking is))
 item_wanting (Json text) command is = false≢true (sym (ap is_asking is))
 item_wanting Dry command is = false≢true (sym (ap is_asking is))
 item_wanting NoJson command is = false≢true (sym (ap is_asking is))
-
--- a command's own item is no JSON show
-ask_show : (command : Command) → Ask command ≡ ShowJson → ⊥
-ask_show command is = false≢true (ap is_show is)
+item_wanting (Synchronized synced) command is = false≢true (sym (ap is_asking is))
+item_wanting NoCommit command is = false≢true (sym (ap is_asking is))
 
 -- the command for which an item stands
 asks_it : (manner : Manner) (command asked : Command) → asked_item manner command ≡ Ask asked → command ≡ asked
 asks_it Plain command asked is = command_is command asked is
-asks_it (Json text) command asked is = absurd (ask_show asked (sym is))
-asks_it Dry command asked is = absurd (ask_show asked (sym is))
-asks_it NoJson command asked is = absurd (ask_show asked (sym is))
+asks_it manner command asked is = absurd cc
+
+syncs_it : (manner : Manner) (command asked : Command) → asked_item manner command ≡ Synchronize asked → command ≡ asked
+syncs_it (Synchronized synced) command asked is = synced_is command asked is
+syncs_it NoCommit command asked is = synced_is command asked is
+syncs_it manner command asked is = absurd cc
 
 shows_whole : (manner : Manner) (command : Command) (given : Given0) → asked_item manner command ≡ ShowJson → MayBeWritten command given manner → command ≡ whole_show
-shows_whole Plain command given is written = absurd (ask_show command is)
 shows_whole (Json text) command given is written = written.0
 shows_whole Dry command given is written = written.0
 shows_whole NoJson command given is written = written.0
+shows_whole manner command given is written = absurd cc
 
 -- so the same item is one command
 pub command_once : (manner manner' : Manner) (command command' : Command) (given given' : Given0) → asked_item manner command ≡ asked_item manner' command' → MayBeWritten command given manner → MayBeWritten command' given' manner' → command ≡ command'
@@ -144,6 +158,8 @@ command_once Plain manner' command command' given given' is w w' = sym (asks_it 
 command_once (Json text) manner' command command' given given' is w w' = w.0 ∙ sym (shows_whole manner' command' given' (sym is) w')
 command_once Dry manner' command command' given given' is w w' = w.0 ∙ sym (shows_whole manner' command' given' (sym is) w')
 command_once NoJson manner' command command' given given' is w w' = w.0 ∙ sym (shows_whole manner' command' given' (sym is) w')
+command_once (Synchronized synced) manner' command command' given given' is w w' = sym (syncs_it manner' command' command (sym is))
+command_once NoCommit manner' command command' given given' is w w' = sym (syncs_it manner' command' command (sym is))
 
 -- a line has one reading, a JSON text one answer, and a curly text is that of one configuration
 pub record Once : Type 0 where
@@ -163,22 +179,41 @@ json_once : Once → (curly one other : List ℕ) → IsJsonOf curly one → IsJ
 json_once once curly one other is is' =
     is.is ∙ ap (λ m. compact_text (json_of m) ++ 10 ∷ []) (once.printed_is is.statements is'.statements is.tree is'.tree (sym is.shown ∙ is'.shown)) ∙ sym is'.is
 
--- how what was given is written for an item is one, where memory wasn't wanting
-pub manner_once : Once → (manner manner' : Manner) (command command' : Command) (given : Given0) → asked_item manner command ≡ asked_item manner' command' → MayBeWritten command given manner → MayBeWritten command' given manner' → is_dry manner ≡ false → is_dry manner' ≡ false → manner ≡ manner'
-manner_once once Dry manner' command command' given is w w' wet wet' = absurd (false≢true (sym wet))
-manner_once once Plain Plain command command' given is w w' wet wet' = refl
-manner_once once Plain (Json text') command command' given is w w' wet wet' = absurd (ask_show command is)
-manner_once once Plain Dry command command' given is w w' wet wet' = absurd (ask_show command is)
-manner_once once Plain NoJson command command' given is w w' wet wet' = absurd (ask_show command is)
-manner_once once (Json text) Plain command command' given is w w' wet wet' = absurd (ask_show command' (sym is))
-manner_once once (Json text) (Json text') command command' given is w w' wet wet' =
+-- an answer to `synchronize` as a list
+abbrev pub sync_given : Manner → List SyncedTurn
+sync_given Plain = []
+sync_given (Json text) = []
+sync_given Dry = []
+sync_given NoJson = []
+sync_given (Synchronized synced) = synced ∷ []
+sync_given NoCommit = []
+
+-- the same item, for which the same was given, is synchronized or isn't; so where the answers are the same, the first ones are
+pub sync_once : (manner manner' : Manner) (command command' : Command) (given : Given0) (more more' : List SyncedTurn) → asked_item manner command ≡ asked_item manner' command' → MayBeWritten command given manner → MayBeWritten command' given manner'
+    → sync_given manner ++ more ≡ sync_given manner' ++ more' → (sync_given manner ≡ sync_given manner') × (more ≡ more')
+sync_once (Synchronized synced) (Synchronized synced') command command' given more more' is w w' same = (ap (λ s. s ∷ []) (head_is same), tail_is same)
+sync_once (Synchronized synced) NoCommit command command' given more more' is w w' same = absurd (false≢true (sym w' ∙ w))
+sync_once NoCommit (Synchronized synced') command command' given more more' is w w' same = absurd (false≢true (sym w ∙ w'))
+sync_once (Synchronized synced) manner' command command' given more more' is w w' same = absurd cc
+sync_once manner (Synchronized synced') command command' given more more' is w w' same = absurd cc
+sync_once manner manner' command command' given more more' is w w' same = (refl, same)
+
+-- how what was given is written for an item is one, where memory wasn't wanting and the answers to `synchronize` are the same
+pub manner_once : Once → (manner manner' : Manner) (command command' : Command) (given : Given0) → asked_item manner command ≡ asked_item manner' command' → MayBeWritten command given manner → MayBeWritten command' given manner' → is_dry manner ≡ false → is_dry manner' ≡ false
+    → sync_given manner ≡ sync_given manner' → manner ≡ manner'
+manner_once once Dry manner' command command' given is w w' wet wet' synced = absurd (false≢true (sym wet))
+manner_once once manner Dry command command' given is w w' wet wet' synced = absurd (false≢true (sym wet'))
+manner_once once Plain Plain command command' given is w w' wet wet' synced = refl
+manner_once once (Json text) (Json text') command command' given is w w' wet wet' synced =
     ap Json (json_once once w.1.curly text text' w.1.is_json (subst (λ c. IsJsonOf c text') (some_is (sym w'.1.shown ∙ w.1.shown)) w'.1.is_json))
-manner_once once (Json text) Dry command command' given is w w' wet wet' = absurd (false≢true (sym wet'))
-manner_once once (Json text) NoJson command command' given is w w' wet wet' = absurd (none-some w.1.curly (sym w'.1 ∙ w.1.shown))
-manner_once once NoJson Plain command command' given is w w' wet wet' = absurd (ask_show command' (sym is))
-manner_once once NoJson (Json text') command command' given is w w' wet wet' = absurd (none-some w'.1.curly (sym w.1 ∙ w'.1.shown))
-manner_once once NoJson Dry command command' given is w w' wet wet' = absurd (false≢true (sym wet'))
-manner_once once NoJson NoJson command command' given is w w' wet wet' = refl
+manner_once once (Json text) NoJson command command' given is w w' wet wet' synced = absurd (none-some w.1.curly (sym w'.1 ∙ w.1.shown))
+manner_once once NoJson (Json text') command command' given is w w' wet wet' synced = absurd (none-some w'.1.curly (sym w.1 ∙ w'.1.shown))
+manner_once once NoJson NoJson command command' given is w w' wet wet' synced = refl
+manner_once once (Synchronized synced) (Synchronized synced') command command' given is w w' wet wet' same = ap Synchronized (head_is same)
+manner_once once (Synchronized synced) NoCommit command command' given is w w' wet wet' same = absurd (false≢true (sym w' ∙ w))
+manner_once once NoCommit (Synchronized synced') command command' given is w w' wet wet' same = absurd (false≢true (sym w ∙ w'))
+manner_once once NoCommit NoCommit command command' given is w w' wet wet' same = refl
+manner_once once manner manner' command command' given is w w' wet wet' synced = absurd cc
 
 -- the place of an event as a list
 abbrev pub places_in : Given0 → List ℕ
@@ -187,11 +222,12 @@ places_in given = []
 
 -- the turn of what was given has its place, or rests on the same, whether memory was wanting for JSON or not
 turn_place : (manner : Manner) (moment : ℕ) (gave : Given0) → kept_place (turn_of_given manner moment gave) ≡ places_in gave
-turn_place manner moment (given.Kept place reply) = by (is_dry manner)
+turn_place manner moment (given.Kept place reply) = by manner
   where
-    by : (dry : Bool) → kept_place (kept_turn dry place) ≡ place ∷ []
-    by true = refl
-    by false = refl
+    by : (manner : Manner) → kept_place (kept_turn manner place) ≡ place ∷ []
+    by Dry = refl
+    by (Synchronized synced) = refl
+    by manner = refl
 turn_place manner moment (given.Seen front reply) = by (is_dry manner)
   where
     by : (dry : Bool) → kept_place (seen_turn dry front moment) ≡ []
@@ -202,11 +238,12 @@ turn_place manner moment (given.Unready front) = refl
 turn_place manner moment given.NoMemory = refl
 
 pub turn_rests : (manner : Manner) (moment : ℕ) (gave : Given0) → turn_basis (turn_of_given manner moment gave) ≡ basis_of gave
-turn_rests manner moment (given.Kept place reply) = by (is_dry manner)
+turn_rests manner moment (given.Kept place reply) = by manner
   where
-    by : (dry : Bool) → turn_basis (kept_turn dry place) ≡ None
-    by true = refl
-    by false = refl
+    by : (manner : Manner) → turn_basis (kept_turn manner place) ≡ None
+    by Dry = refl
+    by (Synchronized synced) = refl
+    by manner = refl
 turn_rests manner moment (given.Seen front reply) = by (is_dry manner)
   where
     by : (dry : Bool) → turn_basis (seen_turn dry front moment) ≡ Some (Snapshot front)
@@ -215,6 +252,27 @@ turn_rests manner moment (given.Seen front reply) = by (is_dry manner)
 turn_rests manner moment (given.Denied front right) = refl
 turn_rests manner moment (given.Unready front) = refl
 turn_rests manner moment given.NoMemory = refl
+
+-- the turn has the answer to `synchronize`, where there was one
+kept_synced : (manner : Manner) (place : ℕ) → synced_in (kept_turn manner place) ≡ sync_given manner
+kept_synced Dry place = refl
+kept_synced (Synchronized synced) place = refl
+kept_synced manner place = refl
+
+not_synced : (manner : Manner) (command : Command) (gave : Given0) → is_committed gave ≡ false → MayBeWritten command gave manner → [] ≡ sync_given manner
+not_synced (Synchronized synced) command gave none written = absurd (false≢true (sym none ∙ written))
+not_synced manner command gave none written = refl
+
+pub turn_synced : (manner : Manner) (command : Command) (moment : ℕ) (gave : Given0) → MayBeWritten command gave manner → synced_in (turn_of_given manner moment gave) ≡ sync_given manner
+turn_synced manner command moment (given.Kept place reply) written = kept_synced manner place
+turn_synced manner command moment (given.Seen front reply) written = by (is_dry manner) ∙ not_synced manner command (given.Seen front reply) refl written
+  where
+    by : (dry : Bool) → synced_in (seen_turn dry front moment) ≡ []
+    by true = refl
+    by false = refl
+turn_synced manner command moment (given.Denied front right) written = not_synced manner command (given.Denied front right) refl written
+turn_synced manner command moment (given.Unready front) written = not_synced manner command (given.Unready front) refl written
+turn_synced manner command moment given.NoMemory written = not_synced manner command given.NoMemory refl written
 
 -- snapshots of as many entries are one basis
 pub same_front : (front front' : ℕ) → Some (Snapshot front) ≡ Some (Snapshot front') → front ≡ front'
@@ -260,6 +318,8 @@ pub not_dry : (manner : Manner) (command : Command) (moment : ℕ) (gave : Given
 not_dry Plain command moment gave written want = refl
 not_dry (Json text) command moment gave written want = refl
 not_dry NoJson command moment gave written want = refl
+not_dry (Synchronized synced) command moment gave written want = refl
+not_dry NoCommit command moment gave written want = refl
 not_dry Dry command moment (given.Kept place reply) written want = absurd (false≢true (sym want))
 not_dry Dry command moment (given.Seen front reply) written want = absurd (false≢true (sym want))
 not_dry Dry command moment (given.Denied front right) written want = absurd (false≢true written.1)
@@ -449,8 +509,8 @@ input_is : (lines : List Line) (reading : Reading) (how : How) (limit : ℕ) (by
 input_is lines reading how limit bytes (Some now) input = (input.rest, input.first.are, input.ends)
 input_is lines reading how limit bytes None input = absurd input
 
-module _ {D : Type 0} (follows : Following D) (once : Once) (limit : ℕ) (bytes : List ℕ) (coming : ℕ → ℕ) (d e d' e' : D) (one other : SessionView)
-    (first : Undisturbed follows limit bytes coming d e one) (second : Undisturbed follows limit bytes coming d' e' other) where
+module _ {D : Type 0} (follows : Following D) (syncs : Syncing D) (once : Once) (limit : ℕ) (bytes : List ℕ) (coming : ℕ → ℕ) (d e d' e' : D) (one other : SessionView)
+    (first : Undisturbed follows syncs limit bytes coming d e one) (second : Undisturbed follows syncs limit bytes coming d' e' other) where
   abbrev pub all_of : List Exchange
   all_of = first.session.asked ++ first.session.final
 
@@ -505,30 +565,27 @@ module _ {D : Type 0} (follows : Following D) (once : Once) (limit : ℕ) (bytes
 record AtPlaces {D : Type 0} (names : Naming D) (d e : D) (xs ys : List Exchange) : Type 0 where
   pub places : flat_map kept_place (map turn_taken xs) ≡ flat_map kept_place (map turn_taken ys)
   pub seen : SeeAlike (map turn_taken xs) (map turn_taken ys)
+  pub synced : flat_map synced_in (map turn_taken xs) ≡ flat_map synced_in (map turn_taken ys)
   pub named : AllByRecursion (IsNamed names d) xs
   pub named' : AllByRecursion (IsNamed names e) ys
   pub written : AllByRecursion IsWrittenIn xs
   pub written' : AllByRecursion IsWrittenIn ys
 
--- the same item at the same moment, for which the same was given
+-- the same item at the same moment, for which the same was given, and with the same answer to `synchronize`
 pub asked_is : Once → (moment moment' : ℕ) (command command' : Command) (given given' : Given0) (manner manner' : Manner) → moment ≡ moment' → asked_item manner command ≡ asked_item manner' command' → given ≡ given'
-    → MayBeWritten command given manner → MayBeWritten command' given' manner' → is_dry manner ≡ false → is_dry manner' ≡ false → Asked moment command given manner ≡ Asked moment' command' given' manner'
-asked_is once moment moment' command command' given given' manner manner' when item same w w' wet wet' =
+    → MayBeWritten command given manner → MayBeWritten command' given' manner' → is_dry manner ≡ false → is_dry manner' ≡ false → sync_given manner ≡ sync_given manner' → Asked moment command given manner ≡ Asked moment' command' given' manner'
+asked_is once moment moment' command command' given given' manner manner' when item same w w' wet wet' synced =
     let which : command ≡ command' = command_once manner manner' command command' given given' item w w' in
-    let how : manner ≡ manner' = manner_once once manner manner' command command' given' item (subst (λ g. MayBeWritten command g manner) same w) w' wet wet' in
+    let how : manner ≡ manner' = manner_once once manner manner' command command' given' item (subst (λ g. MayBeWritten command g manner) same w) w' wet wet' synced in
     ap (λ m. Asked m command given manner) when ∙ ap (λ x. Asked moment' x given manner) which ∙ ap (λ g. Asked moment' command' g manner) same ∙ ap (Asked moment' command' given') how
 
 module _ {D : Type 0} (names : Naming D) (d e : D) (agree : Agree names d e) (once : Once) where
-  -- the same item at the same moment came to the same, where the place and the basis are
-  asked_same : (moment moment' : ℕ) (command command' : Command) (given given' : Given0) (manner manner' : Manner) → asked_item manner command ≡ asked_item manner' command' → moment ≡ moment'
-      → MayBeWritten command given manner → MayBeWritten command' given' manner' → is_wanting (turn_of_given manner moment given) ≡ false → is_wanting (turn_of_given manner' moment' given') ≡ false
-      → names d command moment given → names e command' moment' given' → place_of given ≡ place_of given' → basis_of given ≡ basis_of given'
-      → Asked moment command given manner ≡ Asked moment' command' given' manner'
-  asked_same moment moment' command command' given given' manner manner' item when w w' want want' named named' place basis =
-      let which : command ≡ command' = command_once manner manner' command command' given given' item w w' in
+  -- for the same item at the same moment the same was given, where the place and the basis are
+  given_same : (moment moment' : ℕ) (command command' : Command) (given given' : Given0) → command ≡ command' → moment ≡ moment' → names d command moment given → names e command' moment' given' → place_of given ≡ place_of given' → basis_of given ≡ basis_of given' → given ≡ given'
+  given_same moment moment' command command' given given' which when named named' place basis =
       let there : names e command moment given' =
       subst (λ m. names e command m given') (sym when) (subst (λ x. names e x moment' given') (sym which) named') in
-      asked_is once moment moment' command command' given given' manner manner' when item (agree command moment given given' named there place basis) w w' (not_dry manner command moment given w want) (not_dry manner' command' moment' given' w' want')
+      agree command moment given given' named there place basis
 
   peels_places : Peels (AtPlaces names d e)
   peels_places (Asked moment command given manner) (Asked moment' command' given' manner') xs ys item when want want' at =
@@ -538,13 +595,20 @@ module _ {D : Type 0} (names : Naming D) (d e : D) (agree : Agree names d e) (on
       let places : (place_of given ≡ place_of given') × (more ≡ more') =
       same_place given given' more more' basis
       (ap (λ l. l ++ more) (sym (turn_place manner moment given)) ∙ at.places ∙ ap (λ l. l ++ more') (turn_place manner' moment' given'))
-      (place_or_basis given (given_some manner moment given want)) (place_or_basis given' (given_some manner' moment' given' want')) in (
-        asked_same moment moment' command command' given given' manner manner' item when at.written.0 at.written'.0 want want' at.named.0 at.named'.0 places.0 basis,
-        record { places = places.1; seen = λ number. at.seen (suc number); named = at.named.1; named' = at.named'.1; written = at.written.1; written' = at.written'.1 },
+      (place_or_basis given (given_some manner moment given want)) (place_or_basis given' (given_some manner' moment' given' want')) in
+      let which : command ≡ command' = command_once manner manner' command command' given given' item at.written.0 at.written'.0 in
+      let same : given ≡ given' = given_same moment moment' command command' given given' which when at.named.0 at.named'.0 places.0 basis in
+      let told : List SyncedTurn = flat_map synced_in (map turn_taken xs) in
+      let told' : List SyncedTurn = flat_map synced_in (map turn_taken ys) in
+      let synced : (sync_given manner ≡ sync_given manner') × (told ≡ told') =
+      sync_once manner manner' command command' given' told told' item (subst (λ g. MayBeWritten command g manner) same at.written.0) at.written'.0
+      (ap (λ l. l ++ told) (sym (turn_synced manner command moment given at.written.0)) ∙ at.synced ∙ ap (λ l. l ++ told') (turn_synced manner' command' moment' given' at.written'.0)) in (
+        asked_is once moment moment' command command' given given' manner manner' when item same at.written.0 at.written'.0 (not_dry manner command moment given at.written.0 want) (not_dry manner' command' moment' given' at.written'.0 want') synced.0,
+        record { places = places.1; seen = λ number. at.seen (suc number); synced = synced.1; named = at.named.1; named' = at.named'.1; written = at.written.1; written' = at.written'.1 },
       )
   peels_places (Refused moment fault) (Refused moment' fault') xs ys item when want want' at = (
     ap (λ m. Refused m fault) when ∙ ap (Refused moment') (fault_is fault fault' item),
-    record { places = at.places; seen = λ number. at.seen (suc number); named = at.named.1; named' = at.named'.1; written = at.written.1; written' = at.written'.1 },
+    record { places = at.places; seen = λ number. at.seen (suc number); synced = at.synced; named = at.named.1; named' = at.named'.1; written = at.written.1; written' = at.written'.1 },
   )
   peels_places (Asked moment command given manner) (Refused moment' fault') xs ys item when want want' at = absurd (item_wrong manner command fault' item)
   peels_places (Refused moment fault) (Asked moment' command' given' manner') xs ys item when want want' at = absurd (item_wrong manner' command' fault (sym item))
@@ -553,48 +617,74 @@ module _ {D : Type 0} (names : Naming D) (d e : D) (agree : Agree names d e) (on
   peels_places (Refused moment fault) (Wanted moment') xs ys item when want want' at = absurd (false≢true (sym want'))
 
 -- two doors that stood alike, and went on by what they were asked
-record FromOne {D : Type 0} (follows : Following D) (e e' : D) (xs ys : List Exchange) : Type 0 where
+record FromOne {D : Type 0} (follows : Following D) (syncs : Syncing D) (e e' : D) (xs ys : List Exchange) : Type 0 where
   pub start : D
-  pub went : GoesBy follows xs start e
-  pub went' : GoesBy follows ys start e'
+  pub went : GoesBy follows syncs xs start e
+  pub went' : GoesBy follows syncs ys start e'
   pub written : AllByRecursion IsWrittenIn xs
   pub written' : AllByRecursion IsWrittenIn ys
 
-peels_one : {D : Type 0} (follows : Following D) (e e' : D) → IsDetermined follows → Once → Peels (FromOne follows e e')
-peels_one follows e e' determined once (Asked moment command given manner) (Asked moment' command' given' manner') xs ys item when want want' from =
+-- memory wasn't wanting for a `synchronize`
+not_wanted : (synced : SyncedTurn) (moment : ℕ) (gave : Given0) → is_committed gave ≡ true → is_wanting (turn_of_given (Synchronized synced) moment gave) ≡ false → synced ≡ sync.NoMemory → ⊥
+not_wanted (sync.Synced synced) moment gave committed want is = cc
+not_wanted sync.NoMemory moment (given.Kept place reply) committed want is = false≢true (sym want)
+not_wanted sync.NoMemory moment gave committed want is = false≢true committed
+
+-- behind the same item, for which the same was given, a door that leaves no choice goes on in one way
+syncs_once : {D : Type 0} (follows : Following D) (syncs : Syncing D) → IsDetermined follows syncs → (manner manner' : Manner) (command command' : Command) (moment : ℕ) (given : Given0) (d e e' : D) → asked_item manner command ≡ asked_item manner' command' → MayBeWritten command given manner → MayBeWritten command' given manner'
+    → is_wanting (turn_of_given manner moment given) ≡ false → is_wanting (turn_of_given manner' moment given) ≡ false → SyncsBy syncs manner d e → SyncsBy syncs manner' d e' → (sync_given manner ≡ sync_given manner') × (e ≡ e')
+syncs_once follows syncs determined (Synchronized synced) (Synchronized synced') command command' moment given d e e' is w w' want want' went went' =
+    let same : (synced ≡ synced') × (e ≡ e') = determined.one_sync d e e' synced synced' went went' (not_wanted synced moment given w want) (not_wanted synced' moment given w' want') in
+    (ap (λ s. s ∷ []) same.0, same.1)
+syncs_once follows syncs determined (Synchronized synced) NoCommit command command' moment given d e e' is w w' want want' went went' = absurd (false≢true (sym w' ∙ w))
+syncs_once follows syncs determined NoCommit (Synchronized synced') command command' moment given d e e' is w w' want want' went went' = absurd (false≢true (sym w ∙ w'))
+syncs_once follows syncs determined (Synchronized synced) manner' command command' moment given d e e' is w w' want want' went went' = absurd cc
+syncs_once follows syncs determined manner (Synchronized synced') command command' moment given d e e' is w w' want want' went went' = absurd cc
+syncs_once follows syncs determined manner manner' command command' moment given d e e' is w w' want want' went went' = (refl, went ∙ sym went')
+
+peels_one : {D : Type 0} (follows : Following D) (syncs : Syncing D) (e e' : D) → IsDetermined follows syncs → Once → Peels (FromOne follows syncs e e')
+peels_one follows syncs e e' determined once (Asked moment command given manner) (Asked moment' command' given' manner') xs ys item when want want' from =
     let which : command ≡ command' = command_once manner manner' command command' given given' item from.written.0 from.written'.0 in
     let did : follows from.start command moment given' from.went'.0 = subst (λ m. follows from.start command m given' from.went'.0) (sym when) (subst (λ x. follows from.start x moment' given' from.went'.0) (sym which) from.went'.1) in
-    let same : (given ≡ given') × (from.went.0 ≡ from.went'.0) = determined from.start from.went.0 from.went'.0 command moment given given' from.went.1 did (given_some manner moment given want) (given_some manner' moment' given' want') in (
-      asked_is once moment moment' command command' given given' manner manner' when item same.0 from.written.0 from.written'.0 (not_dry manner command moment given from.written.0 want) (not_dry manner' command' moment' given' from.written'.0 want'),
-      record { start = from.went'.0; went = subst (λ x. GoesBy follows xs x e) same.1 from.went.2; went' = from.went'.2; written = from.written.1; written' = from.written'.1 },
+    let same : (given ≡ given') × (from.went.0 ≡ from.went'.0) = determined.one_ask from.start from.went.0 from.went'.0 command moment given given' from.went.1 did (given_some manner moment given want) (given_some manner' moment' given' want') in
+    let synced : (sync_given manner ≡ sync_given manner') × (from.went.2 ≡ from.went'.2) =
+    syncs_once follows syncs determined manner manner' command command' moment' given' from.went'.0 from.went.2 from.went'.2 item
+    (subst (λ g. MayBeWritten command g manner) same.0 from.written.0) from.written'.0
+    (subst (λ m. is_wanting (turn_of_given manner m given') ≡ false) when (subst (λ g. is_wanting (turn_of_given manner moment g) ≡ false) same.0 want)) want'
+    (subst (λ x. SyncsBy syncs manner x from.went.2) same.1 from.went.3) from.went'.3 in (
+      asked_is once moment moment' command command' given given' manner manner' when item same.0 from.written.0 from.written'.0 (not_dry manner command moment given from.written.0 want) (not_dry manner' command' moment' given' from.written'.0 want') synced.0,
+      record { start = from.went'.2; went = subst (λ x. GoesBy follows syncs xs x e) synced.1 from.went.4; went' = from.went'.4; written = from.written.1; written' = from.written'.1 },
     )
-peels_one follows e e' determined once (Refused moment fault) (Refused moment' fault') xs ys item when want want' from =
+peels_one follows syncs e e' determined once (Refused moment fault) (Refused moment' fault') xs ys item when want want' from =
     (ap (λ m. Refused m fault) when ∙ ap (Refused moment') (fault_is fault fault' item), record { start = from.start; went = from.went; went' = from.went'; written = from.written.1; written' = from.written'.1 })
-peels_one follows e e' determined once (Asked moment command given manner) (Refused moment' fault') xs ys item when want want' from = absurd (item_wrong manner command fault' item)
-peels_one follows e e' determined once (Refused moment fault) (Asked moment' command' given' manner') xs ys item when want want' from = absurd (item_wrong manner' command' fault (sym item))
-peels_one follows e e' determined once (Wanted moment) y xs ys item when want want' from = absurd (false≢true (sym want))
-peels_one follows e e' determined once (Asked moment command given manner) (Wanted moment') xs ys item when want want' from = absurd (false≢true (sym want'))
-peels_one follows e e' determined once (Refused moment fault) (Wanted moment') xs ys item when want want' from = absurd (false≢true (sym want'))
+peels_one follows syncs e e' determined once (Asked moment command given manner) (Refused moment' fault') xs ys item when want want' from = absurd (item_wrong manner command fault' item)
+peels_one follows syncs e e' determined once (Refused moment fault) (Asked moment' command' given' manner') xs ys item when want want' from = absurd (item_wrong manner' command' fault (sym item))
+peels_one follows syncs e e' determined once (Wanted moment) y xs ys item when want want' from = absurd (false≢true (sym want))
+peels_one follows syncs e e' determined once (Asked moment command given manner) (Wanted moment') xs ys item when want want' from = absurd (false≢true (sym want'))
+peels_one follows syncs e e' determined once (Refused moment fault) (Wanted moment') xs ys item when want want' from = absurd (false≢true (sym want'))
 
 -- two sessions at the same places, with answers without events that rest on the same, of doors that name the same
-pub one_text : {D : Type 0} (names : Naming D) (follows : Following D) (named : (d e : D) (command : Command) (moment : ℕ) (given : Given0) → follows d command moment given e → names e command moment given)
-    (keeps : (d e : D) (command : Command) (moment : ℕ) (given : Given0) → follows d command moment given e → (asked : Command) (when : ℕ) (was : Given0) → names d asked when was → names e asked when was) → Once →
-    (limit : ℕ) (bytes : List ℕ) (coming : ℕ → ℕ) (d e d' e' : D) (one other : SessionView) → Undisturbed follows limit bytes coming d e one → Undisturbed follows limit bytes coming d' e' other → Agree names e e' →
-    flat_map kept_place one.turns ≡ flat_map kept_place other.turns → SeeAlike one.turns other.turns → (one.turns ≡ other.turns) × (one.held ≡ other.held)
-one_text names follows named keeps once limit bytes coming d e d' e' one other first second agree places seen =
-    outcome_same follows once limit bytes coming d e d' e' one other first second (all_same follows once limit bytes coming d e d' e' one other first second (AtPlaces names e e') (peels_places names e e' agree once) (record {
+pub one_text : {D : Type 0} (names : Naming D) (follows : Following D) (syncs : Syncing D) (named : (d e : D) (command : Command) (moment : ℕ) (given : Given0) → follows d command moment given e → names e command moment given)
+    (keeps : (d e : D) (command : Command) (moment : ℕ) (given : Given0) → follows d command moment given e → (asked : Command) (when : ℕ) (was : Given0) → names d asked when was → names e asked when was)
+    (keeps_synced : (d e : D) (synced : SyncedTurn) → syncs d synced e → (asked : Command) (when : ℕ) (was : Given0) → names d asked when was → names e asked when was) → Once →
+    (limit : ℕ) (bytes : List ℕ) (coming : ℕ → ℕ) (d e d' e' : D) (one other : SessionView) → Undisturbed follows syncs limit bytes coming d e one → Undisturbed follows syncs limit bytes coming d' e' other → Agree names e e' →
+    flat_map kept_place one.turns ≡ flat_map kept_place other.turns → SeeAlike one.turns other.turns →
+    flat_map synced_in one.turns ≡ flat_map synced_in other.turns → (one.turns ≡ other.turns) × (one.held ≡ other.held)
+one_text names follows syncs named keeps keeps_synced once limit bytes coming d e d' e' one other first second agree places seen synced =
+    outcome_same follows syncs once limit bytes coming d e d' e' one other first second (all_same follows syncs once limit bytes coming d e d' e' one other first second (AtPlaces names e e') (peels_places names e e' agree once) (record {
       places = ap (flat_map kept_place) (sym first.session.turns.turned) ∙ places ∙ ap (flat_map kept_place) second.session.turns.turned;
+      synced = ap (flat_map synced_in) (sym first.session.turns.turned) ∙ synced ∙ ap (flat_map synced_in) second.session.turns.turned;
       seen = λ number. ap (λ turns. basis_at turns number) (sym first.session.turns.turned) ∙ seen number ∙ ap (λ turns. basis_at turns number) second.session.turns.turned;
-      named = all_named names follows named keeps (first.session.asked ++ first.session.final) d e first.session.turns.asked;
-      named' = all_named names follows named keeps (second.session.asked ++ second.session.final) d' e' second.session.turns.asked;
+      named = all_named names follows syncs named keeps keeps_synced (first.session.asked ++ first.session.final) d e first.session.turns.asked;
+      named' = all_named names follows syncs named keeps keeps_synced (second.session.asked ++ second.session.final) d' e' second.session.turns.asked;
       written = first.session.turns.written;
       written' = second.session.turns.written;
     })).0
 
 -- two sessions of one door that leaves no choice
-pub one_run : {D : Type 0} (follows : Following D) → Once → IsDetermined follows → (limit : ℕ) (bytes : List ℕ) (coming : ℕ → ℕ) (d e e' : D) (one other : SessionView) → Undisturbed follows limit bytes coming d e one → Undisturbed follows limit bytes coming d e' other →
+pub one_run : {D : Type 0} (follows : Following D) (syncs : Syncing D) → Once → IsDetermined follows syncs → (limit : ℕ) (bytes : List ℕ) (coming : ℕ → ℕ) (d e e' : D) (one other : SessionView) → Undisturbed follows syncs limit bytes coming d e one → Undisturbed follows syncs limit bytes coming d e' other →
     (one.turns ≡ other.turns) × (one.held ≡ other.held) × (e ≡ e')
-one_run follows once determined limit bytes coming d e e' one other first second =
-    let all = all_same follows once limit bytes coming d e d e' one other first second (FromOne follows e e') (peels_one follows e e' determined once) (record { start = d; went = first.session.turns.asked; went' = second.session.turns.asked; written = first.session.turns.written; written' = second.session.turns.written }) in
-    let out = outcome_same follows once limit bytes coming d e d e' one other first second all.0 in
+one_run follows syncs once determined limit bytes coming d e e' one other first second =
+    let all = all_same follows syncs once limit bytes coming d e d e' one other first second (FromOne follows syncs e e') (peels_one follows syncs e e' determined once) (record { start = d; went = first.session.turns.asked; went' = second.session.turns.asked; written = first.session.turns.written; written' = second.session.turns.written }) in
+    let out = outcome_same follows syncs once limit bytes coming d e d e' one other first second all.0 in
     (out.0, out.1, all.1.went ∙ sym all.1.went')

@@ -19,7 +19,7 @@ use Rattle.session_shell.specs.declared.reading.Reading.TheVariants.{Operational
 use Rattle.session_shell.specs.Exchange.{Exchange, text_written}
 use Rattle.session_shell.specs.Items.{ReadsLine}
 use Rattle.session_shell.specs.Cut.{lines_read, AreFirstLines}
-use Rattle.session_shell.specs.Transcript.{EndsBy, Following, IsInput, SessionView, Texts, WroteTexts}
+use Rattle.session_shell.specs.Transcript.{EndsBy, Following, IsInput, SessionView, Syncing, Texts, WroteTexts}
 use Rattle.session_shell.specs.Steps.{Ends, is_end, is_out, ServesLine, SoFar, standing, StepsOn, TakesLine}
 use Rattle.session_shell.proofs.TurnLemmas.{Turns-then, Turns-none, ReadsAs-append, flat_map_over_append}
 use Rattle.session_shell.proofs.CutLemmas.{SoMany, TellsBoth-then, push, at_end, is_full}
@@ -86,7 +86,7 @@ in_by reading going is = false≢true (sym going ∙ ap is_out is)
 not_over : (how : How) (limit taken ahead room : ℕ) → (how ≡ InputFull → ⊥) → limit ≡ taken + room → ahead ≤ room → (how ≡ InputFull) ↔ (limit < taken + ahead)
 not_over how limit taken ahead room other is within = (λ full. absurd (other full), λ over. absurd (omega (arith, over, is, within)))
 
-module _ {D : Type 0} (follows : Following D) (limit : ℕ) (source : Option (List ℕ)) (d : D) (old : SessionView) where
+module _ {D : Type 0} (follows : Following D) (syncs : Syncing D) (limit : ℕ) (source : Option (List ℕ)) (d : D) (old : SessionView) where
   -- texts written whole, and no other
   whole_text : (exchanges : List Exchange) (now : SessionView) → now.held ≡ held_after old.held (flat_map text_written exchanges) → WroteTexts (flat_map text_written exchanges) [] old now
   whole_text exchanges now held = record { part = []; rest = []; is_second = refl; held = held ∙ ap (held_after old.held) (sym (append-nil (flat_map text_written exchanges))); whole = inl refl }
@@ -97,9 +97,9 @@ module _ {D : Type 0} (follows : Following D) (limit : ℕ) (source : Option (Li
       back ∙ ap (λ h. held_after h (flat_map text_written more)) front ∙ behind-behind old.held (flat_map text_written exchanges) (flat_map text_written more) ∙ ap (held_after old.held) (sym (flat_map_over_append text_written exchanges more))
 
   -- a session that stops before a line
-  pub Ends-before : (how : How) (e : D) (feed feed' : LinesView) (reading : Reading) (now : SessionView) (so : SoFar follows limit source d old feed (standing e reading now)) →
+  pub Ends-before : (how : How) (e : D) (feed feed' : LinesView) (reading : Reading) (now : SessionView) (so : SoFar follows syncs limit source d old feed (standing e reading now)) →
       TellsBoth (λ before left. Stopped how reading feed.room feed'.room before left) feed.left feed'.left → (how ≡ InputFull) ↔ (feed'.room < feed'.ahead) → (how ≡ SourceFault → feed'.ahead ≡ 0) →
-      (WroteTexts (flat_map text_written so.exchanges) [] old now → Texts how so.exchanges [] old now) → Ends follows limit how source d old feed' (standing e reading now)
+      (WroteTexts (flat_map text_written so.exchanges) [] old now → Texts how so.exchanges [] old now) → Ends follows syncs limit how source d old feed' (standing e reading now)
   Ends-before how e feed feed' reading now so stop full none texts = record {
     lines = so.lines;
     asked = so.exchanges;
@@ -124,16 +124,16 @@ module _ {D : Type 0} (follows : Following D) (limit : ℕ) (source : Option (Li
       }
 
   -- a session that ends by a line
-  Ends-by : (how : How) (line : Line) (more : List Exchange) (m e : D) (feed feed' : LinesView) (reading reading' : Reading) (mid now : SessionView) (so : SoFar follows limit source d old feed (standing m reading mid)) →
-      TellsBoth (λ before left. Took line feed.room feed'.room before left) feed.left feed'.left → feed'.ahead ≤ feed'.room → (how ≡ InputFull → ⊥) → (how ≡ SourceFault → ⊥) → ServesLine follows line more (standing m reading mid) (standing e reading' now) →
-      ((rest : List Line) → (is_end line ≡ false) ⊎ (rest ≡ []) → EndsBy how reading' rest) → Texts how (so.exchanges ++ more) [] old now → Ends follows limit how source d old feed' (standing e reading' now)
+  Ends-by : (how : How) (line : Line) (more : List Exchange) (m e : D) (feed feed' : LinesView) (reading reading' : Reading) (mid now : SessionView) (so : SoFar follows syncs limit source d old feed (standing m reading mid)) →
+      TellsBoth (λ before left. Took line feed.room feed'.room before left) feed.left feed'.left → feed'.ahead ≤ feed'.room → (how ≡ InputFull → ⊥) → (how ≡ SourceFault → ⊥) → ServesLine follows syncs line more (standing m reading mid) (standing e reading' now) →
+      ((rest : List Line) → (is_end line ≡ false) ⊎ (rest ≡ []) → EndsBy how reading' rest) → Texts how (so.exchanges ++ more) [] old now → Ends follows syncs limit how source d old feed' (standing e reading' now)
   Ends-by how line more m e feed feed' reading reading' mid now so took within other heard came ends texts = record {
     lines = so.lines ++ line ∷ [];
     asked = so.exchanges ++ more;
     reads = ReadsAs-append so.lines (line ∷ []) Operational reading reading' so.exchanges more so.reads came.reads;
     input = TellsBoth-then (λ bytes left. AreFirstLines so.lines (lines_read feed.room left) limit bytes feed.room left) (λ before left. Took line feed.room feed'.room before left)
         (λ before left. (ahead now : List ℕ) → left ≡ ahead ++ now → length ahead ≡ feed'.ahead → IsInput (so.lines ++ line ∷ []) reading' how limit before now) (λ bytes before left first took. ended bytes left (grown so.lines line limit bytes before left feed.room feed'.room took first)) source feed.left feed'.left so.first_lines took;
-    turns = Turns-then follows so.exchanges more d m e old mid now so.turns came.turns;
+    turns = Turns-then follows syncs so.exchanges more d m e old mid now so.turns came.turns;
     texts = texts;
   }
     where
@@ -151,9 +151,9 @@ module _ {D : Type 0} (follows : Following D) (limit : ℕ) (source : Option (Li
       }
 
   -- a session that goes on after a line
-  pub SoFar-goes : (line : Line) (more : List Exchange) (m e : D) (feed feed' : LinesView) (reading reading' : Reading) (mid now : SessionView) (so : SoFar follows limit source d old feed (standing m reading mid)) →
-      TellsBoth (λ before left. Took line feed.room feed'.room before left) feed.left feed'.left → feed'.ahead ≤ feed'.room → ServesLine follows line more (standing m reading mid) (standing e reading' now) →
-      now.held ≡ held_after mid.held (flat_map text_written more) → is_out reading' ≡ false → is_end line ≡ false → SoFar follows limit source d old feed' (standing e reading' now)
+  pub SoFar-goes : (line : Line) (more : List Exchange) (m e : D) (feed feed' : LinesView) (reading reading' : Reading) (mid now : SessionView) (so : SoFar follows syncs limit source d old feed (standing m reading mid)) →
+      TellsBoth (λ before left. Took line feed.room feed'.room before left) feed.left feed'.left → feed'.ahead ≤ feed'.room → ServesLine follows syncs line more (standing m reading mid) (standing e reading' now) →
+      now.held ≡ held_after mid.held (flat_map text_written more) → is_out reading' ≡ false → is_end line ≡ false → SoFar follows syncs limit source d old feed' (standing e reading' now)
   SoFar-goes line more m e feed feed' reading reading' mid now so took within came held going not_end = record {
     lines = so.lines ++ line ∷ [];
     exchanges = so.exchanges ++ more;
@@ -161,7 +161,7 @@ module _ {D : Type 0} (follows : Following D) (limit : ℕ) (source : Option (Li
     first_lines = TellsBoth-then (λ bytes left. AreFirstLines so.lines (lines_read feed.room left) limit bytes feed.room left) (λ before left. Took line feed.room feed'.room before left) (λ bytes left. AreFirstLines (so.lines ++ line ∷ []) (lines_read feed'.room left) limit bytes feed'.room left)
         (λ bytes before left first took. on bytes before left first took) source feed.left feed'.left so.first_lines took;
     within = within;
-    turns = Turns-then follows so.exchanges more d m e old mid now so.turns came.turns;
+    turns = Turns-then follows syncs so.exchanges more d m e old mid now so.turns came.turns;
     text = longer so.exchanges more mid now so.text held;
     going = going;
   }
@@ -181,8 +181,8 @@ module _ {D : Type 0} (follows : Following D) (limit : ℕ) (source : Option (Li
   }
 
   pub Ends-line : (how : How) (line : Line) (m e : D) (feed feed' : LinesView) (reading reading' : Reading) (mid now : SessionView) → old.faults ≤ mid.faults → mid.faults ≤ now.faults → (how ≡ SinkFault → Rose mid.faults now.faults) →
-      SoFar follows limit source d old feed (standing m reading mid) → TellsBoth (λ before left. Took line feed.room feed'.room before left) feed.left feed'.left → feed'.ahead ≤ feed'.room →
-      TakesLine follows line (Some how) (standing m reading mid) (standing e reading' now) → Ends follows limit how source d old feed' (standing e reading' now)
+      SoFar follows syncs limit source d old feed (standing m reading mid) → TellsBoth (λ before left. Took line feed.room feed'.room before left) feed.left feed'.left → feed'.ahead ≤ feed'.room →
+      TakesLine follows syncs line (Some how) (standing m reading mid) (standing e reading' now) → Ends follows syncs limit how source d old feed' (standing e reading' now)
   Ends-line Clean line m e feed feed' reading reading' mid now later later' rose so took within takes =
       Ends-by Clean line takes.0 m e feed feed' reading reading' mid now so took within (λ is. cc) (λ is. cc) takes.1 (λ rest which. ends takes.3 which) (whole_text (so.exchanges ++ takes.0) now (longer so.exchanges takes.0 mid now so.text takes.2))
     where
@@ -193,7 +193,7 @@ module _ {D : Type 0} (follows : Following D) (limit : ℕ) (source : Option (Li
   Ends-line SinkFault line m e feed feed' reading reading' mid now later later' rose so took within takes =
       Ends-by SinkFault line (takes.0 ∷ []) m e feed feed' reading reading' mid now so took within (λ is. cc) (λ is. cc) takes.1 (λ rest which. tt) (so.exchanges, takes.0, refl, part_text so.exchanges takes.0 mid now so.text takes.2 later later' (rose refl))
   Ends-line NoMemory line m e feed feed' reading reading' mid now later later' rose so took within takes =
-      subst (λ x. Ends follows limit NoMemory source d old feed' (standing x reading' now)) (sym takes.0) (subst (λ r. Ends follows limit NoMemory source d old feed' (standing m r now)) (sym takes.1) (subst (λ s. Ends follows limit NoMemory source d old feed' (standing m reading s)) (sym takes.2)
+      subst (λ x. Ends follows syncs limit NoMemory source d old feed' (standing x reading' now)) (sym takes.0) (subst (λ r. Ends follows syncs limit NoMemory source d old feed' (standing m r now)) (sym takes.1) (subst (λ s. Ends follows syncs limit NoMemory source d old feed' (standing m reading s)) (sym takes.2)
       (Ends-before NoMemory m feed feed' reading mid so (tells feed.left feed'.left took) (λ is. cc, λ over. absurd (omega (arith, over, within))) (λ is. absurd (cc)) (λ w. w))))
     where
       tells : (a b : Option (List ℕ)) → TellsBoth (λ before left. Took line feed.room feed'.room before left) a b → TellsBoth (λ before left. Stopped NoMemory reading feed.room feed'.room before left) a b
@@ -205,21 +205,21 @@ module _ {D : Type 0} (follows : Following D) (limit : ℕ) (source : Option (Li
   Ends-line InputFull line m e feed feed' reading reading' mid now later later' rose so took within takes = absurd takes
 
 -- a line that was taken and served
-pub Steps-line : {D : Type 0} (follows : Following D) (how : Option How) (line : Line) (m e : D) (feed feed' : LinesView) (reading reading' : Reading) (mid now : SessionView) → mid.faults ≤ now.faults → (how ≡ Some SinkFault → Rose mid.faults now.faults) → ReadsLine reading line →
-    TellsBoth (λ old left. Gives line old feed.room left feed'.room) feed.left feed'.left → feed'.ahead ≤ feed'.room → TakesLine follows line how (standing m reading mid) (standing e reading' now) → StepsOn follows how feed feed' (standing m reading mid) (standing e reading' now)
-Steps-line follows None line m e feed feed' reading reading' mid now later' rose read gives within takes =
-    λ limit source d old so. SoFar-goes follows limit source d old line takes.0 m e feed feed' reading reading' mid now so (tells_took reading line feed.room feed'.room feed.left feed'.left read gives) within takes.1 takes.2 takes.3 takes.4
-Steps-line follows (Some how) line m e feed feed' reading reading' mid now later' rose read gives within takes =
-    λ limit source d old later so. Ends-line follows limit source d old how line m e feed feed' reading reading' mid now later later' (λ is. rose (ap Some is)) so (tells_took reading line feed.room feed'.room feed.left feed'.left read gives) within takes
+pub Steps-line : {D : Type 0} (follows : Following D) (syncs : Syncing D) (how : Option How) (line : Line) (m e : D) (feed feed' : LinesView) (reading reading' : Reading) (mid now : SessionView) → mid.faults ≤ now.faults → (how ≡ Some SinkFault → Rose mid.faults now.faults) → ReadsLine reading line →
+    TellsBoth (λ old left. Gives line old feed.room left feed'.room) feed.left feed'.left → feed'.ahead ≤ feed'.room → TakesLine follows syncs line how (standing m reading mid) (standing e reading' now) → StepsOn follows syncs how feed feed' (standing m reading mid) (standing e reading' now)
+Steps-line follows syncs None line m e feed feed' reading reading' mid now later' rose read gives within takes =
+    λ limit source d old so. SoFar-goes follows syncs limit source d old line takes.0 m e feed feed' reading reading' mid now so (tells_took reading line feed.room feed'.room feed.left feed'.left read gives) within takes.1 takes.2 takes.3 takes.4
+Steps-line follows syncs (Some how) line m e feed feed' reading reading' mid now later' rose read gives within takes =
+    λ limit source d old later so. Ends-line follows syncs limit source d old how line m e feed feed' reading reading' mid now later later' (λ is. rose (ap Some is)) so (tells_took reading line feed.room feed'.room feed.left feed'.left read gives) within takes
 
 -- a step that left how the session reads and its view as they were
-moved : {D : Type 0} (follows : Following D) (how : How) (d : D) (feed feed' : LinesView) (reading reading' : Reading) (view view' : SessionView) → reading ≡ reading' → view ≡ view' → StepsOn follows (Some how) feed feed' (standing d reading view) (standing d reading view) → StepsOn follows (Some how) feed feed' (standing d reading view) (standing d reading' view')
-moved follows how d feed feed' reading reading' view view' same same' steps =
-    subst (λ r. StepsOn follows (Some how) feed feed' (standing d reading view) (standing d r view')) same (subst (λ v. StepsOn follows (Some how) feed feed' (standing d reading view) (standing d reading v)) same' steps)
+moved : {D : Type 0} (follows : Following D) (syncs : Syncing D) (how : How) (d : D) (feed feed' : LinesView) (reading reading' : Reading) (view view' : SessionView) → reading ≡ reading' → view ≡ view' → StepsOn follows syncs (Some how) feed feed' (standing d reading view) (standing d reading view) → StepsOn follows syncs (Some how) feed feed' (standing d reading view) (standing d reading' view')
+moved follows syncs how d feed feed' reading reading' view view' same same' steps =
+    subst (λ r. StepsOn follows syncs (Some how) feed feed' (standing d reading view) (standing d r view')) same (subst (λ v. StepsOn follows syncs (Some how) feed feed' (standing d reading view) (standing d reading v)) same' steps)
 
 -- no line was taken: the input is full
-pub Steps-full : {D : Type 0} (follows : Following D) (d : D) (feed feed' : LinesView) (reading reading' : Reading) (view view' : SessionView) → reading ≡ reading' → view ≡ view' → TellsBoth (λ old left. IsFull old feed.room left feed'.room) feed.left feed'.left → feed'.room < feed'.ahead → StepsOn follows (Some InputFull) feed feed' (standing d reading view) (standing d reading' view')
-Steps-full follows d feed feed' reading reading' view view' same same' full over = moved follows InputFull d feed feed' reading reading' view view' same same' (λ limit source first old later so. Ends-before follows limit source first old InputFull d feed feed' reading view so (tells (in_by reading so.going) feed.left feed'.left full) (λ is. over, λ o. refl) (λ is. absurd (cc)) (λ w. w))
+pub Steps-full : {D : Type 0} (follows : Following D) (syncs : Syncing D) (d : D) (feed feed' : LinesView) (reading reading' : Reading) (view view' : SessionView) → reading ≡ reading' → view ≡ view' → TellsBoth (λ old left. IsFull old feed.room left feed'.room) feed.left feed'.left → feed'.room < feed'.ahead → StepsOn follows syncs (Some InputFull) feed feed' (standing d reading view) (standing d reading' view')
+Steps-full follows syncs d feed feed' reading reading' view view' same same' full over = moved follows syncs InputFull d feed feed' reading reading' view view' same same' (λ limit source first old later so. Ends-before follows syncs limit source first old InputFull d feed feed' reading view so (tells (in_by reading so.going) feed.left feed'.left full) (λ is. over, λ o. refl) (λ is. absurd (cc)) (λ w. w))
   where
     tells : (reading ≡ Out → ⊥) → (a b : Option (List ℕ)) → TellsBoth (λ old left. IsFull old feed.room left feed'.room) a b → TellsBoth (λ before left. Stopped InputFull reading feed.room feed'.room before left) a b
     tells within None None is = tt
@@ -228,8 +228,8 @@ Steps-full follows d feed feed' reading reading' view view' same same' full over
     tells within (Some before) None is = absurd is
 
 -- no line was taken: the source failed
-pub Steps-failed : {D : Type 0} (follows : Following D) (d : D) (feed feed' : LinesView) (reading reading' : Reading) (view view' : SessionView) → reading ≡ reading' → view ≡ view' → TellsBoth (λ old left. IsCutOff old feed.room left feed'.room) feed.left feed'.left → feed'.ahead ≡ 0 → StepsOn follows (Some SourceFault) feed feed' (standing d reading view) (standing d reading' view')
-Steps-failed follows d feed feed' reading reading' view view' same same' cut none = moved follows SourceFault d feed feed' reading reading' view view' same same' (λ limit source first old later so. Ends-before follows limit source first old SourceFault d feed feed' reading view so (tells (in_by reading so.going) feed.left feed'.left cut) (λ is. cc, λ over. absurd (omega (arith, over, none))) (λ is. none) (λ w. w))
+pub Steps-failed : {D : Type 0} (follows : Following D) (syncs : Syncing D) (d : D) (feed feed' : LinesView) (reading reading' : Reading) (view view' : SessionView) → reading ≡ reading' → view ≡ view' → TellsBoth (λ old left. IsCutOff old feed.room left feed'.room) feed.left feed'.left → feed'.ahead ≡ 0 → StepsOn follows syncs (Some SourceFault) feed feed' (standing d reading view) (standing d reading' view')
+Steps-failed follows syncs d feed feed' reading reading' view view' same same' cut none = moved follows syncs SourceFault d feed feed' reading reading' view view' same same' (λ limit source first old later so. Ends-before follows syncs limit source first old SourceFault d feed feed' reading view so (tells (in_by reading so.going) feed.left feed'.left cut) (λ is. cc, λ over. absurd (omega (arith, over, none))) (λ is. none) (λ w. w))
   where
     tells : (reading ≡ Out → ⊥) → (a b : Option (List ℕ)) → TellsBoth (λ old left. IsCutOff old feed.room left feed'.room) a b → TellsBoth (λ before left. Stopped SourceFault reading feed.room feed'.room before left) a b
     tells within None None is = tt
@@ -238,24 +238,24 @@ Steps-failed follows d feed feed' reading reading' view view' same same' cut non
     tells within (Some before) None is = absurd is
 
 -- no line was taken for want of memory
-pub Steps-no_memory : {D : Type 0} (follows : Following D) (d : D) (feed feed' : LinesView) (reading reading' : Reading) (view view' : SessionView) → feed ≡ feed' → reading ≡ reading' → view ≡ view' → StepsOn follows (Some NoMemory) feed feed' (standing d reading view) (standing d reading' view')
-Steps-no_memory follows d feed feed' reading reading' view view' still same same' =
-    subst (λ f. StepsOn follows (Some NoMemory) feed f (standing d reading view) (standing d reading' view')) still (moved follows NoMemory d feed feed reading reading' view view' same same'
-    (λ limit source first old later so. Ends-before follows limit source first old NoMemory d feed feed reading view so (tells (in_by reading so.going) feed.left) (λ is. cc, λ over. absurd (omega (arith, over, so.within))) (λ is. absurd (cc)) (λ w. w)))
+pub Steps-no_memory : {D : Type 0} (follows : Following D) (syncs : Syncing D) (d : D) (feed feed' : LinesView) (reading reading' : Reading) (view view' : SessionView) → feed ≡ feed' → reading ≡ reading' → view ≡ view' → StepsOn follows syncs (Some NoMemory) feed feed' (standing d reading view) (standing d reading' view')
+Steps-no_memory follows syncs d feed feed' reading reading' view view' still same same' =
+    subst (λ f. StepsOn follows syncs (Some NoMemory) feed f (standing d reading view) (standing d reading' view')) still (moved follows syncs NoMemory d feed feed reading reading' view view' same same'
+    (λ limit source first old later so. Ends-before follows syncs limit source first old NoMemory d feed feed reading view so (tells (in_by reading so.going) feed.left) (λ is. cc, λ over. absurd (omega (arith, over, so.within))) (λ is. absurd (cc)) (λ w. w)))
   where
     tells : (reading ≡ Out → ⊥) → (a : Option (List ℕ)) → TellsBoth (λ before left. Stopped NoMemory reading feed.room feed.room before left) a a
     tells within None = tt
     tells within (Some before) = record { part = []; is = refl; took = omega arith; ends = within; cut = λ failed. absurd (cc) }
 
 -- no session so far
-pub SoFar-begins : {D : Type 0} (follows : Following D) (d : D) (feed : LinesView) (reading : Reading) (view : SessionView) → reading ≡ Operational → feed.ahead ≡ 0 → SoFar follows feed.room feed.left d view feed (standing d reading view)
-SoFar-begins follows d feed reading view is none = record {
+pub SoFar-begins : {D : Type 0} (follows : Following D) (syncs : Syncing D) (d : D) (feed : LinesView) (reading : Reading) (view : SessionView) → reading ≡ Operational → feed.ahead ≡ 0 → SoFar follows syncs feed.room feed.left d view feed (standing d reading view)
+SoFar-begins follows syncs d feed reading view is none = record {
   lines = [];
   exchanges = [];
   reads = (refl, is);
   first_lines = nothing feed.left;
   within = omega (arith, none);
-  turns = Turns-none follows d view;
+  turns = Turns-none follows syncs d view;
   text = behind-none view.held;
   going = ap is_out is;
 }

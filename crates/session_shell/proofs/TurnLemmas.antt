@@ -8,7 +8,7 @@ use Rattle.session_shell.specs.declared.reading.Reading.{Reading}
 use Rattle.session_shell.specs.declared.reading.Item.{Item}
 use Rattle.session_shell.specs.Exchange.{Exchange, Asked, Refused, Wanted, IsWrittenIn, turn_taken, moment_in, reading_after}
 use Rattle.session_shell.specs.Items.{BeginsByLine, Continues, ReadsThrough}
-use Rattle.session_shell.specs.Transcript.{AnswersAre, Following, GoesBy, SessionView, TakesAnswers, TakesTurns}
+use Rattle.session_shell.specs.Transcript.{AnswersAre, Following, GoesBy, SessionView, Syncing, TakesAnswers, TakesTurns}
 
 pub map_over_append : {A B : Type 0} → (f : A → B) (xs ys : List A) → map f (xs ++ ys) ≡ map f xs ++ map f ys
 map_over_append f [] ys = refl
@@ -45,28 +45,28 @@ one_answer (Some coming) (Some left) answer takes = takes
 one_answer None (Some left) answer takes = absurd takes
 one_answer (Some coming) None answer takes = absurd takes
 
-GoesBy-append : {D : Type 0} (follows : Following D) (first second : List Exchange) (d m e : D) → GoesBy follows first d m → GoesBy follows second m e → GoesBy follows (first ++ second) d e
-GoesBy-append follows [] second d m e front back = subst (λ x. GoesBy follows second x e) front back
-GoesBy-append follows (Asked moment command given manner ∷ first) second d m e front back = (front.0, front.1, GoesBy-append follows first second front.0 m e front.2 back)
-GoesBy-append follows (Refused moment fault ∷ first) second d m e front back = GoesBy-append follows first second d m e front back
-GoesBy-append follows (Wanted moment ∷ first) second d m e front back = GoesBy-append follows first second d m e front back
+GoesBy-append : {D : Type 0} (follows : Following D) (syncs : Syncing D) (first second : List Exchange) (d m e : D) → GoesBy follows syncs first d m → GoesBy follows syncs second m e → GoesBy follows syncs (first ++ second) d e
+GoesBy-append follows syncs [] second d m e front back = subst (λ x. GoesBy follows syncs second x e) front back
+GoesBy-append follows syncs (Asked moment command given manner ∷ first) second d m e front back = (front.0, front.1, front.2, front.3, GoesBy-append follows syncs first second front.2 m e front.4 back)
+GoesBy-append follows syncs (Refused moment fault ∷ first) second d m e front back = GoesBy-append follows syncs first second d m e front back
+GoesBy-append follows syncs (Wanted moment ∷ first) second d m e front back = GoesBy-append follows syncs first second d m e front back
 
 All-append : (first second : List Exchange) → AllByRecursion IsWrittenIn first → AllByRecursion IsWrittenIn second → AllByRecursion IsWrittenIn (first ++ second)
 All-append [] second front back = back
 All-append (exchange ∷ first) second front back = (front.0, All-append first second front.1 back)
 
 -- turns, and then more of them
-pub Turns-then : {D : Type 0} (follows : Following D) (first second : List Exchange) (d m e : D) (old mid new : SessionView) →
-    TakesTurns follows first d m old mid → TakesTurns follows second m e mid new → TakesTurns follows (first ++ second) d e old new
-Turns-then follows first second d m e old mid new front back = record {
+pub Turns-then : {D : Type 0} (follows : Following D) (syncs : Syncing D) (first second : List Exchange) (d m e : D) (old mid new : SessionView) →
+    TakesTurns follows syncs first d m old mid → TakesTurns follows syncs second m e mid new → TakesTurns follows syncs (first ++ second) d e old new
+Turns-then follows syncs first second d m e old mid new front back = record {
   moments = subst (λ answers. TakesAnswers old.coming answers new.coming) (sym (map_over_append moment_in first second)) (TakesAnswers-append (map moment_in first) (map moment_in second) old.coming mid.coming new.coming front.moments back.moments);
   turned = back.turned ∙ ap (λ turns. turns ++ map turn_taken second) front.turned ∙ append_assoc old.turns (map turn_taken first) (map turn_taken second) ∙ ap (λ turns. old.turns ++ turns) (sym (map_over_append turn_taken first second));
-  asked = GoesBy-append follows first second d m e front.asked back.asked;
+  asked = GoesBy-append follows syncs first second d m e front.asked back.asked;
   written = All-append first second front.written back.written;
 }
 
-pub Turns-none : {D : Type 0} (follows : Following D) (d : D) (view : SessionView) → TakesTurns follows [] d d view view
-Turns-none follows d view = record { moments = no_answer view.coming; turned = sym (append-nil view.turns); asked = refl; written = tt }
+pub Turns-none : {D : Type 0} (follows : Following D) (syncs : Syncing D) (d : D) (view : SessionView) → TakesTurns follows syncs [] d d view view
+Turns-none follows syncs d view = record { moments = no_answer view.coming; turned = sym (append-nil view.turns); asked = refl; written = tt }
 
 Continues-more : (R S : Reading → List Exchange → Type 0) (more : List Exchange) → ((next : Reading) (rest : List Exchange) → R next rest → S next (rest ++ more)) → (came : Option Item × Reading) (exchanges : List Exchange) → Continues R came exchanges → Continues S came (exchanges ++ more)
 Continues-more R S more on (None, next) exchanges goes = on next exchanges goes

@@ -1,18 +1,20 @@
 -- What a session's items came to, one by one. The rules are this project's own.
-use Rattle.std.specs.Prelude.{ℕ, List, Bool, true, false, if◌then◌else◌, Option, None, Some}
+use Rattle.std.specs.Prelude.{ℕ, List, ◌++◌, Bool, true, false, if◌then◌else◌, Option, None, Some}
 use Rattle.access_rules.specs.declared.right.Right.{Right}
 use Rattle.commands.specs.declared.command.Command.{Command}
 use Rattle.config_core.specs.declared.reply.Reply.{Reply}
 use Rattle.config_core.specs.declared.reply.Reply.TheVariants.{Done, LoggedOut, Text, Entered, Left}
 use Rattle.config_core.specs.declared.reply.Reply.TheVariants.{Loaded, Checked, Committed, Scheduled, ClearedCommit, Refused as Declined}
 use Rattle.reply_text.specs.declared.fault.ShellFault.{ShellFault}
-use Rattle.reply_text.specs.Texts.{text_of_denial, text_of_fault, text_of_reply, no_memory_text, unready_text}
+use Rattle.reply_text.specs.Texts.{text_of_denial, text_of_fault, text_of_reply, text_of_synced, no_memory_text, unready_text}
 use Rattle.session_shell.specs.declared.door.Given0.{Given0}
 use Rattle.session_shell.specs.declared.door.Given0.TheVariants.{Kept, Seen, Denied, Unready, NoMemory}
+use Rattle.session_shell.specs.declared.door.SyncedTurn.{SyncedTurn}
+use Rattle.session_shell.specs.declared.door.SyncedTurn.TheVariants as sync
 use Rattle.session_shell.specs.declared.json_show.Manner.{Manner}
-use Rattle.session_shell.specs.declared.json_show.Manner.TheVariants.{Plain, Json, Dry, NoJson}
+use Rattle.session_shell.specs.declared.json_show.Manner.TheVariants.{Plain, Json, Dry, NoJson, Synchronized, NoCommit}
 use Rattle.session_shell.specs.declared.reading.Item.{Item}
-use Rattle.session_shell.specs.declared.reading.Item.TheVariants.{Ask, ShowJson, Wrong}
+use Rattle.session_shell.specs.declared.reading.Item.TheVariants.{Ask, Synchronize, ShowJson, Wrong}
 use Rattle.session_shell.specs.declared.reading.Item.TheVariants as item
 use Rattle.session_shell.specs.declared.reading.Reading.{Reading}
 use Rattle.session_shell.specs.declared.reading.Reading.TheVariants.{Operational, Configuring, Out}
@@ -62,6 +64,8 @@ asked_item Plain command = Ask command
 asked_item (Json text) command = ShowJson
 asked_item Dry command = ShowJson
 asked_item NoJson command = ShowJson
+asked_item (Synchronized synced) command = Synchronize command
+asked_item NoCommit command = Synchronize command
 
 -- the item itself
 abbrev pub item_asked : Exchange → Item
@@ -81,16 +85,24 @@ is_dry Plain = false
 is_dry (Json text) = false
 is_dry Dry = true
 is_dry NoJson = false
+is_dry (Synchronized synced) = false
+is_dry NoCommit = false
 
-abbrev pub kept_turn : Bool → ℕ → Turn
-kept_turn dry place = if dry then turn.KeptDry place else turn.Kept place
+-- the turn of an event, by how its reply is written
+abbrev pub kept_turn : Manner → ℕ → Turn
+kept_turn Plain place = turn.Kept place
+kept_turn (Json text) place = turn.Kept place
+kept_turn Dry place = turn.KeptDry place
+kept_turn NoJson place = turn.Kept place
+kept_turn (Synchronized synced) place = turn.KeptSynced place synced
+kept_turn NoCommit place = turn.Kept place
 
 abbrev pub seen_turn : Bool → ℕ → ℕ → Turn
 seen_turn dry front moment = if dry then turn.SeenDry front moment else turn.Seen front moment
 
 -- the turn that stands for what was given at a moment
 abbrev pub turn_of_given : Manner → ℕ → Given0 → Turn
-turn_of_given manner moment (Kept place reply) = kept_turn (is_dry manner) place
+turn_of_given manner moment (Kept place reply) = kept_turn manner place
 turn_of_given manner moment (Seen front reply) = seen_turn (is_dry manner) front moment
 turn_of_given manner moment (Denied front right) = turn.Denied front right moment
 turn_of_given manner moment (Unready front) = turn.Unready front moment
@@ -110,12 +122,19 @@ text_of_given (Denied front right) = text_of_denial right
 text_of_given (Unready front) = unready_text
 text_of_given NoMemory = no_memory_text
 
--- the same, by how it is written
+-- the line of an answer to `synchronize`
+abbrev pub text_of_synced_turn : SyncedTurn → List ℕ
+text_of_synced_turn (sync.Synced synced) = text_of_synced synced
+text_of_synced_turn sync.NoMemory = no_memory_text
+
+-- the text of what was given, by how it is written
 abbrev pub text_by : Manner → Given0 → List ℕ
 text_by Plain given = text_of_given given
 text_by (Json text) given = text
 text_by Dry given = no_memory_text
 text_by NoJson given = text_of_given given
+text_by (Synchronized synced) given = text_of_given given ++ text_of_synced_turn synced
+text_by NoCommit given = text_of_given given
 
 -- the text that answers an item
 abbrev pub text_written : Exchange → List ℕ

@@ -21,7 +21,7 @@ use Rattle.shell_words.specs.Reading.{IsReading}
 use Rattle.reply_text.specs.declared.fault.ShellFault.TheVariants.{Syntax, LineTooLong, TextTooLong, Json}
 use Rattle.session_shell.specs.declared.reading.TheConstants.{TEXT_LIMIT}
 use Rattle.session_shell.specs.declared.reading.Item.{Item}
-use Rattle.session_shell.specs.declared.reading.Item.TheVariants.{Ask, ShowJson, Wrong, NoMemory}
+use Rattle.session_shell.specs.declared.reading.Item.TheVariants.{Ask, Synchronize, ShowJson, Wrong, NoMemory}
 use Rattle.session_shell.specs.declared.reading.Reading.{Reading}
 use Rattle.session_shell.specs.declared.reading.Reading.TheVariants.{Operational, Configuring, Collecting, Spoilt, Out}
 use Rattle.session_shell.specs.Exchange.{Exchange, item_asked, reading_after}
@@ -30,6 +30,7 @@ use Rattle.session_shell.specs.Exchange.{Exchange, item_asked, reading_after}
 abbrev pub AsksSound : Option Item → Type 0
 AsksSound None = Unit {0}
 AsksSound (Some (Ask command)) = IsSound command
+AsksSound (Some (Synchronize command)) = IsSound command
 AsksSound (Some ShowJson) = Unit {0}
 AsksSound (Some (Wrong fault)) = Unit {0}
 AsksSound (Some NoMemory) = Unit {0}
@@ -38,6 +39,7 @@ AsksSound (Some NoMemory) = Unit {0}
 abbrev pub asked_by : Reading → Result (Option Words0) ℕ → Option Item × Reading
 asked_by reading (Ok None) = (None, reading)
 asked_by reading (Ok (Some (Whole command))) = (Some (Ask command), reading)
+asked_by reading (Ok (Some (words0.Synchronize command))) = (Some (Synchronize command), reading)
 asked_by reading (Ok (Some words0.ShowJson)) = (Some ShowJson, reading)
 asked_by reading (Ok (Some (NeedsText way))) = (None, Collecting way false [])
 asked_by reading (Ok (Some (NeedsJson way))) = (None, Collecting way true [])

@@ -6,12 +6,14 @@ use Rattle.commands.specs.declared.command.Command.{Command}
 use Rattle.session_shell.specs.declared.turn.How.{How}
 use Rattle.session_shell.specs.declared.turn.How.TheVariants.{Clean, InputFull}
 use Rattle.session_shell.specs.declared.turn.Turn.{Turn}
-use Rattle.session_shell.specs.declared.turn.Turn.TheVariants.{Kept, KeptDry, Seen, SeenDry, Denied, Unready, Local, NoMemory}
+use Rattle.session_shell.specs.declared.turn.Turn.TheVariants.{Kept, KeptDry, KeptSynced, Seen, SeenDry, Denied, Unready, Local, NoMemory}
 use Rattle.session_shell.specs.declared.door.Given0.{Given0}
 use Rattle.session_shell.specs.declared.door.Given0.TheVariants.{NoMemory as Wanting}
+use Rattle.session_shell.specs.declared.door.SyncedTurn.{SyncedTurn}
+use Rattle.session_shell.specs.declared.door.SyncedTurn.TheVariants as sync
 use Rattle.session_shell.specs.Exchange.{Basis, Exchange, Asked, Failure, Lack, Refused, Snapshot, Wanted, basis_of, place_of}
 use Rattle.session_shell.specs.Shows.{SeesShow}
-use Rattle.session_shell.specs.Transcript.{Following, IsTranscript, Naming, SessionView, side}
+use Rattle.session_shell.specs.Transcript.{Following, IsTranscript, Naming, SessionView, Syncing, side}
 
 -- what the door gave for an item is what it names
 abbrev pub IsNamed : {D : Type 0} → Naming D → D → Exchange → Type 0
@@ -31,17 +33,20 @@ Agree names d e =
     (command : Command) (moment : ℕ) (given other : Given0) → names d command moment given
     → names e command moment other → place_of given ≡ place_of other → basis_of given ≡ basis_of other → given ≡ other
 
--- a door that is asked one command at one moment has one way to go on, where memory doesn't run out
-abbrev pub IsDetermined : {D : Type 0} → Following D → Type 0
-IsDetermined {D} follows =
-    (d e e' : D) (command : Command) (moment : ℕ) (given given' : Given0)
-    → follows d command moment given e → follows d command moment given' e'
-    → (given ≡ Wanting → ⊥) → (given' ≡ Wanting → ⊥) → (given ≡ given') × (e ≡ e')
+-- a door that is asked one command at one moment has one way to go on, where memory doesn't run out, and so has one that is
+-- synchronized
+pub record IsDetermined {D : Type 0} (follows : Following D) (syncs : Syncing D) : Type 0 where
+  pub one_ask : (d e e' : D) (command : Command) (moment : ℕ) (given given' : Given0)
+      → follows d command moment given e → follows d command moment given' e'
+      → (given ≡ Wanting → ⊥) → (given' ≡ Wanting → ⊥) → (given ≡ given') × (e ≡ e')
+  pub one_sync : (d e e' : D) (synced synced' : SyncedTurn) → syncs d synced e → syncs d synced' e'
+      → (synced ≡ sync.NoMemory → ⊥) → (synced' ≡ sync.NoMemory → ⊥) → (synced ≡ synced') × (e ≡ e')
 
 -- the places of the events among these turns
 abbrev pub kept_place : Turn → List ℕ
 kept_place (Kept place) = place ∷ []
 kept_place (KeptDry place) = place ∷ []
+kept_place (KeptSynced place synced) = place ∷ []
 kept_place (Seen front moment) = []
 kept_place (SeenDry front moment) = []
 kept_place (Denied front right moment) = []
@@ -53,6 +58,7 @@ kept_place NoMemory = []
 abbrev pub turn_basis : Turn → Option Basis
 turn_basis (Kept place) = None
 turn_basis (KeptDry place) = None
+turn_basis (KeptSynced place synced) = None
 turn_basis (Seen front moment) = Some (Snapshot front)
 turn_basis (SeenDry front moment) = Some (Snapshot front)
 turn_basis (Denied front right moment) = Some (Lack front right)
@@ -71,10 +77,21 @@ basis_at (turn ∷ turns) (suc number) = basis_at turns number
 abbrev pub SeeAlike : List Turn → List Turn → Type 0
 SeeAlike one other = (number : ℕ) → basis_at one number ≡ basis_at other number
 
--- memory ran out for an item, or for the JSON of what was given for it
+-- what was answered to `synchronize` in these turns
+abbrev pub synced_in : Turn → List SyncedTurn
+synced_in (KeptSynced place synced) = synced ∷ []
+synced_in turn = []
+
+-- memory ran out for a `synchronize`
+abbrev pub wants_sync : SyncedTurn → Bool
+wants_sync (sync.Synced synced) = false
+wants_sync sync.NoMemory = true
+
+-- memory ran out for an item, for the JSON of what was given for it, or for its `synchronize`
 abbrev pub is_wanting : Turn → Bool
 is_wanting (Kept place) = false
 is_wanting (KeptDry place) = true
+is_wanting (KeptSynced place synced) = wants_sync synced
 is_wanting (Seen front moment) = false
 is_wanting (SeenDry front moment) = true
 is_wanting (Denied front right moment) = false
@@ -84,12 +101,13 @@ is_wanting NoMemory = true
 
 -- one session over told bytes, a told clock and a told sink that is empty at first; no fault ended it, its sink's count of
 -- faults didn't rise, and memory ran out for none of its items
-pub record Undisturbed {D : Type 0} (follows : Following D) (limit : ℕ) (bytes : List ℕ) (coming : ℕ → ℕ) (d e : D)
+pub record Undisturbed {D : Type 0} (follows : Following D) (syncs : Syncing D) (limit : ℕ) (bytes : List ℕ) (coming : ℕ → ℕ) (d e : D)
     (new : SessionView) : Type 0 where
   pub how : How
   pub source : Option (List ℕ)
   pub faults : ℕ
-  pub session : IsTranscript follows limit how (side (Some bytes) d (record { coming = Some coming; held = Some []; faults = faults; turns = [] })) (side source e new)
+  pub session : IsTranscript follows syncs limit how
+      (side (Some bytes) d (record { coming = Some coming; held = Some []; faults = faults; turns = [] })) (side source e new)
   pub ended : (how ≡ Clean) ⊎ (how ≡ InputFull)
   pub no_fault : Rose faults new.faults → ⊥
   pub no_want : AllByRecursion (λ turn. is_wanting turn ≡ false) new.turns

@@ -1,13 +1,13 @@
--- The commands that may be answered from a snapshot of the list of commits, and what shows of the whole active configuration print.
--- This project's own.
-use Rattle.std.specs.Prelude.{◌≡◌, ℕ, List, [], Option, Some, None, IfSome}
+-- The commands that may be answered from a snapshot of the list of commits, what shows of the whole active configuration print, and
+-- which commits were made. This project's own.
+use Rattle.std.specs.Prelude.{◌≡◌, ℕ, List, [], Bool, true, false, Option, Some, None, IfSome}
 use Rattle.cfg_tree.specs.Statements.{Statements}
 use Rattle.cfg_tree.specs.Tree.{IsTree}
 use Rattle.commands.specs.declared.command.Command.{Command}
 use Rattle.commands.specs.declared.command.Command.TheVariants.{ShowActive, ShowCommits}
 use Rattle.commands.specs.declared.command.Form.TheVariants.{Curly}
 use Rattle.config_core.specs.declared.reply.Reply.{Reply}
-use Rattle.config_core.specs.declared.reply.Reply.TheVariants.{Text}
+use Rattle.config_core.specs.declared.reply.Reply.TheVariants.{Text, Committed}
 use Rattle.curly_print.specs.Printed.{printed}
 use Rattle.session_shell.specs.declared.door.Given0.{Given0}
 use Rattle.session_shell.specs.declared.door.Given0.TheVariants.{Kept, Seen, Denied, Unready, NoMemory}
@@ -56,3 +56,8 @@ PrintsWhole command given = command ≡ whole_show → IfSome (shown_text given)
 -- the same of a reply
 abbrev pub SaysWhole : Command → Reply → Type 0
 SaysWhole command reply = command ≡ whole_show → IfSome (text_in reply) IsPrinted
+
+-- an event was made that is a commit
+abbrev pub is_committed : Given0 → Bool
+is_committed (Kept place (Committed minutes quit)) = true
+is_committed given = false

@@ -12,6 +12,9 @@ use Rattle.session_shell.specs.declared.turn.How.{How}
 use Rattle.session_shell.specs.declared.turn.How.TheVariants.{Clean, SourceFault, SinkFault, InputFull, NoMemory}
 use Rattle.session_shell.specs.declared.turn.Turn.{Turn}
 use Rattle.session_shell.specs.declared.door.Given0.{Given0}
+use Rattle.session_shell.specs.declared.door.SyncedTurn.{SyncedTurn}
+use Rattle.session_shell.specs.declared.json_show.Manner.{Manner}
+use Rattle.session_shell.specs.declared.json_show.Manner.TheVariants.{Plain, Json, Dry, NoJson, Synchronized, NoCommit}
 use Rattle.session_shell.specs.declared.reading.Reading.{Reading}
 use Rattle.session_shell.specs.declared.reading.Reading.TheVariants.{Operational, Out}
 use Rattle.session_shell.specs.declared.reading.Item.TheVariants.{Ask}
@@ -22,6 +25,10 @@ use Rattle.session_shell.specs.Cut.{AreFirstLines}
 -- how a door may stand after one command at a moment, for which that was given
 abbrev pub Following : Type 0 → Type 1
 Following D = D → Command → ℕ → Given0 → D → Type 0
+
+-- how a door may stand after one `synchronize` that gave that answer
+abbrev pub Syncing : Type 0 → Type 1
+Syncing D = D → SyncedTurn → D → Type 0
 
 -- what a door may give for a command at a moment
 abbrev pub Naming : Type 0 → Type 1
@@ -47,21 +54,31 @@ TakesAnswers (Some coming) answers (Some left) = AnswersAre coming answers left
 TakesAnswers None answers (Some left) = ⊥
 TakesAnswers (Some coming) answers None = ⊥
 
--- the door went from one state to another by the commands of the exchanges alone, in order, each asked once
-abbrev pub GoesBy : {D : Type 0} → Following D → List Exchange → D → D → Type 0
-GoesBy follows [] d e = e ≡ d
-GoesBy {D} follows (Asked moment command given manner ∷ exchanges) d e =
-    (next : D) × follows d command moment given next × GoesBy follows exchanges next e
-GoesBy follows (Refused moment fault ∷ exchanges) d e = GoesBy follows exchanges d e
-GoesBy follows (Wanted moment ∷ exchanges) d e = GoesBy follows exchanges d e
+-- behind a command the door went on by one `synchronize` with that answer, where the answer is written, and else not at all
+abbrev pub SyncsBy : {D : Type 0} → Syncing D → Manner → D → D → Type 0
+SyncsBy syncs Plain d e = e ≡ d
+SyncsBy syncs (Json text) d e = e ≡ d
+SyncsBy syncs Dry d e = e ≡ d
+SyncsBy syncs NoJson d e = e ≡ d
+SyncsBy syncs (Synchronized synced) d e = syncs d synced e
+SyncsBy syncs NoCommit d e = e ≡ d
+
+-- the door went from one state to another by the commands of the exchanges alone, in order, each asked once, and by one
+-- `synchronize` behind each commit that was made and is synchronized
+abbrev pub GoesBy : {D : Type 0} → Following D → Syncing D → List Exchange → D → D → Type 0
+GoesBy follows syncs [] d e = e ≡ d
+GoesBy {D} follows syncs (Asked moment command given manner ∷ exchanges) d e =
+    (next : D) × follows d command moment given next × (last : D) × SyncsBy syncs manner next last × GoesBy follows syncs exchanges last e
+GoesBy follows syncs (Refused moment fault ∷ exchanges) d e = GoesBy follows syncs exchanges d e
+GoesBy follows syncs (Wanted moment ∷ exchanges) d e = GoesBy follows syncs exchanges d e
 
 -- the exchanges took their turns: one answer of the clock each, one turn each, and the commands of the door; what it gave is
 -- written as it may be
-pub record TakesTurns {D : Type 0} (follows : Following D) (exchanges : List Exchange) (d e : D)
+pub record TakesTurns {D : Type 0} (follows : Following D) (syncs : Syncing D) (exchanges : List Exchange) (d e : D)
     (old new : SessionView) : Type 0 where
   pub moments : TakesAnswers old.coming (map moment_in exchanges) new.coming
   pub turned : new.turns ≡ old.turns ++ map turn_taken exchanges
-  pub asked : GoesBy follows exchanges d e
+  pub asked : GoesBy follows syncs exchanges d e
   pub written : AllByRecursion IsWrittenIn exchanges
 
 -- the first text was written whole, and of the second a part from its beginning: less than the whole only where the sink's
@@ -120,7 +137,7 @@ side source door view = record { source = source; door = door; view = view }
 
 -- one session: its items are those of the lines that it read, and one last logout where it needs one; they took its turns,
 -- and their texts were written
-pub record IsTranscript {D : Type 0} (follows : Following D) (limit : ℕ) (how : How) (old new : Side D) : Type 0 where
+pub record IsTranscript {D : Type 0} (follows : Following D) (syncs : Syncing D) (limit : ℕ) (how : How) (old new : Side D) : Type 0 where
   pub lines : List Line
   pub asked : List Exchange
   pub final : List Exchange
@@ -128,7 +145,7 @@ pub record IsTranscript {D : Type 0} (follows : Following D) (limit : ℕ) (how 
   pub reads : ReadsThrough lines Operational asked reading
   pub input : TellsBoth (IsInput lines reading how limit) old.source new.source
   pub logs_out : LogsOut reading final
-  pub turns : TakesTurns follows (asked ++ final) old.door new.door old.view new.view
+  pub turns : TakesTurns follows syncs (asked ++ final) old.door new.door old.view new.view
   pub texts : Texts how asked final old.view new.view
 
 -- the ends of a session: whose they are, what is told of its source and its sink, and its clock's answers to come
@@ -143,9 +160,9 @@ abbrev pub session_view : EndView → List Turn → SessionView
 session_view end turns = record { coming = end.coming; held = end.sink.held; faults = end.sink.faults; turns = turns }
 
 -- one session, from its ends before to its ends after: a fault of its source or its sink is reported only where that count rose
-pub record IsSession {D : Type 0} (follows : Following D) (limit : ℕ) (how : How) (turns : List Turn) (old new : EndView) (d e : D)
-    : Type 0 where
-  pub transcript : IsTranscript follows limit how (side old.source.left d (session_view old []))
+pub record IsSession {D : Type 0} (follows : Following D) (syncs : Syncing D) (limit : ℕ) (how : How) (turns : List Turn)
+    (old new : EndView) (d e : D) : Type 0 where
+  pub transcript : IsTranscript follows syncs limit how (side old.source.left d (session_view old []))
       (side new.source.left e (session_view new turns))
   pub user : new.user ≡ old.user
   pub source_cause : how ≡ SourceFault → Rose old.source.faults new.source.faults

@@ -1,19 +1,19 @@
 //! What a door gave: its turn, its text, and how the session reads on after it.
 
-ghost use Rattle.std.specs.Prelude.{◌≡◌, ◌≤◌, OnErr, is_ok};
+ghost use Rattle.std.specs.Prelude.{◌≡◌, ◌≤◌, ◌++◌, OnErr, is_ok};
 ghost use Rattle.cfg_base.specs.Counts.{Rose};
 ghost use Rattle.io_edge.specs.Wrote.{Wrote};
-ghost use Rattle.session_shell.specs.Exchange.{after_given, after_reply, is_dry, kept_turn, seen_turn, text_by, text_of_given, turn_of_given};
+ghost use Rattle.session_shell.specs.Exchange.{after_given, after_reply, is_dry, kept_turn, seen_turn, text_by, text_of_given, text_of_synced_turn, turn_of_given};
 ghost use Rattle.session_shell.specs.Steps.{how_next, is_end, is_out};
 
-use crate::door::Given0;
+use crate::door::{Given0, SyncedTurn};
 use crate::json_show::Manner;
 use crate::reading::Reading;
 use crate::turn::{How, Turn};
 use cfg_base::Moment;
 use config_core::Reply;
 use io_edge::{Line, PutFailed, Sink, put_all};
-use reply_text::{put_denied, put_no_memory, put_reply, put_unready};
+use reply_text::{put_denied, put_no_memory, put_reply, put_synced, put_unready};
 
 /// Whether memory for JSON was wanting.
 fn is_dry(manner: &Manner) -> bool
@@ -22,13 +22,16 @@ fn is_dry(manner: &Manner) -> bool
     matches!(manner, Manner::Dry)
 }
 
-fn kept_turn(dry: bool, place: u64) -> Turn
-    ensures { result ≡ kept_turn dry place }
+fn kept_turn(manner: &Manner, place: u64) -> Turn
+    ensures { result ≡ kept_turn manner.now place }
 {
-    if dry {
-        Turn::KeptDry(place)
-    } else {
-        Turn::Kept(place)
+    match manner {
+        Manner::Dry => Turn::KeptDry(place),
+        Manner::Synchronized(synced) => Turn::KeptSynced {
+            place,
+            synced: *synced,
+        },
+        Manner::Plain | Manner::Json(_) | Manner::NoJson | Manner::NoCommit => Turn::Kept(place),
     }
 }
 
@@ -47,7 +50,7 @@ pub(crate) fn turn_of(moment: Moment, given: &Given0, manner: &Manner) -> Turn
     ensures { result ≡ turn_of_given manner.now moment given.now }
 {
     match given {
-        Given0::Kept { place, reply: _ } => kept_turn(is_dry(manner), *place),
+        Given0::Kept { place, reply: _ } => kept_turn(manner, *place),
         Given0::Seen { front, reply: _ } => seen_turn(is_dry(manner), *front, moment),
         Given0::Denied { front, right } => Turn::Denied {
             front: *front,
@@ -110,13 +113,40 @@ fn put_own<K: Sink>(sink: &mut K, given: &Given0) -> Result<(), PutFailed>
     }
 }
 
+fn put_synced_turn<K: Sink>(sink: &mut K, synced: SyncedTurn) -> Result<(), PutFailed>
+    ensures wrote { Wrote result (text_of_synced_turn synced) (K.view sink.old).held (K.view sink.new).held }
+    ensures cause { OnErr result (Rose (K.view sink.old).faults (K.view sink.new).faults) }
+    ensures later { (K.view sink.old).faults ≤ (K.view sink.new).faults }
+{
+    match synced {
+        SyncedTurn::Synced(synced) => put_synced(sink, synced),
+        SyncedTurn::NoMemory => put_no_memory(sink),
+    }
+}
+
+fn put_synchronized<K: Sink>(
+    sink: &mut K,
+    given: &Given0,
+    synced: SyncedTurn,
+) -> Result<(), PutFailed>
+    ensures wrote { Wrote result (text_of_given given.now ++ text_of_synced_turn synced) (K.view sink.old).held (K.view sink.new).held }
+    ensures cause { OnErr result (Rose (K.view sink.old).faults (K.view sink.new).faults) }
+    ensures later { (K.view sink.old).faults ≤ (K.view sink.new).faults }
+{
+    match put_own(sink, given) {
+        Ok(()) => put_synced_turn(sink, synced),
+        Err(failed) => Err(failed),
+    }
+}
+
 fn put_given<K: Sink>(sink: &mut K, given: &Given0, manner: &Manner) -> Result<(), PutFailed>
     ensures wrote { Wrote result (text_by manner.now given.now) (K.view sink.old).held (K.view sink.new).held }
     ensures cause { OnErr result (Rose (K.view sink.old).faults (K.view sink.new).faults) }
     ensures later { (K.view sink.old).faults ≤ (K.view sink.new).faults }
 {
     match manner {
-        Manner::Plain | Manner::NoJson => put_own(sink, given),
+        Manner::Plain | Manner::NoJson | Manner::NoCommit => put_own(sink, given),
+        Manner::Synchronized(synced) => put_synchronized(sink, given, *synced),
         Manner::Json(text) => put_all(sink, text.as_slice()),
         Manner::Dry => put_no_memory(sink),
     }

@@ -6,7 +6,7 @@ ghost use Rattle.session_shell.specs.Exchange.{asked_item};
 ghost use Rattle.session_shell.specs.Json.{IsJsonOf, MayBeWritten};
 ghost use Rattle.session_shell.specs.Shows.{IsPrinted, PrintsWhole, shown_text, text_in, whole_show};
 
-use crate::door::Given0;
+use crate::door::{Given0, SyncedTurn};
 use cfg_base::{Bytes, NoMemory, Words};
 use commands::{Command, Form};
 use config_core::Reply;
@@ -26,6 +26,10 @@ pub enum Manner {
     Dry,
     /// A JSON show, as its reply's own text, since that is no text of a configuration.
     NoJson,
+    /// A commit that is synchronized, as its reply's own text and then the line of that answer to `synchronize`.
+    Synchronized(SyncedTurn),
+    /// A commit that is synchronized, as its reply's own text, since it wasn't made.
+    NoCommit,
 }
 
 /// The show of the whole active configuration.

@@ -17,9 +17,10 @@ mod laws;
 mod reading;
 mod serving;
 mod session;
+mod synchronizing;
 mod turn;
 
-pub use door::{Door, Given0};
+pub use door::{Door, Given0, SyncedTurn};
 pub use end::{End, Ended, NoSession};
 pub use json_show::Manner;
 pub use laws::{replies_are_named, sessions_have_one_text};

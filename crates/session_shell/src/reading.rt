@@ -28,6 +28,8 @@ const END_OF_TEXT: [u8; 1] = [4];
 #[derive(Debug, Drop)]
 pub enum Item {
     Ask(Command),
+    /// A commit that is synchronized once it is made.
+    Synchronize(Command),
     /// A show of the whole active configuration as JSON.
     ShowJson,
     /// A line that is no command, or a load whose text has a fault.
@@ -78,6 +80,7 @@ fn read_item(
     match read_line(alloc, configuring, line) {
         Ok(None) => Ok(None),
         Ok(Some(Words0::Whole(command))) => Ok(Some(Item::Ask(command))),
+        Ok(Some(Words0::Synchronize(command))) => Ok(Some(Item::Synchronize(command))),
         Ok(Some(Words0::ShowJson)) => Ok(Some(Item::ShowJson)),
         Ok(Some(Words0::NeedsText(way))) => {
             *reading = collecting(alloc, way, false);

@@ -14,6 +14,7 @@ use crate::answer::{answer, how_next, is_out, let_go, turn_of};
 use crate::door::Door;
 use crate::json_show::{Manner, manner_of, whole_show};
 use crate::reading::{Item, Reading, comes_of};
+use crate::synchronizing::manner_of_commit;
 use crate::turn::{How, Turn};
 use cfg_base::{Limits, NoMemory};
 use commands::Command;
@@ -106,7 +107,7 @@ impl<S: Source, K: Sink, C: Clock> Serving<S, K, C> {
         }
     }
 
-    /// Serves an item: takes the moment, asks the door or refuses, and writes the text.
+    /// Serves an item: takes the moment, asks the door or refuses, synchronizes where it is to, and writes the text.
     fn serve_item<D: Door, R: Wait>(
         &mut self,
         rt: &R,
@@ -115,7 +116,9 @@ impl<S: Source, K: Sink, C: Clock> Serving<S, K, C> {
     ) -> Result<(), PutFailed>
         requires room { 0 < self.old.spare }
         requires sound { AsksSound (Some item) }
-        ensures serves { ServesItem D.follows item result (standing door.old self.old.reading (view_of C.coming self.old)) (standing door.new self.new.reading (view_of C.coming self.new)) }
+        ensures serves { ServesItem D.follows D.syncs item result
+            (standing door.old self.old.reading (view_of C.coming self.old))
+            (standing door.new self.new.reading (view_of C.coming self.new)) }
         ensures feed { self.new.feed ≡ self.old.feed }
         ensures spare { self.old.spare ≡ self.new.spare + 1 }
         ensures cause { OnErr result (Rose self.old.sink.faults self.new.sink.faults) }
@@ -127,6 +130,12 @@ impl<S: Source, K: Sink, C: Clock> Serving<S, K, C> {
                 let given = door.ask(rt, moment, command);
                 self.turns.note(turn_of(moment, &given, &Manner::Plain));
                 answer(&mut self.sink, &mut self.reading, given, Manner::Plain)
+            }
+            Item::Synchronize(command) => {
+                let given = door.ask(rt, moment, command);
+                let manner = manner_of_commit(rt, door, &given);
+                self.turns.note(turn_of(moment, &given, &manner));
+                answer(&mut self.sink, &mut self.reading, given, manner)
             }
             Item::ShowJson => {
                 let given = door.ask(rt, moment, whole_show(self.alloc));
@@ -150,7 +159,9 @@ impl<S: Source, K: Sink, C: Clock> Serving<S, K, C> {
     fn take<D: Door, R: Wait>(&mut self, rt: &R, door: &mut D, line: &Line) -> Option<How>
         requires room { 0 < self.old.spare }
         requires reads { ReadsLine self.old.reading line.now }
-        ensures takes { TakesLine D.follows line.now result (standing door.old self.old.reading (view_of C.coming self.old)) (standing door.new self.new.reading (view_of C.coming self.new)) }
+        ensures takes { TakesLine D.follows D.syncs line.now result
+            (standing door.old self.old.reading (view_of C.coming self.old))
+            (standing door.new self.new.reading (view_of C.coming self.new)) }
         ensures feed { self.new.feed ≡ self.old.feed }
         ensures spare { self.old.spare ≤ self.new.spare + 1 }
         ensures end { result ≡ None → is_end line.now ≡ false }
@@ -171,7 +182,9 @@ impl<S: Source, K: Sink, C: Clock> Serving<S, K, C> {
     fn read_next<D: Door, R: Wait>(&mut self, rt: &R, door: &mut D) -> Option<How>
         requires room { 0 < self.old.spare }
         requires going { is_out self.old.reading ≡ false }
-        ensures steps { StepsOn D.follows result self.old.feed self.new.feed (standing door.old self.old.reading (view_of C.coming self.old)) (standing door.new self.new.reading (view_of C.coming self.new)) }
+        ensures steps { StepsOn D.follows D.syncs result self.old.feed self.new.feed
+            (standing door.old self.old.reading (view_of C.coming self.old))
+            (standing door.new self.new.reading (view_of C.coming self.new)) }
         ensures spare { self.old.spare ≤ self.new.spare + 1 }
         ensures falls { result ≡ None → self.new.feed.room < self.old.feed.room }
         ensures source_cause { result ≡ Some SourceFault → Rose self.old.feed.faults self.new.feed.faults }
@@ -191,7 +204,9 @@ impl<S: Source, K: Sink, C: Clock> Serving<S, K, C> {
     fn step<D: Door, R: Wait>(&mut self, rt: &R, door: &mut D) -> Option<How>
         requires room { 0 < self.old.spare }
         requires going { is_out self.old.reading ≡ false }
-        ensures steps { StepsOn D.follows result self.old.feed self.new.feed (standing door.old self.old.reading (view_of C.coming self.old)) (standing door.new self.new.reading (view_of C.coming self.new)) }
+        ensures steps { StepsOn D.follows D.syncs result self.old.feed self.new.feed
+            (standing door.old self.old.reading (view_of C.coming self.old))
+            (standing door.new self.new.reading (view_of C.coming self.new)) }
         ensures room { 0 < self.new.spare }
         ensures falls { result ≡ None → self.new.feed.room < self.old.feed.room }
         ensures source_cause { result ≡ Some SourceFault → Rose self.old.feed.faults self.new.feed.faults }
@@ -210,7 +225,8 @@ impl<S: Source, K: Sink, C: Clock> Serving<S, K, C> {
         requires room { 0 < self.old.spare }
         requires first { self.old.reading ≡ Operational }
         requires none_ahead { self.old.feed.ahead ≡ 0 }
-        ensures ends { Ends D.follows self.old.feed.room result self.old.feed.left door.old (view_of C.coming self.old) self.new.feed (standing door.new self.new.reading (view_of C.coming self.new)) }
+        ensures ends { Ends D.follows D.syncs self.old.feed.room result self.old.feed.left door.old (view_of C.coming self.old)
+            self.new.feed (standing door.new self.new.reading (view_of C.coming self.new)) }
         ensures room { 0 < self.new.spare }
         ensures source_cause { result ≡ SourceFault → Rose self.old.feed.faults self.new.feed.faults }
         ensures sink_cause { result ≡ SinkFault → Rose self.old.sink.faults self.new.sink.faults }
@@ -227,7 +243,7 @@ impl<S: Source, K: Sink, C: Clock> Serving<S, K, C> {
     /// Asks the last logout, and writes no answer.
     fn ask_unheard<D: Door, R: Wait>(&mut self, rt: &R, door: &mut D)
         requires room { 0 < self.old.spare }
-        ensures asks { AsksOnly D.follows (Ask Logout) door.old door.new
+        ensures asks { AsksOnly D.follows D.syncs (Ask Logout) door.old door.new
             (view_of C.coming self.old) (view_of C.coming self.new) }
         ensures feed { self.new.feed ≡ self.old.feed }
         ensures same { self.new.sink.faults ≡ self.old.sink.faults }
@@ -242,7 +258,7 @@ impl<S: Source, K: Sink, C: Clock> Serving<S, K, C> {
     fn log_out<D: Door, R: Wait>(&mut self, rt: &R, door: &mut D, how: How)
         requires room { 0 < self.old.spare }
         requires going { is_out self.old.reading ≡ false }
-        ensures finishes { Finishes D.follows how door.old door.new self.old.reading
+        ensures finishes { Finishes D.follows D.syncs how door.old door.new self.old.reading
             (view_of C.coming self.old) (view_of C.coming self.new) }
         ensures feed { self.new.feed ≡ self.old.feed }
     {
@@ -257,7 +273,7 @@ impl<S: Source, K: Sink, C: Clock> Serving<S, K, C> {
     /// Logs a session out, if it isn't.
     pub(crate) fn finish<D: Door, R: Wait>(&mut self, rt: &R, door: &mut D, how: How)
         requires room { 0 < self.old.spare }
-        ensures finishes { Finishes D.follows how door.old door.new self.old.reading
+        ensures finishes { Finishes D.follows D.syncs how door.old door.new self.old.reading
             (view_of C.coming self.old) (view_of C.coming self.new) }
         ensures feed { self.new.feed ≡ self.old.feed }
     {

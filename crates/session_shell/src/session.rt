@@ -67,7 +67,7 @@ impl<S, K, C> Session<S, K, C> {
         S: Source,
         K: Sink,
         C: Clock,
-        ensures session { IsSession D.follows self.limit result.how result.turns (end_view S.view K.view C.coming self.end)
+        ensures session { IsSession D.follows D.syncs self.limit result.how result.turns (end_view S.view K.view C.coming self.end)
             (end_view S.view K.view C.coming result.end) door.old door.new }
         ensures number { result.number ≡ self.number }
     {

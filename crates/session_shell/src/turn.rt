@@ -1,5 +1,6 @@
 ghost use Rattle.std.specs.Prelude.{◌≡◌, [], IfSome};
 
+use crate::door::SyncedTurn;
 use access_rules::Right;
 use cfg_base::Moment;
 use reply_text::ShellFault;
@@ -14,6 +15,11 @@ pub enum Turn {
     Kept(u64),
     /// The event at that place is a show that was answered with a text, and memory for its JSON was wanting.
     KeptDry(u64),
+    /// The event at that place is a commit that is synchronized, and was made; the door then answered so to `synchronize`.
+    KeptSynced {
+        place: u64,
+        synced: SyncedTurn,
+    },
     /// What a snapshot of that many entries of the list of commits says, at that answer of the session's clock.
     Seen {
         front: u64,

@@ -10,7 +10,7 @@ returns-clause-text g c =
       faults = c.texts_have_one_answer.ensures.one_fault;
       printed_is = printed_once c.printed_text_is_read_back.ensures c.texts_say_one_thing.ensures.one_reading;
     } in
-    one_text g.D.Door.names g.D.Door.follows g.met.D.Door.named g.met.D.Door.keeps once
+    one_text g.D.Door.names g.D.Door.follows g.D.Door.syncs g.met.D.Door.named g.met.D.Door.keeps g.met.D.Door.keeps_synced once
 
 pub returns-clause-run : goal.returns-clause-run
 returns-clause-run g c =
@@ -21,4 +21,4 @@ returns-clause-run g c =
       faults = c.texts_have_one_answer.ensures.one_fault;
       printed_is = printed_once c.printed_text_is_read_back.ensures c.texts_say_one_thing.ensures.one_reading;
     } in
-    λ limit bytes coming d e e' one other determined. one_run g.D.Door.follows once determined limit bytes coming d e e' one other
+    λ limit bytes coming d e e' one other determined. one_run g.D.Door.follows g.D.Door.syncs once determined limit bytes coming d e e' one other

@@ -9,6 +9,6 @@ pub returns-clause-asks : goal.returns-clause-asks
 returns-clause-asks g c = record {
   exchange = Asked c.now-moment.result Logout c.ask-given.result Plain;
   is_item = refl;
-  turns = record { moments = one_answer _ _ c.now-moment.result (search rules); turned = search rules; asked = (c.ask-given.new.self, search rules, refl); written = (tt, tt) };
+  turns = record { moments = one_answer _ _ c.now-moment.result (search rules); turned = search rules; asked = (c.ask-given.new.self, search rules, c.ask-given.new.self, refl, refl); written = (tt, tt) };
   same = search rules;
 }

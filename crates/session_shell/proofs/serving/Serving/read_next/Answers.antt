@@ -12,18 +12,18 @@ use Rattle.session_shell.proofs.serving.Serving.read_next.Goals as goal
 pub returns-in-Ok-InputFull-clause-steps : goal.returns-in-Ok-InputFull-clause-steps
 returns-in-Ok-InputFull-clause-steps g c =
     let ahead : ReadAhead Full c.next.new.self = search rules in
-    Steps-full g.D.Door.follows c.args.door.now c.args.self.now.feed c.next.new.self c.args.self.now.reading c.self.inside.reading _ _ (search rules)
+    Steps-full g.D.Door.follows g.D.Door.syncs c.args.door.now c.args.self.now.feed c.next.new.self c.args.self.now.reading c.self.inside.reading _ _ (search rules)
     (ap (λ h. view_of g.C.Clock.coming h) (sym c.self.view_is)) (search rules) (ahead.full.0 refl)
 
 pub returns-in-Ok-Failed-clause-steps : goal.returns-in-Ok-Failed-clause-steps
 returns-in-Ok-Failed-clause-steps g c =
     let none : c.next.new.self.ahead ≡ 0 = search rules in
-    Steps-failed g.D.Door.follows c.args.door.now c.args.self.now.feed c.next.new.self c.args.self.now.reading c.self.inside.reading _ _ (search rules)
+    Steps-failed g.D.Door.follows g.D.Door.syncs c.args.door.now c.args.self.now.feed c.next.new.self c.args.self.now.reading c.self.inside.reading _ _ (search rules)
     (ap (λ h. view_of g.C.Clock.coming h) (sym c.self.view_is)) (search rules) none
 
 pub returns-in-Err-clause-steps : goal.returns-in-Err-clause-steps
 returns-in-Err-clause-steps g c =
-    Steps-no_memory g.D.Door.follows c.args.door.now c.args.self.now.feed c.next.new.self c.args.self.now.reading c.self.inside.reading _ _ (search rules) (search rules)
+    Steps-no_memory g.D.Door.follows g.D.Door.syncs c.args.door.now c.args.self.now.feed c.next.new.self c.args.self.now.reading c.self.inside.reading _ _ (search rules) (search rules)
     (ap (λ h. view_of g.C.Clock.coming h) (sym c.self.view_is))
 
 pub returns-in-Ok : goal.returns-in-Ok
@@ -44,11 +44,11 @@ returns-in-Ok g c =
     let later : c.self.inside.lines.faults ≤ c.next.new.self.faults = search rules in
     record {
       steps =
-          subst (λ f. StepsOn g.D.Door.follows c.take.result f c.take.new.self.feed (standing c.args.door.now c.args.self.now.reading old) (standing c.take.new.door c.take.new.self.reading new)) (sym old_feed)
-          (subst (λ f. StepsOn g.D.Door.follows c.take.result c.self.inside.lines f (standing c.args.door.now c.args.self.now.reading old) (standing c.take.new.door c.take.new.self.reading new)) new_feed
-          (subst (λ r. StepsOn g.D.Door.follows c.take.result c.self.inside.lines c.next.new.self (standing c.args.door.now r old) (standing c.take.new.door c.take.new.self.reading new)) (sym reading)
-          (subst (λ m. StepsOn g.D.Door.follows c.take.result c.self.inside.lines c.next.new.self (standing c.args.door.now c.self.inside.reading m) (standing c.take.new.door c.take.new.self.reading new)) (sym same)
-          (Steps-line g.D.Door.follows c.take.result c.in-Ok.line c.args.door.now c.take.new.door c.self.inside.lines c.next.new.self c.self.inside.reading c.take.new.self.reading mid new c.take.ensures.later c.take.ensures.cause read gives within c.take.ensures.takes))));
+          subst (λ f. StepsOn g.D.Door.follows g.D.Door.syncs c.take.result f c.take.new.self.feed (standing c.args.door.now c.args.self.now.reading old) (standing c.take.new.door c.take.new.self.reading new)) (sym old_feed)
+          (subst (λ f. StepsOn g.D.Door.follows g.D.Door.syncs c.take.result c.self.inside.lines f (standing c.args.door.now c.args.self.now.reading old) (standing c.take.new.door c.take.new.self.reading new)) new_feed
+          (subst (λ r. StepsOn g.D.Door.follows g.D.Door.syncs c.take.result c.self.inside.lines c.next.new.self (standing c.args.door.now r old) (standing c.take.new.door c.take.new.self.reading new)) (sym reading)
+          (subst (λ m. StepsOn g.D.Door.follows g.D.Door.syncs c.take.result c.self.inside.lines c.next.new.self (standing c.args.door.now c.self.inside.reading m) (standing c.take.new.door c.take.new.self.reading new)) (sym same)
+          (Steps-line g.D.Door.follows g.D.Door.syncs c.take.result c.in-Ok.line c.args.door.now c.take.new.door c.self.inside.lines c.next.new.self c.self.inside.reading c.take.new.self.reading mid new c.take.ensures.later c.take.ensures.cause read gives within c.take.ensures.takes))));
       spare = search rules;
       falls = λ is. subst (λ f. f.room < c.args.self.now.feed.room) new_feed (subst (λ f. c.next.new.self.room < f.room) (sym old_feed) (falls_of c.self.inside.reading c.in-Ok.line c.self.inside.lines.room c.next.new.self.room read (c.take.ensures.end is) falls));
       source_cause = search rules;
