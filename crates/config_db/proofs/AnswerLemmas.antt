@@ -1,5 +1,5 @@
 -- What comes before a command, and the command, put together.
-use Rattle.std.proofs.Common.{◌≡◌, ◌≤◌, ◌⊎◌, ⊎_elim, inl, ℕ, Bool, List, [], ◌∷◌, ◌++◌, length, refl, sym, ap, subst, ◌∙◌, append_assoc, arith}
+use Rattle.std.proofs.Common.{◌≡◌, ◌≤◌, ◌⊎◌, ⊎_elim, inl, ℕ, Bool, List, [], ◌∷◌, ◌++◌, length, refl, sym, ap, subst, ◌∙◌, append_assoc, is_some, arith}
 use Rattle.commit_journal.specs.Journal.{disks_of}
 use Rattle.disk_model.specs.Pair.{FaultOnEither}
 use Rattle.std.specs.Prelude.{IsSome}
@@ -163,6 +163,7 @@ module _ (caller moment : ℕ) where
   extends_published v w own extends = record {
     leads = extends.leads;
     grown = extends.grown;
+    added = extends.added;
     made = extends.made;
     causes = extends.causes;
     counted = extends.counted;
@@ -223,6 +224,19 @@ module _ (caller moment : ℕ) where
         clears = behind ticked u v w e up.own tt refl refl happens.goes up.extends.goes first.leads up.quiet up.clears;
         since = omega (arith, now, no_earlier, up.since);
         no_later = up.no_later;
+      }
+
+  -- a settling that failed
+  pub way_unsettled : (u v : DatabaseView) → u.state.greatest ≤ moment → IsSome u.state.flight → IsUnsettled u v → MakesWay caller moment DiskFault u v
+  way_unsettled u v no_earlier some un =
+      let same : v.state.greatest ≡ u.state.greatest = ap (λ s. s.greatest) un.state in
+      record {
+        own = [];
+        extends = extends_unsettled caller moment u v un;
+        no_command = tt;
+        clears = (ap (λ s. is_some s.flight) un.state ∙ some, un.rose);
+        since = omega (arith, same);
+        no_later = omega (arith, same, no_earlier);
       }
 
   -- the command after events of this call

@@ -14,6 +14,7 @@ use Rattle.session_history.specs.declared.history.History.{History}
 use Rattle.session_history.specs.Events.{IsLegal, Leads, StaysAccepted}
 use Rattle.stored_ledger.specs.Stored.{HoldsKept}
 use Rattle.config_db.specs.View.{DatabaseView, opened}
+use Rattle.config_db.specs.Added.{AddsSome}
 use Rattle.config_db.specs.Numbers.{calls_of}
 use Rattle.config_db.specs.Writing.{entry_in}
 use Rattle.config_db.specs.Standing.{Stands}
@@ -74,16 +75,17 @@ is_held j s sound stands a b =
 
 -- what is handed back of a book
 pub handed_back : (v : DatabaseView) (happened : History) (disks : DiskPair)
-    → ((s : State) (es : List Happened) → IsSoundState s → IsLegal s es → StaysAccepted s es) → IsBook v
+    → ((s : State) (es : List Happened) → IsSoundState s → IsLegal s es → StaysAccepted s es) → IsBook v → AddsSome (opened v) v.events v.state
     → happened.opening ≡ Some v.opening → happened.users ≡ v.users → happened.events.items ≡ v.events
     → happened.made.a ≡ calls_a v.journal → happened.made.b ≡ calls_b v.journal → disks ≡ disks_of v.journal
     → IsHandedBack v happened disks
-handed_back v happened disks law book opening users events made_a made_b are = record {
+handed_back v happened disks law book added opening users events made_a made_b are = record {
   opening = opening;
   users = users;
   events = events;
   made = calls_is v.journal happened.made made_a made_b;
   legal = book.leads;
+  added = added;
   rising = book.rising;
   accepted = stays_accepted v.opening v.users v.events v.state law book.began book.leads;
   disks_are = are;

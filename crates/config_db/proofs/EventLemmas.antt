@@ -3,6 +3,7 @@ use Rattle.std.proofs.Common.{◌≡◌, ◌≤◌, ℕ, Bool, true, List, [], �
 use Rattle.std.specs.Prelude.{IfSome, IsSome}
 use Rattle.cfg_base.specs.declared.calls.Calls.{Calls}
 use Rattle.disk_model.specs.Disk.{IsImage, state_of}
+use Rattle.commit_ledger.specs.declared.entry.Entry.{Entry}
 use Rattle.commit_ledger.specs.Kept.{Kept}
 use Rattle.commit_journal.specs.Journal.{JournalView, LeavesBoth, Tell, a_of, b_of}
 use Rattle.commit_journal.specs.Pair.{WasLeft}
@@ -29,6 +30,8 @@ use Rattle.config_db.specs.Standing.{Stands}
 use Rattle.config_db.specs.Writing.{IsFoundOut, KeepsLimit, entry_in, flight_after, kept_after}
 use Rattle.config_db.specs.Shown.{IsShown, Shows, ShowsOn, ShowsSettled}
 use Rattle.config_db.specs.Book.{IsBook}
+use Rattle.config_db.specs.Added.{AddsOne, added_by}
+use Rattle.config_db.specs.Appended.{HeldView, HoldsAdded, HoldsMade, HoldsSettled}
 use Rattle.config_db.specs.Moves.{Happens, IsSettledBy, IsUnsettled, Turns, noted}
 use Rattle.config_db.proofs.AnewLemmas.{agrees_a, agrees_b}
 use Rattle.config_db.proofs.CalledLemmas.{called_left, called_none}
@@ -37,6 +40,7 @@ use Rattle.config_db.proofs.NumberLemmas.{rising_more}
 use Rattle.config_db.proofs.SafeLemmas.{appends_safe, noted_safe, settles_safe}
 use Rattle.config_db.proofs.MachineLemmas.{Leaves, flying, free_steps, kept_settled, made_follows, plan_leaves, put_off_leaves, put_off_turns, settling_fits, settling_leaves, settling_makes_none, settling_turns}
 use Rattle.config_db.proofs.ShownLemmas.{settled_on, shows_on, shows_settled, shows_written, still_shown, written_on}
+use Rattle.config_db.proofs.HeldLemmas.{adds_made, adds_settled, entry_is_settled, entry_settled, held_after, none_put_off, rest_made, rest_settled, same_rest, still_waits, waits_made, waits_settled}
 use Rattle.config_db.proofs.BookLemmas.{book_after, book_unsettled, stands_found, stands_unfound}
 use Rattle.config_db.proofs.WritingLemmas.{Wrote}
 
@@ -58,10 +62,12 @@ some_failed None outcome calm is = absurd (let done = calm refl in cc)
 some_failed (Some made) Done calm is = absurd (cc)
 some_failed (Some made) Fault calm is = refl
 
--- what resulted from an event
-pub record Comes (caller moment : ℕ) (event : Event) (outcome : Outcome) (reply : Reply) (v v' : DatabaseView) : Type 0 where
+-- what resulted from an event: the entry that it adds, and what is in flight
+pub record Comes (caller moment : ℕ) (event : Event) (outcome : Outcome) (reply : Reply) (entry : Option Entry) (flight : Option Made) (v v' : DatabaseView) : Type 0 where
   pub book : IsBook v'
   pub happens : Happens caller moment event outcome reply v v'
+  pub entry_is : added_by v.state.flight event outcome happens.turns.turned.made ≡ entry
+  pub flight_is : v'.state.flight ≡ flight
 
 module _ (v : DatabaseView) (book : IsBook v)
     (one_state : (events : List Happened) (s t : State) → Leads (opened v) events s → Leads (opened v) events t → s ≡ t) where
@@ -98,12 +104,13 @@ module _ (v : DatabaseView) (book : IsBook v)
 
   -- from what the machine and the journal did
   comes : (j' : JournalView) (events' : List Happened) (s' : State) (w' : WriterView) (caller moment : ℕ) (event : Event) (outcome : Outcome) (reply : Reply) (calls : Calls) (kept : Kept) (flight : Option Made)
-      → calls ≡ calls_of j' → events' ≡ v.events ++ noted caller moment event outcome calls ∷ [] → (turns : Turns v.state caller moment event outcome reply s') → Leaves v.state s' kept flight
+      (entry : Option Entry) → calls ≡ calls_of j' → events' ≡ v.events ++ noted caller moment event outcome calls ∷ [] → (turns : Turns v.state caller moment event outcome reply s') → Leaves v.state s' kept flight
       → Stands j' kept (entry_in flight) → GoesOn v.journal j' → (Tell v.journal → BothCalled v.journal j') → (outcome ≡ Done → flight ≡ None) → (outcome ≡ Fault → IsSome flight)
       → Safe j' (noted caller moment event outcome (calls_of j')) s' → ShowsThen j' (noted caller moment event outcome (calls_of j')) s' w' → ShowsOn v.shown w'
       → (outcome ≡ Done → IfSome turns.turned.made (λ m. KeepsLimit v.state.kept m.entry j'))
-      → Comes caller moment event outcome reply v (next v j' events' s' w')
-  comes j' events' s' w' caller moment event outcome reply calls kept flight told grown turns leaves stands goes called done failed safe shows on trims =
+      → added_by v.state.flight event outcome turns.turned.made ≡ entry → AddsOne v.state.kept entry kept
+      → Comes caller moment event outcome reply entry flight v (next v j' events' s' w')
+  comes j' events' s' w' caller moment event outcome reply calls kept flight entry told grown turns leaves stands goes called done failed safe shows on trims is_entry adds =
       let grown' : events' ≡ v.events ++ noted caller moment event outcome (calls_of j') ∷ [] = grown ∙ ap (λ c. v.events ++ noted caller moment event outcome c ∷ []) told in
       let same : IsSameRun v (next v j' events' s' w') = record { opening = refl; users = refl } in
       record {
@@ -117,8 +124,11 @@ module _ (v : DatabaseView) (book : IsBook v)
           done = λ is. leaves.flight_is ∙ done is;
           failed = λ is. ap is_some leaves.flight_is ∙ failed is;
           shown = on;
+          adds = subst (λ o. AddsOne v.state.kept o s'.kept) (sym is_entry) (subst (AddsOne v.state.kept entry) (sym leaves.kept_is) adds);
           trims = trims;
         };
+        entry_is = is_entry;
+        flight_is = leaves.flight_is;
       }
 
   -- nothing is in flight
@@ -129,14 +139,17 @@ module _ (v : DatabaseView) (book : IsBook v)
   pub carried : (j' : JournalView) (events' : List Happened) (s' : State) (w' : WriterView) (caller moment : ℕ) (event : Event) (outcome : Outcome) (reply : Reply) (calls : Calls) (plan : PreparedView)
       → v.state.flight ≡ None → Fits v.state caller moment event → IsPrepared v.state caller moment event plan
       → Wrote v.state.kept (made_in plan.effect) outcome v.journal j' → IsShown (made_in plan.effect) outcome v.shown w' → calls ≡ calls_of j' → s' ≡ applied plan outcome v.state → reply ≡ replied plan.effect plan.reply outcome
-      → events' ≡ v.events ++ noted caller moment event outcome calls ∷ [] → Comes caller moment event outcome reply v (next v j' events' s' w')
+      → events' ≡ v.events ++ noted caller moment event outcome calls ∷ []
+      → Comes caller moment event outcome reply (added_by None event outcome (made_in plan.effect)) (flight_after (made_in plan.effect) outcome) v (next v j' events' s' w')
   carried j' events' s' w' caller moment event outcome reply calls plan free fits prepared written shown told is replies grown =
-      comes j' events' s' w' caller moment event outcome reply calls (kept_after v.state.kept (made_in plan.effect) outcome) (flight_after (made_in plan.effect) outcome) told grown
+      comes j' events' s' w' caller moment event outcome reply calls (kept_after v.state.kept (made_in plan.effect) outcome) (flight_after (made_in plan.effect) outcome)
+      (added_by None event outcome (made_in plan.effect)) told grown
       (record { fits = fits; turned = ended plan outcome v.state; steps = free_steps v.state caller moment event plan outcome free fits prepared written.calm; state = is; replied = replies })
       leaves written.stands
       written.goes written.called (none_done (made_in plan.effect) outcome) (some_failed (made_in plan.effect) outcome written.calm) safe
       (λ leads. shows_written (opened v) v.events v.state v.shown book.shows (noted caller moment event outcome (calls_of j') ∷ []) s' leads (made_in plan.effect) outcome w' free shown leaves.kept_is leaves.flight_is)
       (written_on (made_in plan.effect) outcome v.shown w' shown) written.trims
+      (ap (λ flight. added_by flight event outcome (made_in plan.effect)) free) (adds_made v.state.kept event outcome (made_in plan.effect) written.next)
     where
       leaves : Leaves v.state s' (kept_after v.state.kept (made_in plan.effect) outcome) (flight_after (made_in plan.effect) outcome)
       leaves = subst (λ t. Leaves v.state t (kept_after v.state.kept (made_in plan.effect) outcome) (flight_after (made_in plan.effect) outcome)) (sym is) (plan_leaves plan outcome v.state free written.calm)
@@ -168,12 +181,12 @@ module _ (v : DatabaseView) (book : IsBook v)
     pub settled_so : (j' : JournalView) (events' : List Happened) (s' : State) (w' : WriterView) (caller moment : ℕ) (is_kept : Bool) (calls : Calls)
         → v.state.greatest ≤ moment → IsFoundOut (Some is_kept) v.journal j' → ShowsSettled is_kept v.shown w' → calls ≡ calls_of j' → (by : IsSettledBy caller moment is_kept v.state s')
         → events' ≡ v.events ++ noted caller moment (Settle is_kept) Done calls ∷ []
-        → Comes caller moment (Settle is_kept) Done (replied by.plan.effect by.plan.reply Done) v (next v j' events' s' w')
+        → Comes caller moment (Settle is_kept) Done (replied by.plan.effect by.plan.reply Done) (entry_settled v.state.flight is_kept) None v (next v j' events' s' w')
     settled_so j' events' s' w' caller moment is_kept calls no_earlier found shown told by grown =
         let turned = settling_turns v.state caller moment is_kept by.plan made is_made (settling_fits v.state caller moment is_kept some no_earlier) by.prepared in
         let leaves : Leaves v.state s' (kept_settled v.state.kept made is_kept) None =
         subst (λ t. Leaves v.state t (kept_settled v.state.kept made is_kept) None) (sym (by.is ∙ turned.state)) (settling_leaves v.state caller moment is_kept turned.turned made is_made turned.steps) in
-        comes j' events' s' w' caller moment (Settle is_kept) Done (replied by.plan.effect by.plan.reply Done) calls (kept_settled v.state.kept made is_kept) None told grown
+        comes j' events' s' w' caller moment (Settle is_kept) Done (replied by.plan.effect by.plan.reply Done) calls (kept_settled v.state.kept made is_kept) None (entry_settled v.state.flight is_kept) told grown
         (record { fits = turned.fits; turned = turned.turned; steps = turned.steps; state = by.is ∙ turned.state; replied = turned.replied })
         leaves
         (stands_found v.journal j' v.state.kept made is_kept here found (made_follows v.state.kept v.state.greatest (Some made) made_sound))
@@ -182,6 +195,9 @@ module _ (v : DatabaseView) (book : IsBook v)
         (λ leads. shows_settled (opened v) v.events v.state v.shown book.shows (noted caller moment (Settle is_kept) Done (calls_of j') ∷ []) s' leads made is_kept w' is_made shown leaves.kept_is leaves.flight_is)
         (settled_on is_kept v.shown w' shown)
         (λ done. subst (λ m. IfSome m (λ m. KeepsLimit v.state.kept m.entry j')) (sym (settling_makes_none v.state caller moment is_kept turned.turned made is_made turned.steps)) tt)
+        (entry_is_settled v.state.flight made is_kept turned.turned.made is_made)
+        (subst (λ f. AddsOne v.state.kept (entry_settled f is_kept) (kept_settled v.state.kept made is_kept)) (sym is_made)
+        (adds_settled v.state.kept made is_kept (here.entry, made_follows v.state.kept v.state.greatest (Some made) made_sound)))
 
     -- a settling that failed
     pub unsettled_book : (j' : JournalView) → IsFoundOut None v.journal j' → IsBook (next v j' v.events v.state v.shown)
@@ -197,15 +213,36 @@ module _ (v : DatabaseView) (book : IsBook v)
     pub put_off_so : (events' : List Happened) (s' : State) (caller moment : ℕ) (event : Event) (reply : Reply) (calls : Calls) (plan : PreparedView)
         → is_command event ≡ true → Fits v.state caller moment event → IsPrepared v.state caller moment event plan
         → calls ≡ calls_of v.journal → s' ≡ applied plan Fault v.state → reply ≡ replied plan.effect plan.reply Fault
-        → events' ≡ v.events ++ noted caller moment event Fault calls ∷ [] → Comes caller moment event Fault reply v (next v v.journal events' s' v.shown)
+        → events' ≡ v.events ++ noted caller moment event Fault calls ∷ [] → Comes caller moment event Fault reply None v.state.flight v (next v v.journal events' s' v.shown)
     put_off_so events' s' caller moment event reply calls plan asks fits prepared told is replies grown =
         let turned = put_off_turns v.state caller moment event plan made asks is_made fits prepared in
         let leaves : Leaves v.state s' v.state.kept v.state.flight =
         subst (λ t. Leaves v.state t v.state.kept v.state.flight) (sym (is ∙ turned.state)) (put_off_leaves v.state caller moment event turned.turned made asks is_made turned.steps) in
-        comes v.journal events' s' v.shown caller moment event Fault reply calls v.state.kept v.state.flight told grown
+        comes v.journal events' s' v.shown caller moment event Fault reply calls v.state.kept v.state.flight None told grown
         (record { fits = turned.fits; turned = turned.turned; steps = turned.steps; state = is ∙ turned.state; replied = replies ∙ turned.replied })
         leaves
         book.stands (goes_nowhere v.journal) (λ t. called_none v.journal) (λ done. absurd (cc)) (λ failed. some)
         (notes v.journal (noted caller moment event Fault (calls_of v.journal)) s' (goes_nowhere v.journal).calls refl book.safe)
         (λ leads. shows_on (opened v) v.events v.state v.shown book.shows (noted caller moment event Fault (calls_of v.journal) ∷ []) s' leaves.kept_is leaves.flight_is)
-        (still_shown v.shown v.shown refl refl) (λ done. absurd (cc))
+        (still_shown v.shown v.shown refl refl) (λ done. absurd (cc)) (none_put_off v.state.flight made event turned.turned.made asks is_made) refl
+
+-- what is held after an event: one with nothing in flight, a settling, and a command that is put off
+pub held_carried : (caller moment : ℕ) (event : Event) (outcome : Outcome) (reply : Reply) (made : Option Made) (v w : DatabaseView) (h h' : HeldView)
+    → Comes caller moment event outcome reply (added_by None event outcome made) (flight_after made outcome) v w → v.state.flight ≡ None → HoldsAdded (opened v) v.events v.state h
+    → HoldsMade made outcome h h' → HoldsAdded (opened w) w.events w.state h'
+held_carried caller moment event outcome reply made v w h h' comes free held holds =
+    held_after caller moment event outcome reply v w comes.happens (added_by None event outcome made) h h' comes.entry_is held (rest_made event made outcome h h' holds)
+    (waits_made made outcome v.state.flight w.state.flight h h' holds held.waits free comes.flight_is)
+
+pub held_settled : (caller moment : ℕ) (is_kept : Bool) (reply : Reply) (v w : DatabaseView) (h h' : HeldView)
+    → Comes caller moment (Settle is_kept) Done reply (entry_settled v.state.flight is_kept) None v w → IsSome v.state.flight → HoldsAdded (opened v) v.events v.state h
+    → HoldsSettled is_kept h h' → HoldsAdded (opened w) w.events w.state h'
+held_settled caller moment is_kept reply v w h h' comes some held holds =
+    held_after caller moment (Settle is_kept) Done reply v w comes.happens (entry_settled v.state.flight is_kept) h h' comes.entry_is held
+    (rest_settled v.state.flight is_kept h h' some holds held.waits) (waits_settled is_kept w.state.flight h h' holds)
+
+pub held_put_off : (caller moment : ℕ) (event : Event) (reply : Reply) (v w : DatabaseView) (h : HeldView) → Comes caller moment event Fault reply None v.state.flight v w
+    → HoldsAdded (opened v) v.events v.state h → HoldsAdded (opened w) w.events w.state h
+held_put_off caller moment event reply v w h comes held =
+    held_after caller moment event Fault reply v w comes.happens None h h comes.entry_is held (same_rest h.entries h.entries refl)
+    (still_waits h h v.state.flight w.state.flight refl comes.flight_is held.waits)

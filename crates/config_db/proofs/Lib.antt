@@ -10,6 +10,8 @@ mod WritingLemmas
 mod MachineLemmas
 mod ShownLemmas
 mod BookLemmas
+pub mod AddedLemmas
+mod HeldLemmas
 mod EventLemmas
 pub mod FaultLemmas
 mod MoveLemmas

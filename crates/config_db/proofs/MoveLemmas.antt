@@ -18,6 +18,7 @@ use Rattle.config_db.specs.Disks.{GoesOn}
 use Rattle.config_db.specs.Faults.{FaultsAreCounted}
 use Rattle.config_db.specs.Moves.{Extends, Happens, HasCause, IsUnsettled, noted}
 use Rattle.config_db.proofs.AllLemmas.{All-append, All-map}
+use Rattle.config_db.proofs.HeldLemmas.{happens_add, some_more}
 use Rattle.config_db.proofs.CalledLemmas.{called_none, called_then}
 use Rattle.config_db.proofs.DiskLemmas.{goes_further, goes_nowhere, rose_first, rose_last, tell_on}
 use Rattle.config_db.proofs.BookLemmas.{turn_leads}
@@ -33,6 +34,7 @@ module _ (caller moment : ℕ) where
   extends_none v = record {
     leads = refl;
     grown = sym (append-nil v.events);
+    added = ([], (refl, refl));
     made = tt;
     causes = tt;
     counted = counted_none (disks_of v.journal) (disks_of v.journal) (omega arith) (omega arith);
@@ -47,6 +49,7 @@ module _ (caller moment : ℕ) where
   extends_unsettled v v' un = record {
     leads = un.state;
     grown = un.events ∙ sym (append-nil v.events);
+    added = ([], (un.state, refl));
     made = tt;
     causes = tt;
     counted = counted_none (disks_of v.journal) (disks_of v'.journal) un.goes.faults_a un.goes.faults_b;
@@ -76,6 +79,7 @@ module _ (caller moment : ℕ) where
       record {
         leads = Leads-append u.state own (e ∷ []) v.state w.state before.leads (turn_leads v.state w.state caller moment event outcome reply (calls_of w.journal) happens.turns);
         grown = happens.grown ∙ ap (λ l. l ++ e ∷ []) before.grown ∙ append_assoc u.events own (e ∷ []);
+        added = some_more u.state own (e ∷ []) v.state w.state before.added (happens_add caller moment event outcome reply v w happens);
         made = All-append (IsEventOf caller moment) own (e ∷ []) before.made ((refl, refl), tt);
         causes = All-append (HasCause u.journal w.journal) own (e ∷ []) (causes_first u v w own before.causes happens.goes) (cause, tt);
         counted = counted;
@@ -97,6 +101,7 @@ module _ (caller moment : ℕ) where
   extends_more u v w own more first next = record {
     leads = Leads-append u.state own more v.state w.state first.leads next.leads;
     grown = next.grown ∙ ap (λ l. l ++ more) first.grown ∙ append_assoc u.events own more;
+    added = some_more u.state own more v.state w.state first.added next.added;
     made = All-append (IsEventOf caller moment) own more first.made next.made;
     causes = All-append (HasCause u.journal w.journal) own more (causes_first u v w own first.causes next.goes) (causes_last u v w more first.goes next.goes next.causes);
     counted = counted_more own more (disks_of u.journal) (disks_of v.journal) (disks_of w.journal) next.goes.faults_a next.goes.faults_b first.counted next.counted;

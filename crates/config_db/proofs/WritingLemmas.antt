@@ -115,6 +115,7 @@ module _ (kept : Kept) (entry : Entry) (next : IsNext kept entry) (j : JournalVi
   pub entry_appended : (j' : JournalView) (outcome : Outcome) → j.gate + 1 + length (body 0 (entry_record entry)) ≤ j.limit → IsAppend (entry_record entry ∷ []) outcome j j'
       → IsEntryWritten kept entry outcome j j'
   entry_appended j' outcome room append = record {
+    next = next;
     stands = after_append kept entry next j j' stands.records stands.are stands.holds outcome append;
     goes = append.goes;
     cause = append.cause;
@@ -140,6 +141,7 @@ module _ (kept : Kept) (entry : Entry) (next : IsNext kept entry) (j : JournalVi
     -- a rotation that failed: the image is in flight
     pub not_rotated : failed → IsRotateFaulted j image i → IsEntryWritten kept entry Fault j i
     not_rotated fails faulted = record {
+      next = next;
       stands = record {
         records = stands.records;
         are = stands.are;
@@ -162,6 +164,7 @@ module _ (kept : Kept) (entry : Entry) (next : IsNext kept entry) (j : JournalVi
 
       pub entry_rotated : (j' : JournalView) (outcome : Outcome) → IsAppend (entry_record entry ∷ []) outcome i j' → IsEntryWritten kept entry outcome j j'
       entry_rotated j' outcome append = record {
+        next = next;
         stands = after_append kept entry next i j' image anew held outcome append;
         goes = goes_further j i j' goes append.goes;
         cause = λ fault. rose_last j i j' goes append.goes (append.cause fault);
@@ -183,6 +186,7 @@ has_room needs limit used told is = ⊎_elim (λ below. absurd (let no = subst I
 -- what the writing of an event's entry came to, if it makes one
 pub record Wrote (kept : Kept) (made : Option Made) (outcome : Outcome) (j j' : JournalView) : Type 0 where
   pub calm : made ≡ None → outcome ≡ Done
+  pub next : IfSome made (λ m. IsNext kept m.entry)
   pub stands : Stands j' (kept_after kept made outcome) (entry_in (flight_after made outcome))
   pub goes : GoesOn j j'
   pub cause : outcome ≡ Fault → FaultOnEither (disks_of j) (disks_of j')
@@ -204,6 +208,7 @@ nothing_left kept j stands t = record {
 nothing_written : (kept : Kept) (outcome : Outcome) (j : JournalView) → Stands j kept None → outcome ≡ Done → Wrote kept None outcome j j
 nothing_written kept outcome j stands done = record {
   calm = λ none. done;
+  next = tt;
   stands = stands;
   goes = goes_nowhere j;
   cause = λ fault. absurd (cc);
@@ -215,9 +220,9 @@ nothing_written kept outcome j stands done = record {
 pub wrote : (kept : Kept) (made : Option Made) (outcome : Outcome) (j j' : JournalView) → Stands j kept None → IsWritten kept made outcome j j' → Wrote kept made outcome j j'
 wrote kept None outcome j j' stands (done, same) = subst (λ k. Wrote kept None outcome j k) (sym same) (nothing_written kept outcome j stands done)
 wrote kept (Some m) Done j j' stands written =
-    record { calm = λ none. refl; stands = written.stands; goes = written.goes; cause = written.cause; called = written.called; crash = written.crash; trims = written.trims }
+    record { calm = λ none. refl; next = written.next; stands = written.stands; goes = written.goes; cause = written.cause; called = written.called; crash = written.crash; trims = written.trims }
 wrote kept (Some m) Fault j j' stands written =
-    record { calm = λ none. absurd (cc); stands = written.stands; goes = written.goes; cause = written.cause; called = written.called; crash = written.crash; trims = written.trims }
+    record { calm = λ none. absurd (cc); next = written.next; stands = written.stands; goes = written.goes; cause = written.cause; called = written.called; crash = written.crash; trims = written.trims }
 
 -- an event that makes no entry, and one that does
 pub none_written : (kept : Kept) (j : JournalView) (made : Option Made) → None ≡ option_map (λ (m : Made). m.entry) made → IsWritten kept made Done j j

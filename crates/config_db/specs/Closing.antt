@@ -7,6 +7,7 @@ use Rattle.session_history.specs.declared.history.History.{History}
 use Rattle.session_history.specs.Events.{Leads, StaysAccepted}
 use Rattle.stored_ledger.specs.Stored.{HoldsKept}
 use Rattle.config_db.specs.View.{DatabaseView, opened}
+use Rattle.config_db.specs.Added.{AddsSome}
 use Rattle.config_db.specs.Numbers.{AreRising, calls_of, none_called}
 use Rattle.config_db.specs.Crash.{IsCrashSafe}
 use Rattle.config_db.specs.Moves.{Extends}
@@ -29,6 +30,8 @@ pub record IsHandedBack (v : DatabaseView) (happened : History) (disks : DiskPai
   pub events : happened.events.items ≡ v.events
   pub made : happened.made ≡ calls_of v.journal
   pub legal : Leads (opened v) v.events v.state
+  -- the list is that of the opening with the entries that the events added
+  pub added : AddsSome (opened v) v.events v.state
   pub rising : AreRising none_called v.events (calls_of v.journal)
   pub accepted : StaysAccepted (opened v) v.events
   pub disks_are : disks ≡ disks_of v.journal

@@ -5,6 +5,8 @@ pub mod Standing
 pub mod Crash
 pub mod Writing
 pub mod Shown
+pub mod Added
+pub mod Appended
 pub mod Book
 pub mod Starting
 pub mod Faults

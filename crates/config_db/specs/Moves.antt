@@ -19,6 +19,7 @@ use Rattle.session_history.specs.Events.{Leads, IsEventOf}
 use Rattle.config_db.specs.declared.answer.Before.{Before}
 use Rattle.config_db.specs.declared.answer.Before.TheVariants.{Settled, PutOff}
 use Rattle.config_db.specs.View.{DatabaseView, IsSameRun}
+use Rattle.config_db.specs.Added.{AddsOne, AddsSome, added_by}
 use Rattle.config_db.specs.Numbers.{calls_of}
 use Rattle.config_db.specs.Crash.{BothCalled}
 use Rattle.config_db.specs.Disks.{GoesOn}
@@ -51,6 +52,8 @@ pub record Happens (caller moment : ℕ) (event : Event) (outcome : Outcome) (re
   pub done : outcome ≡ Done → v'.state.flight ≡ None
   pub failed : outcome ≡ Fault → IsSome v'.state.flight
   pub shown : ShowsOn v.shown v'.shown
+  -- the list gets the entry that the event adds, which may be its next one, or stays
+  pub adds : AddsOne v.state.kept (added_by v.state.flight event outcome turns.turned.made) v'.state.kept
   -- an entry that was written leaves the file within its limit, where a checkpoint and the entry fit in it
   pub trims : outcome ≡ Done → IfSome turns.turned.made (λ made. KeepsLimit v.state.kept made.entry v'.journal)
 
@@ -92,6 +95,8 @@ pub record Extends (caller moment : ℕ) (own : List Happened) (v v' : DatabaseV
     : Type 0 where
   pub leads : Leads v.state own v'.state
   pub grown : v'.events ≡ v.events ++ own
+  -- the entries that the events add come behind those that were there
+  pub added : AddsSome v.state own v'.state
   pub made : AllByRecursion (IsEventOf caller moment) own
   pub causes : AllByRecursion (HasCause v.journal v'.journal) own
   -- and no more of them have it than the counts rose by

@@ -17,7 +17,7 @@ use Rattle.commit_journal.specs.Pair.{SpellsEither, WasLeft}
 use Rattle.config_core.specs.declared.event.Outcome.{Outcome}
 use Rattle.config_core.specs.declared.event.Outcome.TheVariants.{Done, Fault}
 use Rattle.config_core.specs.State.{Made}
-use Rattle.stored_ledger.specs.Stored.{SpellsWith}
+use Rattle.stored_ledger.specs.Stored.{IsNext, SpellsWith}
 use Rattle.config_db.specs.Crash.{BothCalled, CountsOn}
 use Rattle.config_db.specs.Disks.{GoesOn, Holds, HoldsImage}
 use Rattle.config_db.specs.Standing.{Stands}
@@ -99,6 +99,8 @@ KeepsLimit kept entry j =
 
 -- an entry was written after what is kept, with this outcome
 pub record IsEntryWritten (kept : Kept) (entry : Entry) (outcome : Outcome) (j j' : JournalView) : Type 0 where
+  -- it is one that may be the next
+  pub next : IsNext kept entry
   pub stands : Stands j' (kept_written kept entry outcome) (entry_left entry outcome)
   pub goes : GoesOn j j'
   pub cause : outcome ≡ Fault → FaultOnEither (disks_of j) (disks_of j')

@@ -40,6 +40,7 @@ impl<D: Disk, J: Naming> Database<D, J> {
             users,
             events,
             core: _,
+            held: _,
             shown,
             readers: _,
         } = self;

@@ -8,15 +8,17 @@ ghost use Rattle.active_snapshot.specs.Views.{AreViews};
 ghost use Rattle.trace_list.specs.declared.trace.TheConstants.{MOST};
 ghost use Rattle.config_db.specs.View.{AreParts, opened};
 ghost use Rattle.config_db.specs.Shown.{Shows};
+ghost use Rattle.config_db.specs.Appended.{AreAppended};
 ghost use Rattle.config_db.specs.Answers.{Answers, IsClear, IsNext, MakesWay, PublishesFirst, moment_at};
 ghost use Rattle.config_db.specs.Closing.{IsClosed};
 
 use crate::answer::{Answered, ClosedBook, Ticked};
+use crate::holding::Held;
 use active_snapshot::{Naming, Shown, SnapNote, SnapReaders, SnapWriter};
 use cfg_base::{Moment, Path, Users};
 use commands::Command;
 use commit_journal::Journal;
-use commit_ledger::Ledger;
+use commit_ledger::{EntryList, Ledger};
 use config_core::Core;
 use disk_model::Disk;
 use session_history::{Happened, histories_stay_accepted};
@@ -35,6 +37,7 @@ pub struct Database<D: Disk, J: Naming> {
     pub(crate) users: Users,
     pub(crate) events: Trace<Happened>,
     pub(crate) core: Core,
+    pub(crate) held: Held,
     pub(crate) shown: SnapWriter<J>,
     pub(crate) readers: SnapReaders<J>,
 }
@@ -45,6 +48,8 @@ impl<D: Disk, J: Naming> Model for Database<D, J> {
     ghost use Rattle.cfg_tree.specs.Statements.{statements_code};
     ghost use Rattle.config_db.specs.View.{DatabaseView};
     ghost use Rattle.config_db.specs.Book.{IsBook};
+    ghost use Rattle.config_db.specs.Appended.{HoldsAdded};
+    ghost use Rattle.config_core.specs.State.{opening_of};
 
     ghost Value = { DatabaseView };
 
@@ -60,7 +65,7 @@ impl<D: Disk, J: Naming> Model for Database<D, J> {
       readers = d.readers;
     } };
 
-    // After an entry in flight there is room for its settling.
+    // After an entry in flight there is room for its settling. What is held are the newest of the entries that the events added.
     ghost invariant = { λ d. IsBook (record {
       journal = d.journal;
       opening = d.opening;
@@ -69,7 +74,8 @@ impl<D: Disk, J: Naming> Model for Database<D, J> {
       state = d.core;
       shown = d.shown;
       readers = d.readers;
-    }) × (IsSome d.core.flight → 0 < d.events.spare) };
+    }) × (IsSome d.core.flight → 0 < d.events.spare)
+        × HoldsAdded (opening_of d.opening d.users) d.events.items d.core d.held };
 }
 
 impl<D: Disk, J: Naming> Database<D, J> {
@@ -154,6 +160,27 @@ impl<D: Disk, J: Naming> Database<D, J> {
         ensures { arc_value result.now ≡ self.now.state.kept }
     {
         self.shown.view()
+    }
+
+    /// What is kept now.
+    pub fn ledger(&self) -> &Ledger
+        ensures { result.now ≡ self.now.state.kept }
+    {
+        self.core.ledger()
+    }
+
+    /// Copies of the entries that are added are held from now on, where there is memory for them.
+    pub fn hold_entries(&mut self)
+        ensures { self.new ≡ self.old }
+    {
+        self.held.ask();
+    }
+
+    /// The entries that were added since the opening, as many of the newest as are held.
+    pub fn appended(&self) -> &EntryList
+        ensures { AreAppended self.now result.now }
+    {
+        self.held.entries()
     }
 
     /// The journal, the list over which the database began, and the users of its callers.

@@ -63,6 +63,7 @@ impl<D: Disk, J: Naming> Database<D, J> {
             ) {
                 Err(NoMemory) => Err(unwritten(event, prepared)),
                 Ok(outcome) => {
+                    self.held.hold(&prepared, outcome);
                     let happened = Happened {
                         caller,
                         moment,
@@ -88,6 +89,7 @@ impl<D: Disk, J: Naming> Database<D, J> {
             None => Outcome::Fault,
             Some(is_kept) => {
                 show_settled(rt, &mut self.shown, is_kept);
+                self.held.settle(is_kept);
                 let calls = self.journal.calls();
                 note_settling(
                     &mut self.core,
@@ -268,6 +270,7 @@ impl<D: Disk, J: Naming> Database<D, J> {
                 }
                 Some(is_kept) => {
                     show_settled(rt, &mut self.shown, is_kept);
+                    self.held.settle(is_kept);
                     let calls = self.journal.calls();
                     note_settling(
                         &mut self.core,

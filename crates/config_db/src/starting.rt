@@ -13,6 +13,7 @@ ghost use Rattle.config_db.specs.Book.{IsOpening};
 ghost use Rattle.config_db.specs.Starting.{IsBegun};
 
 use crate::database::Database;
+use crate::holding::Held;
 use crate::showing::first_view;
 use active_snapshot::{Front, Naming, Shelf, SnapReaders, SnapWriter, shown};
 use cfg_base::{Limits, NoMemory, Users};
@@ -179,6 +180,7 @@ impl<D: Disk, J: Naming> Database<D, J> {
             users,
             events: Trace::new(alloc, keeps),
             core,
+            held: Held::none(alloc),
             shown,
             readers,
         }

@@ -11,6 +11,7 @@ use std::process::ExitCode;
 
 mod book;
 mod disks;
+mod holding;
 mod images;
 mod reading;
 mod resting;

@@ -3,6 +3,7 @@
 ghost use Rattle.std.specs.Prelude.{◌≡◌, ◌<◌, ◌≤◌, length, IfOk};
 ghost use Rattle.commands.specs.Sound.{IsSound};
 
+use crate::holding::say_held;
 use crate::reading::{say_read, say_within, take_in};
 use active_snapshot::{Naming, SnapReader};
 use cfg_base::Moment;
@@ -99,6 +100,13 @@ fn make_ready<R: Wait, J: Naming>(
     ensures { book.new.users ≡ book.old.users }
 {
     book.ready(rt, caller, moment)
+}
+
+/// Entries that are added are held from now on.
+fn hold<J: Naming>(book: &mut Database<MemDisk, J>)
+    ensures { book.new.users ≡ book.old.users }
+{
+    book.hold_entries();
 }
 
 /// What resulted from a look at the time.
@@ -240,6 +248,16 @@ impl<J: Naming> Running<J> {
         say_counted(out, "published", note.published());
     }
 
+    /// hold: entries that are added are held from now on
+    fn hold(&mut self) {
+        hold(&mut self.book);
+    }
+
+    /// held: the entries that are held
+    fn say_held(&self, out: &mut Text) {
+        say_held(out, self.book.appended());
+    }
+
     /// read CALLER SECONDS: what the caller's reader shows at that moment
     fn read(
         &mut self,
@@ -307,6 +325,14 @@ impl<J: Naming> Running<J> {
                 self.say_note(out);
                 Ok(())
             }
+            ("hold", []) => {
+                self.hold();
+                Ok(())
+            }
+            ("held", []) => {
+                self.say_held(out);
+                Ok(())
+            }
             _ => Err(Fault::Script("no such call, or not with as many words")),
         }
     }
@@ -326,6 +352,6 @@ impl<J: Naming> Running<J> {
 pub(crate) fn is_call(name: &str) -> bool {
     matches!(
         name,
-        "tick" | "ready" | "level" | "read" | "learn" | "tell" | "within" | "note"
+        "tick" | "ready" | "level" | "read" | "learn" | "tell" | "within" | "note" | "hold" | "held"
     )
 }

@@ -202,7 +202,7 @@ from_stands Free s caller (CommandOf command) outcome turned stand steps = ends_
 steps_stand : (s : State) (caller moment : ℕ) (event : Event) (outcome : Outcome) (turned : Turned) → Stand s.callers → Steps s caller moment event outcome turned → Stands turned
 steps_stand s caller moment event outcome turned stand steps = from_stands (waiting_of s moment) (later s moment) caller event outcome turned stand steps
 
-leads_stand : (s : State) (events : List Happened) (last : State) → Stand s.callers → Leads s events last → Stand last.callers
+pub leads_stand : (s : State) (events : List Happened) (last : State) → Stand s.callers → Leads s events last → Stand last.callers
 leads_stand s [] last stand leads = subst (λ x. Stand x.callers) (sym leads) stand
 leads_stand s (event ∷ events) last stand leads =
     leads_stand leads.1.state events last (steps_stand s event.caller event.moment event.event event.outcome leads.1 stand leads.2) leads.3
@@ -212,7 +212,7 @@ same_some a b e = cc
 
 module _ (step_once : (s : State) (caller moment : ℕ) (event : Event) (outcome : Outcome) (one other : Turned) → IsLevelPath (level_of s caller)
     → Steps s caller moment event outcome one → Steps s caller moment event outcome other → one ≡ other) where
-  event_once : (s : State) (event : Happened) (one other : Turned) → Stand s.callers → Steps s event.caller event.moment event.event event.outcome one
+  pub event_once : (s : State) (event : Happened) (one other : Turned) → Stand s.callers → Steps s event.caller event.moment event.event event.outcome one
       → Steps s event.caller event.moment event.event event.outcome other → one ≡ other
   event_once s event one other stand = step_once s event.caller event.moment event.event event.outcome one other (levels_of s event.caller stand).here
 

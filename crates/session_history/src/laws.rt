@@ -1,7 +1,9 @@
-//! A history has one outcome, and keeps the active configuration accepted.
+//! A history has one outcome, goes on in one way, and keeps the active configuration accepted.
 
 ghost use Rattle.std.specs.Prelude.{◌≡◌, ℕ, List};
 ghost use Rattle.commit_ledger.specs.Kept.{Kept};
+ghost use Rattle.config_core.specs.Machine.{Steps};
+ghost use Rattle.config_core.specs.Serving.{Turned};
 ghost use Rattle.config_core.specs.Soundness.{IsSoundState};
 ghost use Rattle.config_core.specs.State.{State, opening_of};
 ghost use Rattle.config_core.specs.declared.reply.Reply.{Reply};
@@ -17,6 +19,15 @@ pub fn histories_have_one_outcome()
     ensures reply { (kept : Kept) (users : List (List ℕ)) (events : List Happened) (place : ℕ) (before again : State)
         (event same : Happened) (one other : Reply) → IsAt (opening_of kept users) events place before event one
         → IsAt (opening_of kept users) events place again same other → (event ≡ same) × (before ≡ again) × (one ≡ other) }
+{
+    steps_have_one_outcome();
+}
+
+/// Behind the events of a run an event with its outcome leaves one state, with one reply and one entry or none.
+pub fn histories_go_on_in_one_way()
+    ensures { (kept : Kept) (users : List (List ℕ)) (events : List Happened) (s : State) (event : Happened) (one other : Turned)
+        → Leads (opening_of kept users) events s → Steps s event.caller event.moment event.event event.outcome one
+        → Steps s event.caller event.moment event.event event.outcome other → one ≡ other }
 {
     steps_have_one_outcome();
 }

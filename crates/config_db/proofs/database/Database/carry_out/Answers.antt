@@ -13,7 +13,7 @@ use Rattle.config_db.specs.Writing.{IsWritten, entry_in}
 use Rattle.config_db.proofs.NumberLemmas.{calls_is}
 use Rattle.config_db.proofs.MachineLemmas.{made_follows, made_is_sound, made_writable}
 use Rattle.config_db.proofs.ShownLemmas.{can_follow, follows_last, nothing_proposed}
-use Rattle.config_db.proofs.EventLemmas.{carried, next, next_same}
+use Rattle.config_db.proofs.EventLemmas.{carried, held_carried, next, next_same}
 use Rattle.config_db.proofs.WritingLemmas.{wrote}
 use Rattle.config_db.proofs.database.Database.carry_out.Goals as goal
 
@@ -63,8 +63,12 @@ invariant_of-self-in-Ok-write_shown g c =
     let comes = carried v c.self.invariant.0 (λ events s t. c.histories_have_one_outcome.ensures.state i.opening i.users events s t) c.write_shown.new.journal c.note-reply.new.events.items c.note-reply.new.core c.write_shown.new.shown c.args.caller c.args.moment c.args.event c.in-Ok-write_shown.outcome
     c.note-reply.result c.calls.result c.in-Ok.prepared free (subst (λ v. Fits v.state c.args.caller c.args.moment c.args.event) (sym c.self.view_is) c.requires.fits)
     c.in-Ok.ensures.ok written c.in-Ok-write_shown.ensures.shown (calls_is c.write_shown.new.journal c.calls.result c.calls.ensures.a c.calls.ensures.b) c.note-reply.ensures.state c.note-reply.ensures.reply
-    (c.note-reply.ensures.events ∙ ap (λ l. l ++ noted c.args.caller c.args.moment c.args.event c.in-Ok-write_shown.outcome c.calls.result ∷ []) c.in_ok-reserve.ensures.items) in
-    (comes.book, λ some. omega (arith, c.note-reply.ensures.spare, c.in_ok-reserve.ensures.ok))
+    (c.note-reply.ensures.events ∙ ap (λ l. l ++ noted c.args.caller c.args.moment c.args.event c.in-Ok-write_shown.outcome c.calls.result ∷ []) c.in_ok-reserve.ensures.items) in (
+      comes.book,
+      λ some. omega (arith, c.note-reply.ensures.spare, c.in_ok-reserve.ensures.ok),
+      held_carried c.args.caller c.args.moment c.args.event c.in-Ok-write_shown.outcome c.note-reply.result made v
+          (next v c.write_shown.new.journal c.note-reply.new.events.items c.note-reply.new.core c.write_shown.new.shown) i.held c.hold.new.self comes free c.self.invariant.2 c.hold.ensures,
+    )
 
 pub returns-in-Err-write_shown-clause-err : goal.returns-in-Err-write_shown-clause-err
 returns-in-Err-write_shown-clause-err g c =

@@ -11,4 +11,4 @@ returns-clause-back g c =
     let happened : History = record { opening = Some i.opening; users = i.users; made = c.calls-made.result; events = i.events } in
     subst (λ v. IsHandedBack v happened (pair_of g.D.Disk.view c.into_disks-a.result.0 c.into_disks-a.result.1)) c.self.view_is
     (handed_back (record { journal = i.journal; opening = i.opening; users = i.users; events = i.events.items; state = i.core; shown = i.shown; readers = i.readers }) happened (pair_of g.D.Disk.view c.into_disks-a.result.0 c.into_disks-a.result.1)
-    c.histories_stay_accepted.ensures c.self.invariant.0 refl refl refl c.calls-made.ensures.a c.calls-made.ensures.b (search rules))
+    c.histories_stay_accepted.ensures c.self.invariant.0 (c.self.invariant.2.added, c.self.invariant.2.adds) refl refl refl c.calls-made.ensures.a c.calls-made.ensures.b (search rules))

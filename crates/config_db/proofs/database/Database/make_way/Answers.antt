@@ -19,6 +19,7 @@ invariant_of-self-in-Ok g c =
           c.publish_late.new.shown i.readers c.self.invariant.0
           (shows_published (opened (record { journal = i.journal; opening = i.opening; users = i.users; events = i.events.items; state = i.core; shown = i.shown; readers = i.readers })) i.events.items i.core i.shown c.self.invariant.0.shows c.publish_late.new.shown c.in-Ok.ensures.ok),
       c.self.invariant.1,
+      c.self.invariant.2,
     )
 
 pub returns-in-Ok-clause-way : goal.returns-in-Ok-clause-way

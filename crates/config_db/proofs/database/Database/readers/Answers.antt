@@ -7,4 +7,5 @@ invariant_of-self g c =
       book_shown (record { journal = i.journal; opening = i.opening; users = i.users; events = i.events.items; state = i.core; shown = i.shown; readers = i.readers })
           i.shown c.replace.new.dest c.self.invariant.0 c.self.invariant.0.shows,
       c.self.invariant.1,
+      c.self.invariant.2,
     )
