@@ -4,13 +4,14 @@ use Rattle.std.specs.Prelude.{IfSome, IsSome}
 use Rattle.std.proofs.lemmas.List.{length-map}
 use Rattle.cfg_base.specs.declared.calls.Calls.{Calls}
 use Rattle.disk_model.specs.Disk.{IsImage, state_of}
-use Rattle.record_code.specs.Record.{Record}
-use Rattle.commit_ledger.specs.Kept.{Kept}
-use Rattle.commit_ledger.specs.Payload.{entry_record}
+use Rattle.commit_ledger.specs.Kept.{Kept, append_entry}
 use Rattle.commit_check.specs.Accepts.{Accepts}
 use Rattle.commit_ledger.specs.declared.entry.Scheduled.{Scheduled}
 use Rattle.commit_ledger.specs.Rules.{Follows as EntryFollows, IsWaiting}
 use Rattle.commit_journal.specs.Journal.{JournalView, Tell, a_of, b_of}
+use Rattle.commit_journal.specs.Spans.{InSpan}
+use Rattle.commit_journal.proofs.RisingLemmas.{at_most_same, last_push, rising_more, rising_push}
+use Rattle.commit_journal.proofs.SpanLemmas.{span_now}
 use Rattle.config_core.specs.declared.event.Event.{Event}
 use Rattle.config_core.specs.declared.event.Outcome.{Outcome}
 use Rattle.config_core.specs.declared.reply.Reply.{Reply}
@@ -20,23 +21,22 @@ use Rattle.config_core.proofs.SoundLemmas.{steps_keep}
 use Rattle.session_history.specs.declared.history.Happened.{Happened}
 use Rattle.session_history.specs.Events.{Leads}
 use Rattle.session_history.proofs.EventLemmas.{Leads-append}
-use Rattle.stored_ledger.specs.Stored.{IsNext, SpellsWith}
+use Rattle.stored_ledger.specs.declared.change.Change.TheVariants.{Entry as EntryMore}
+use Rattle.stored_ledger.specs.Growing.{SettlesList}
+use Rattle.stored_ledger.specs.Stored.{SpellsWith}
+use Rattle.stored_ledger.proofs.StandingLemmas.{are_of}
 use Rattle.active_snapshot.specs.States.{ReaderView, WriterView, first_written}
 use Rattle.config_db.specs.View.{DatabaseView, IsSameRun, opened}
-use Rattle.config_db.specs.Numbers.{AreAtMost, AreRising, calls_of, none_called}
-use Rattle.config_db.specs.Writing.{IsFoundOut, entry_in}
-use Rattle.config_db.specs.Crash.{AreSpansSafe, InSpan, IsSafeWhile, Spelt, last_calls}
-use Rattle.config_db.specs.Disks.{Holds, HoldsImage}
-use Rattle.config_db.specs.Standing.{AreOf, Stands}
+use Rattle.config_db.specs.Numbers.{AreAtMost, AreRising, calls_in, calls_of, none_called}
+use Rattle.config_db.specs.Writing.{entry_in}
+use Rattle.config_db.specs.Crash.{AreSpansSafe, IsSafeWhile, Spelt, last_calls}
+use Rattle.config_db.specs.Standing.{Stands}
 use Rattle.config_db.specs.Shown.{Shows}
 use Rattle.config_db.specs.Book.{IsBook, IsOpening}
 use Rattle.config_db.specs.Moves.{Turns, noted}
-use Rattle.config_db.proofs.NumberLemmas.{at_most_same, rising_more, rising_push}
 use Rattle.config_db.proofs.MachineLemmas.{Leaves, kept_settled, made_follows}
 use Rattle.config_db.proofs.ShownLemmas.{shows_begin}
-use Rattle.config_db.proofs.SpanLemmas.{span_now}
-use Rattle.config_db.proofs.StandingLemmas.{are_next, are_of, stands_spelled}
-use Rattle.config_db.proofs.CrashLemmas.{last_push}
+use Rattle.config_db.proofs.StandingLemmas.{stands_spelled}
 
 -- a step leads on from the state before it
 pub turn_leads : (s s' : State) (caller moment : ℕ) (event : Event) (outcome : Outcome) (reply : Reply) (calls : Calls) → Turns s caller moment event outcome reply s' → Leads s (noted caller moment event outcome calls ∷ []) s'
@@ -45,33 +45,15 @@ turn_leads s s' caller moment event outcome reply calls turns = (turns.fits, tur
 pub same_opened : (v v' : DatabaseView) → IsSameRun v v' → opened v' ≡ opened v
 same_opened v v' same = ap (λ k. opening_of k v'.users) same.opening ∙ ap (opening_of v.opening) same.users
 
--- after a settling of a record that was in flight, or of an image
-found_record : (j j' : JournalView) (kept : Kept) (m : Made) (is_kept : Bool) (rs : List Record) → AreOf kept rs → IsNext kept m.entry → Holds j rs (Some (entry_record m.entry))
-    → IsFoundOut (Some is_kept) j j' → Stands j' (kept_settled kept m is_kept) None
-found_record j j' kept m true rs are next held found =
-    record { records = rs ++ entry_record m.entry ∷ []; are = are_next kept rs are m.entry next; holds = found.holds rs (entry_record m.entry) held; entry = tt }
-found_record j j' kept m false rs are next held found = record { records = rs; are = are; holds = found.holds rs (entry_record m.entry) held; entry = tt }
-
-found_image : (j j' : JournalView) (kept : Kept) (m : Made) (is_kept : Bool) (rs image : List Record) → AreOf kept rs → AreOf kept image → HoldsImage j rs image
-    → IsFoundOut (Some is_kept) j j' → Stands j' (kept_settled kept m is_kept) None
-found_image j j' kept m true rs image are anew held found = absurd (found.image rs image held)
-found_image j j' kept m false rs image are anew held found =
-    ⊎_elim (λ old. record { records = rs; are = are; holds = old; entry = tt }) (λ new. record { records = image; are = anew; holds = new; entry = tt }) (found.image rs image held)
-
-pub stands_found : (j j' : JournalView) (kept : Kept) (m : Made) (is_kept : Bool) → Stands j kept (Some m.entry) → IsFoundOut (Some is_kept) j j'
-    → EntryFollows kept m.entry → Stands j' (kept_settled kept m is_kept) None
-stands_found j j' kept m is_kept stands found follows =
-    ⊎_elim (λ held. found_record j j' kept m is_kept stands.records stands.are (stands.entry, follows) held found)
-    (λ image. found_image j j' kept m is_kept stands.records image.0 stands.are image.1 image.2 found) stands.holds
+-- after a settling
+pub stands_found : (j j' : JournalView) (kept : Kept) (m : Made) (is_kept : Bool) → Stands j kept (Some m.entry) → SettlesList EntryMore (Some is_kept) j j'
+    → Stands j' (kept_settled kept m is_kept) None
+stands_found j j' kept m true stands found = record { holds = (found.list kept (append_entry kept m.entry) stands.holds).stands; entry = tt }
+stands_found j j' kept m false stands found = record { holds = (found.list kept (append_entry kept m.entry) stands.holds).stands; entry = tt }
 
 -- and after one that failed
-pub stands_unfound : (j j' : JournalView) (kept : Kept) (m : Made) → Stands j kept (Some m.entry) → IsFoundOut None j j' → Stands j' kept (Some m.entry)
-stands_unfound j j' kept m stands found = record {
-  records = stands.records;
-  are = stands.are;
-  holds = ⊎_elim (λ held. inl (found.holds stands.records (entry_record m.entry) held)) (λ image. inr (image.0, image.1, found.image stands.records image.0 image.2)) stands.holds;
-  entry = stands.entry;
-}
+pub stands_unfound : (j j' : JournalView) (kept : Kept) (m : Made) → Stands j kept (Some m.entry) → SettlesList EntryMore None j j' → Stands j' kept (Some m.entry)
+stands_unfound j j' kept m stands found = record { holds = (found.list kept (append_entry kept m.entry) stands.holds).stands; entry = stands.entry }
 
 -- what is in flight may come next
 pub flight_follows : (kept : Kept) (moment : ℕ) (flight : Option Made) → IfSome flight (IsSoundMade kept moment) → IfSome (entry_in flight) (EntryFollows kept)
@@ -83,10 +65,10 @@ spelt_in s None is c d spells = inl spells
 spelt_in s (Some m) is c d spells = ⊎_elim (λ old. inl old) (λ new. inr (m, inl is, new)) spells
 
 -- what a crash may leave now
-pub spelt_now : (j : JournalView) (s : State) → IsSoundState s → Stands j s.kept (entry_in s.flight) → Tell j
+pub spelt_now : (j : JournalView) (s : State) → Stands j s.kept (entry_in s.flight) → Tell j
     → (c d : List ℕ) → IsImage (state_of (a_of j)) c → IsImage (state_of (b_of j)) d → Spelt s None c d
-spelt_now j s sound stands t c d in_a in_b =
-    spelt_in s s.flight refl c d (stands_spelled j s.kept (entry_in s.flight) stands (flight_follows s.kept s.greatest s.flight sound.flight) t c d in_a in_b)
+spelt_now j s stands t c d in_a in_b =
+    spelt_in s s.flight refl c d (stands_spelled j s.kept (entry_in s.flight) stands t c d in_a in_b)
 
 -- one event more
 pub book_after : (v v' : DatabaseView) (caller moment : ℕ) (event : Event) (outcome : Outcome) (reply : Reply) (kept : Kept) (flight : Option Made)
@@ -102,14 +84,14 @@ pub book_after : (v v' : DatabaseView) (caller moment : ℕ) (event : Event) (ou
 book_after v v' caller moment event outcome reply kept flight book turns leaves grown same later stands safe shows = record {
   began = subst IsSoundKept (sym same.opening) book.began;
   leads = subst (λ s. Leads s v'.events v'.state) (sym (same_opened v v' same)) (subst (λ es. Leads (opened v) es v'.state) (sym grown) leads);
-  at_rest = λ free. subst (λ es. last_calls none_called es ≡ calls_of v'.journal) (sym grown) (last_push none_called v.events (noted caller moment event outcome (calls_of v'.journal)));
+  at_rest = λ free. subst (λ es. last_calls none_called es ≡ calls_of v'.journal) (sym grown) (last_push calls_in none_called v.events (noted caller moment event outcome (calls_of v'.journal)));
   safe = λ t.
       subst (λ s. IsSafeWhile s v'.events (calls_of v'.journal) (a_of v'.journal) (b_of v'.journal)) (sym (same_opened v v' same))
       (subst (λ es. IsSafeWhile (opened v) es (calls_of v'.journal) (a_of v'.journal) (b_of v'.journal)) (sym grown)
-      (safe leads (λ c d t' in_a in_b. spelt_now v'.journal v'.state sound stands' t' c d in_a in_b) t));
+      (safe leads (λ c d t' in_a in_b. spelt_now v'.journal v'.state stands' t' c d in_a in_b) t));
   rising = subst (λ es. AreRising none_called es (calls_of v'.journal)) (sym grown)
-      (rising_push none_called v.events (noted caller moment event outcome (calls_of v'.journal)) (calls_of v'.journal)
-      (rising_more none_called v.events (calls_of v.journal) (calls_of v'.journal) later book.rising) refl);
+      (rising_push calls_in none_called v.events (noted caller moment event outcome (calls_of v'.journal)) (calls_of v'.journal)
+      (rising_more calls_in none_called v.events (calls_of v.journal) (calls_of v'.journal) later book.rising) refl);
   sound = sound;
   callers = leaves.callers ∙ book.callers ∙ ap length (sym same.users);
   stands = stands';
@@ -136,7 +118,7 @@ book_unsettled v j' book some later stands safe = record {
   leads = book.leads;
   at_rest = λ free. absurd (let no : is_some v.state.flight ≡ false = ap is_some free in cc);
   safe = safe;
-  rising = rising_more none_called v.events (calls_of v.journal) (calls_of j') later book.rising;
+  rising = rising_more calls_in none_called v.events (calls_of v.journal) (calls_of j') later book.rising;
   sound = book.sound;
   callers = book.callers;
   stands = stands;
@@ -181,7 +163,7 @@ book_begins j opening users state events w rs begins start none shown =
     begins_sound = record { kept = begins.sound; no_later = omega arith; flight = tt }
 
     stands : Stands j opening None
-    stands = record { records = begins.records; are = are_of opening begins.records begins.reads; holds = begins.holds; entry = tt }
+    stands = record { holds = record { records = begins.records; are = are_of opening begins.records begins.reads; holds = begins.holds }; entry = tt }
 
     zero_a : (calls_of j).a ≡ 0
     zero_a = ap (λ (m : Calls). m.a) begins.calls
@@ -190,12 +172,12 @@ book_begins j opening users state events w rs begins start none shown =
     zero_b = ap (λ (m : Calls). m.b) begins.calls
 
     spans : Tell j → AreSpansSafe (opening_of opening users) [] (calls_of j) (a_of j) (b_of j)
-    spans t [] [] is s leads c d in_a in_b =
-        subst (λ u. Spelt u None c d) (sym leads) (spelt_now j (opening_of opening users) begins_sound stands t c d
+    spans t [] [] is c d in_a in_b s leads =
+        subst (λ u. Spelt u None c d) (sym leads) (spelt_now j (opening_of opening users) stands t c d
         (span_now (a_of j) (calls_of j).a c (omega (arith, zero_a)) (subst (λ (n : ℕ). InSpan (a_of j) (calls_of j).a n (calls_of j).a c) (sym zero_a) in_a))
         (span_now (b_of j) (calls_of j).b d (omega (arith, zero_b)) (subst (λ (n : ℕ). InSpan (b_of j) (calls_of j).b n (calls_of j).b d) (sym zero_b) in_b)))
-    spans t (x ∷ before) after is s leads c d in_a in_b = absurd (let e = ap length is in omega (arith, e))
-    spans t [] (x ∷ after) is s leads c d in_a in_b = absurd (let e = ap length is in omega (arith, e))
+    spans t (x ∷ before) after is c d in_a in_b s leads = absurd (let e = ap length is in omega (arith, e))
+    spans t [] (x ∷ after) is c d in_a in_b s leads = absurd (let e = ap length is in omega (arith, e))
 
     starts_safe : Tell j → IsSafeWhile (opening_of opening users) [] (calls_of j) (a_of j) (b_of j)
     starts_safe t few_a few_b = record { within_a = omega (arith, zero_a); within_b = omega (arith, zero_b); safe = spans t }

@@ -22,9 +22,8 @@ use Rattle.config_db.specs.Book.{IsBook}
 use Rattle.config_db.specs.Moves.{IsUnsettled, Settles, noted}
 use Rattle.config_db.specs.Closing.{IsHandedBack, SettlesLast}
 use Rattle.config_db.specs.Crash.{IsCrashSafe}
-use Rattle.config_db.proofs.NumberLemmas.{calls_is}
 use Rattle.config_db.proofs.CalledLemmas.{history_first, history_second}
-use Rattle.config_db.proofs.DiskLemmas.{tell_ab}
+use Rattle.config_db.proofs.DiskLemmas.{calls_is, tell_ab}
 use Rattle.config_db.proofs.BookLemmas.{flight_follows}
 use Rattle.config_db.proofs.StandingLemmas.{may_come, stands_spelled}
 use Rattle.config_db.proofs.MoveLemmas.{extends_none, extends_one, extends_unsettled}
@@ -67,7 +66,7 @@ is_held : (j : JournalView) (s : State) → IsSoundState s → Stands j s.kept (
 is_held j s sound stands a b =
     let follows = flight_follows s.kept s.greatest s.flight sound.flight in
     record {
-      each = λ c d in_a in_b. stands_spelled j s.kept (entry_in s.flight) stands follows (tell_ab j a b) c d
+      each = λ c d in_a in_b. stands_spelled j s.kept (entry_in s.flight) stands (tell_ab j a b) c d
           (subst (λ h. IsImage (state_of h) c) (history_first j.b_counts j.counting j.other) in_a)
           (subst (λ h. IsImage (state_of h) d) (history_second j.b_counts j.counting j.other) in_b);
       next = may_come s.kept (entry_in s.flight) stands.entry follows;

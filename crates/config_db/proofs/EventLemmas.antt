@@ -7,6 +7,9 @@ use Rattle.commit_ledger.specs.declared.entry.Entry.{Entry}
 use Rattle.commit_ledger.specs.Kept.{Kept}
 use Rattle.commit_journal.specs.Journal.{JournalView, LeavesBoth, Tell, a_of, b_of}
 use Rattle.commit_journal.specs.Pair.{WasLeft}
+use Rattle.commit_journal.proofs.RisingLemmas.{rising_more}
+use Rattle.stored_ledger.specs.declared.change.Change.TheVariants.{Entry as EntryMore}
+use Rattle.stored_ledger.specs.Growing.{KeepsLimit, SettlesList}
 use Rattle.stored_ledger.specs.Stored.{SpellsWith}
 use Rattle.config_core.specs.declared.event.Event.{Event}
 use Rattle.config_core.specs.declared.event.Event.TheVariants.{Settle}
@@ -23,20 +26,18 @@ use Rattle.session_history.specs.declared.history.Happened.{Happened}
 use Rattle.session_history.specs.Events.{Leads, is_command}
 use Rattle.active_snapshot.specs.States.{WriterView}
 use Rattle.config_db.specs.View.{DatabaseView, IsSameRun, opened}
-use Rattle.config_db.specs.Numbers.{AreAtMost, calls_of, none_called}
-use Rattle.config_db.specs.Crash.{BothCalled, CountsOn, IsSafeWhile, Spelt}
+use Rattle.config_db.specs.Numbers.{AreAtMost, calls_in, calls_of, none_called}
+use Rattle.config_db.specs.Crash.{BothCalled, IsSafeWhile, Spelt}
 use Rattle.config_db.specs.Disks.{GoesOn}
 use Rattle.config_db.specs.Standing.{Stands}
-use Rattle.config_db.specs.Writing.{IsFoundOut, KeepsLimit, entry_in, flight_after, kept_after}
+use Rattle.config_db.specs.Writing.{entry_in, flight_after, kept_after}
 use Rattle.config_db.specs.Shown.{IsShown, Shows, ShowsOn, ShowsSettled}
 use Rattle.config_db.specs.Book.{IsBook}
 use Rattle.config_db.specs.Added.{AddsOne, added_by}
 use Rattle.config_db.specs.Appended.{HeldView, HoldsAdded, HoldsMade, HoldsSettled}
 use Rattle.config_db.specs.Moves.{Happens, IsSettledBy, IsUnsettled, Turns, noted}
-use Rattle.config_db.proofs.AnewLemmas.{agrees_a, agrees_b}
-use Rattle.config_db.proofs.CalledLemmas.{called_left, called_none}
+use Rattle.config_db.proofs.CalledLemmas.{agrees_a, agrees_b, called_none}
 use Rattle.config_db.proofs.DiskLemmas.{goes_nowhere, tell_since}
-use Rattle.config_db.proofs.NumberLemmas.{rising_more}
 use Rattle.config_db.proofs.SafeLemmas.{appends_safe, noted_safe, settles_safe}
 use Rattle.config_db.proofs.MachineLemmas.{Leaves, flying, free_steps, kept_settled, made_follows, plan_leaves, put_off_leaves, put_off_turns, settling_fits, settling_leaves, settling_makes_none, settling_turns}
 use Rattle.config_db.proofs.ShownLemmas.{settled_on, shows_on, shows_settled, shows_written, still_shown, written_on}
@@ -82,19 +83,19 @@ module _ (v : DatabaseView) (book : IsBook v)
   ShowsThen j' e s' w' = Leads (opened v) (v.events ++ e ∷ []) s' → Shows (opened v) (v.events ++ e ∷ []) s' w'
 
   -- calls that only settled
-  settles : (j' : JournalView) → GoesOn v.journal j' → CountsOn v.journal j' → (Tell v.journal → LeavesBoth v.journal j' (WasLeft (a_of v.journal) (b_of v.journal)))
+  settles : (j' : JournalView) → GoesOn v.journal j' → (Tell v.journal → BothCalled v.journal j') → (Tell v.journal → LeavesBoth v.journal j' (WasLeft (a_of v.journal) (b_of v.journal)))
       → Tell j' → IsSafeWhile (opened v) v.events (calls_of j') (a_of j') (b_of j')
-  settles j' goes counts left t' =
+  settles j' goes called left t' =
       let t = tell_since v.journal j' goes t' in
-      settles_safe (opened v) one_state v.events (calls_of v.journal) (calls_of j') (a_of v.journal) (b_of v.journal) (a_of j') (b_of j') (counts.told_a t) (counts.told_b t)
+      settles_safe (opened v) one_state v.events (calls_of v.journal) (calls_of j') (a_of v.journal) (b_of v.journal) (a_of j') (b_of j') (agrees_a v.journal j' (called t)) (agrees_b v.journal j' (called t))
       book.rising (book.safe t) (left t)
 
   -- an event after calls that only settled, or after none
   notes : (j' : JournalView) (e : Happened) (s' : State) → AreAtMost (calls_of v.journal) (calls_of j') → e.calls ≡ calls_of j' → (Tell j' → IsSafeWhile (opened v) v.events (calls_of j') (a_of j') (b_of j'))
       → Safe j' e s'
   notes j' e s' later told so_far leads now t few_a few_b =
-      noted_safe (opened v) one_state v.events (calls_of j') (a_of j') (b_of j') (rising_more none_called v.events (calls_of v.journal) (calls_of j') later book.rising) (so_far t few_a few_b)
-      v.state s' e told book.leads leads (λ c d in_a in_b. now c d t in_a in_b)
+      noted_safe (opened v) one_state v.events (calls_of j') (a_of j') (b_of j') (rising_more calls_in none_called v.events (calls_of v.journal) (calls_of j') later book.rising) (so_far t few_a few_b)
+      s' e told leads (λ c d in_a in_b. now c d t in_a in_b)
 
   -- what is kept, with the entry that the event makes or without
   either_spelt : (e : Happened) (turned : Turned) (made : Option Made) (c d : List ℕ) → turned.made ≡ made → Steps v.state e.caller e.moment e.event e.outcome turned
@@ -179,7 +180,7 @@ module _ (v : DatabaseView) (book : IsBook v)
 
     -- a settling
     pub settled_so : (j' : JournalView) (events' : List Happened) (s' : State) (w' : WriterView) (caller moment : ℕ) (is_kept : Bool) (calls : Calls)
-        → v.state.greatest ≤ moment → IsFoundOut (Some is_kept) v.journal j' → ShowsSettled is_kept v.shown w' → calls ≡ calls_of j' → (by : IsSettledBy caller moment is_kept v.state s')
+        → v.state.greatest ≤ moment → SettlesList EntryMore (Some is_kept) v.journal j' → ShowsSettled is_kept v.shown w' → calls ≡ calls_of j' → (by : IsSettledBy caller moment is_kept v.state s')
         → events' ≡ v.events ++ noted caller moment (Settle is_kept) Done calls ∷ []
         → Comes caller moment (Settle is_kept) Done (replied by.plan.effect by.plan.reply Done) (entry_settled v.state.flight is_kept) None v (next v j' events' s' w')
     settled_so j' events' s' w' caller moment is_kept calls no_earlier found shown told by grown =
@@ -189,9 +190,9 @@ module _ (v : DatabaseView) (book : IsBook v)
         comes j' events' s' w' caller moment (Settle is_kept) Done (replied by.plan.effect by.plan.reply Done) calls (kept_settled v.state.kept made is_kept) None (entry_settled v.state.flight is_kept) told grown
         (record { fits = turned.fits; turned = turned.turned; steps = turned.steps; state = by.is ∙ turned.state; replied = turned.replied })
         leaves
-        (stands_found v.journal j' v.state.kept made is_kept here found (made_follows v.state.kept v.state.greatest (Some made) made_sound))
-        found.goes (λ t. called_left v.journal j' (WasLeft (a_of v.journal) (b_of v.journal)) t found.counts (found.crash t)) (λ done. refl) (λ failed. absurd (cc))
-        (notes j' (noted caller moment (Settle is_kept) Done (calls_of j')) s' found.goes.calls refl (settles j' found.goes found.counts found.crash))
+        (stands_found v.journal j' v.state.kept made is_kept here found)
+        found.goes found.called (λ done. refl) (λ failed. absurd (cc))
+        (notes j' (noted caller moment (Settle is_kept) Done (calls_of j')) s' found.goes.calls refl (settles j' found.goes found.called found.crash))
         (λ leads. shows_settled (opened v) v.events v.state v.shown book.shows (noted caller moment (Settle is_kept) Done (calls_of j') ∷ []) s' leads made is_kept w' is_made shown leaves.kept_is leaves.flight_is)
         (settled_on is_kept v.shown w' shown)
         (λ done. subst (λ m. IfSome m (λ m. KeepsLimit v.state.kept m.entry j')) (sym (settling_makes_none v.state caller moment is_kept turned.turned made is_made turned.steps)) tt)
@@ -200,14 +201,14 @@ module _ (v : DatabaseView) (book : IsBook v)
         (adds_settled v.state.kept made is_kept (here.entry, made_follows v.state.kept v.state.greatest (Some made) made_sound)))
 
     -- a settling that failed
-    pub unsettled_book : (j' : JournalView) → IsFoundOut None v.journal j' → IsBook (next v j' v.events v.state v.shown)
+    pub unsettled_book : (j' : JournalView) → SettlesList EntryMore None v.journal j' → IsBook (next v j' v.events v.state v.shown)
     unsettled_book j' found =
         book_unsettled v j' book some found.goes.calls
         (subst (λ f. Stands j' v.state.kept (entry_in f)) (sym is_made) (stands_unfound v.journal j' v.state.kept made here found))
-        (settles j' found.goes found.counts found.crash)
+        (settles j' found.goes found.called found.crash)
 
-    pub unsettled_so : (j' : JournalView) → IsFoundOut None v.journal j' → IsUnsettled v (next v j' v.events v.state v.shown)
-    unsettled_so j' found = record { state = refl; events = refl; same = record { opening = refl; users = refl }; goes = found.goes; called = λ t. called_left v.journal j' (WasLeft (a_of v.journal) (b_of v.journal)) t found.counts (found.crash t); rose = found.cause refl; shown = refl }
+    pub unsettled_so : (j' : JournalView) → SettlesList EntryMore None v.journal j' → IsUnsettled v (next v j' v.events v.state v.shown)
+    unsettled_so j' found = record { state = refl; events = refl; same = record { opening = refl; users = refl }; goes = found.goes; called = found.called; rose = found.cause refl; shown = refl }
 
     -- a command while an entry is in flight
     pub put_off_so : (events' : List Happened) (s' : State) (caller moment : ℕ) (event : Event) (reply : Reply) (calls : Calls) (plan : PreparedView)

@@ -1,11 +1,7 @@
-mod NumberLemmas
 mod AllLemmas
-mod SpanLemmas
-mod CrashLemmas
 mod SafeLemmas
 pub mod DiskLemmas
 mod StandingLemmas
-mod AnewLemmas
 mod WritingLemmas
 mod MachineLemmas
 mod ShownLemmas

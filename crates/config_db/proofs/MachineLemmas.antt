@@ -31,7 +31,8 @@ use Rattle.config_core.proofs.SoundLemmas.{steps_keep}
 use Rattle.session_history.specs.Events.{is_command}
 use Rattle.config_db.specs.Answers.{IsDue}
 use Rattle.config_db.specs.Moves.{Turns}
-use Rattle.config_db.specs.Writing.{IsWritable, kept_after, flight_after}
+use Rattle.stored_ledger.specs.Writable.{IsWritable}
+use Rattle.config_db.specs.Writing.{kept_after, flight_after}
 
 -- a step left this of the list and in flight, and as many callers
 pub record Leaves (s s' : State) (kept : Kept) (flight : Option Made) : Type 0 where

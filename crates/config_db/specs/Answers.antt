@@ -21,7 +21,7 @@ use Rattle.config_db.specs.declared.answer.Ticked.TheVariants.{Nothing, Settled,
 use Rattle.config_db.specs.View.{DatabaseView}
 use Rattle.config_db.specs.Numbers.{calls_of}
 use Rattle.config_db.specs.Crash.{last_calls}
-use Rattle.config_db.specs.Writing.{KeepsLimit}
+use Rattle.stored_ledger.specs.Growing.{KeepsLimit}
 use Rattle.config_db.specs.Moves.{Extends, Happens}
 
 -- nothing comes before a command at that moment

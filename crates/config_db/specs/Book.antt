@@ -10,7 +10,7 @@ use Rattle.session_history.specs.Events.{Leads}
 use Rattle.config_db.specs.View.{DatabaseView, opened}
 use Rattle.config_db.specs.Numbers.{AreRising, calls_of, none_called}
 use Rattle.config_db.specs.Crash.{IsSafeWhile, last_calls}
-use Rattle.config_db.specs.Disks.{Holds}
+use Rattle.commit_journal.specs.Held.{Holds}
 use Rattle.config_db.specs.Standing.{Stands}
 use Rattle.config_db.specs.Writing.{entry_in}
 use Rattle.config_db.specs.Shown.{Shows}

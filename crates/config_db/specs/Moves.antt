@@ -25,7 +25,7 @@ use Rattle.config_db.specs.Crash.{BothCalled}
 use Rattle.config_db.specs.Disks.{GoesOn}
 use Rattle.config_db.specs.Faults.{FaultsAreCounted}
 use Rattle.config_db.specs.Shown.{ShowsOn}
-use Rattle.config_db.specs.Writing.{KeepsLimit}
+use Rattle.stored_ledger.specs.Growing.{KeepsLimit}
 
 -- an event with its outcome is a step of the machine, with that reply
 pub record Turns (s : State) (caller moment : ℕ) (event : Event) (outcome : Outcome) (reply : Reply) (s' : State) : Type 0 where

@@ -15,8 +15,9 @@ ghost use Rattle.commit_ledger.specs.Rules.{Follows};
 ghost use Rattle.active_snapshot.specs.Expanded.{ComesWith};
 ghost use Rattle.active_snapshot.specs.States.{all_published};
 ghost use Rattle.config_core.specs.Plan.{Expands, ExpandsMade, made_in};
-ghost use Rattle.config_db.specs.Standing.{Stands};
-ghost use Rattle.config_db.specs.Writing.{IsWritable, IsWritten};
+ghost use Rattle.stored_ledger.specs.Standing.{Stands};
+ghost use Rattle.stored_ledger.specs.Writable.{IsWritable};
+ghost use Rattle.config_db.specs.Writing.{IsWritten};
 ghost use Rattle.config_db.specs.Shown.{CanFollow, CanFollowLast, IsShown, Keeps, Proposes, ProposesNext, Publishes, ShowsSettled};
 
 use crate::writing::write;
@@ -169,7 +170,7 @@ pub(crate) fn write_shown<D: Disk, J: Naming, R: Wait>(
     given: Option<Full>,
 ) -> Result<Outcome, NoMemory>
     requires given { IfSome given (ExpandsMade prepared.now.effect) }
-    requires stands { Stands journal.old ledger.now None }
+    requires stands { Stands journal.old ledger.now }
     requires writable { IfSome (made_in prepared.now.effect) (λ made. IsWritable made.entry) }
     requires next { IfSome (made_in prepared.now.effect) (λ made. Follows ledger.now made.entry) }
     requires follows { IfSome (made_in prepared.now.effect) (λ made. CanFollowLast shown.old.list made.entry) }

@@ -7,10 +7,11 @@ use Rattle.config_core.specs.declared.event.Outcome.TheVariants.{Fault}
 use Rattle.config_core.specs.Machine.{Fits}
 use Rattle.config_core.specs.Plan.{made_in}
 use Rattle.config_db.specs.Moves.{Happens, noted}
+use Rattle.stored_ledger.specs.Standing.{Stands as ListStands}
 use Rattle.config_db.specs.Standing.{Stands}
 use Rattle.config_db.specs.View.{DatabaseView}
 use Rattle.config_db.specs.Writing.{IsWritten, entry_in}
-use Rattle.config_db.proofs.NumberLemmas.{calls_is}
+use Rattle.config_db.proofs.DiskLemmas.{calls_is}
 use Rattle.config_db.proofs.MachineLemmas.{made_follows, made_is_sound, made_writable}
 use Rattle.config_db.proofs.ShownLemmas.{can_follow, follows_last, nothing_proposed}
 use Rattle.config_db.proofs.EventLemmas.{carried, held_carried, next, next_same}
@@ -20,8 +21,8 @@ use Rattle.config_db.proofs.database.Database.carry_out.Goals as goal
 pub write_shown-requires-clause-stands : goal.write_shown-requires-clause-stands
 write_shown-requires-clause-stands g c =
     let i = c.self.inside in
-    subst (λ k. Stands i.journal k None) (sym c.ledger.ensures)
-    (subst (λ f. Stands i.journal i.core.kept (entry_in f)) (subst (λ v. v.state.flight ≡ None) (sym c.self.view_is) c.requires.free) c.self.invariant.0.stands)
+    subst (λ k. ListStands i.journal k) (sym c.ledger.ensures)
+    (subst (λ f. Stands i.journal i.core.kept (entry_in f)) (subst (λ v. v.state.flight ≡ None) (sym c.self.view_is) c.requires.free) c.self.invariant.0.stands).holds
 
 pub write_shown-requires-clause-writable : goal.write_shown-requires-clause-writable
 write_shown-requires-clause-writable g c =

@@ -3,7 +3,7 @@ use Rattle.std.specs.Prelude.{IsSome}
 use Rattle.config_core.specs.declared.event.Outcome.TheVariants.{Fault}
 use Rattle.config_core.specs.Machine.{Fits}
 use Rattle.config_db.specs.Moves.{Happens, noted}
-use Rattle.config_db.proofs.NumberLemmas.{calls_is}
+use Rattle.config_db.proofs.DiskLemmas.{calls_is}
 use Rattle.config_db.proofs.EventLemmas.{held_put_off, next, put_off_so}
 use Rattle.config_db.proofs.database.Database.note_put_off.Goals as goal
 

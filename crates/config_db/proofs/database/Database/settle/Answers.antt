@@ -4,9 +4,15 @@ use Rattle.config_core.specs.declared.event.Event.TheVariants.{Settle}
 use Rattle.config_core.specs.declared.event.Outcome.TheVariants.{Done}
 use Rattle.config_core.specs.Prepared.{replied}
 use Rattle.config_db.specs.Moves.{Happens, IsUnsettled}
-use Rattle.config_db.proofs.NumberLemmas.{calls_is}
+use Rattle.config_db.proofs.DiskLemmas.{calls_is}
+use Rattle.config_db.proofs.StandingLemmas.{stands_flying}
 use Rattle.config_db.proofs.EventLemmas.{held_settled, next, settled_so, unsettled_book, unsettled_so}
 use Rattle.config_db.proofs.database.Database.settle.Goals as goal
+
+pub find_out-requires : goal.find_out-requires
+find_out-requires g c =
+    let i = c.self.inside in
+    stands_flying i.journal i.core.kept i.core.flight c.self.invariant.0.stands (subst (λ v. IsSome v.state.flight) (sym c.self.view_is) c.requires.flying)
 
 pub invariant_of-self : goal.invariant_of-self
 invariant_of-self g c =

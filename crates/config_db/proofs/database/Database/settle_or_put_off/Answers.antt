@@ -6,9 +6,15 @@ use Rattle.config_core.specs.Machine.{Fits}
 use Rattle.config_core.specs.Prepared.{replied}
 use Rattle.config_db.specs.View.{DatabaseView}
 use Rattle.config_db.specs.Moves.{Happens, IsUnsettled, noted}
-use Rattle.config_db.proofs.NumberLemmas.{calls_is}
+use Rattle.config_db.proofs.DiskLemmas.{calls_is}
+use Rattle.config_db.proofs.StandingLemmas.{stands_flying}
 use Rattle.config_db.proofs.EventLemmas.{held_put_off, held_settled, next, put_off_so, settled_so, unsettled_book, unsettled_so}
 use Rattle.config_db.proofs.database.Database.settle_or_put_off.Goals as goal
+
+pub find_out-requires : goal.find_out-requires
+find_out-requires g c =
+    let i = c.self.inside in
+    stands_flying i.journal i.core.kept i.core.flight c.self.invariant.0.stands (subst (λ v. IsSome v.state.flight) (sym c.self.view_is) c.requires.flying)
 
 pub invariant_of-self-in-None : goal.invariant_of-self-in-None
 invariant_of-self-in-None g c =
