@@ -408,6 +408,7 @@ way_none caller moment v no_earlier = record {
   extends = record {
     leads = refl;
     grown = sym (append-nil v.events);
+    added = ([], (refl, refl));
     made = tt;
     causes = tt;
     counted = counted_none (disks_of v.journal) (disks_of v.journal) (omega arith) (omega arith);

@@ -13,6 +13,7 @@ use Rattle.session_shell.specs.Exchange.{Exchange, Asked as AskedOf, Refused, Wa
 use Rattle.session_shell.specs.Transcript.{EndView, GoesBy, IsSession}
 use Rattle.session_threads.specs.Access.{Asker}
 use Rattle.session_threads.specs.History.{FollowsAsked, FollowsDenied, FollowsRefused, FollowsView, HasMissed, IsKeptThen, Known}
+use Rattle.session_threads.specs.Syncs.{WithoutBackup}
 
 module _ (asker : Asker) (final more : List Happened) where
   missed_later : (least answer : ℕ) → HasMissed asker.opening final least answer
@@ -81,18 +82,18 @@ module _ (asker : Asker) (final more : List Happened) where
   Follows-later d command answer (Unready front) e follows = (refused_later d command answer front e follows.0, follows.1)
   Follows-later d command answer NoMemory e follows = follows
 
-  goes_later : (exchanges : List Exchange) (d e : Known) → GoesBy (FollowsAsked asker final) exchanges d e
-      → GoesBy (FollowsAsked asker (final ++ more)) exchanges d e
+  goes_later : (exchanges : List Exchange) (d e : Known) → GoesBy (FollowsAsked asker final) WithoutBackup exchanges d e
+      → GoesBy (FollowsAsked asker (final ++ more)) WithoutBackup exchanges d e
   goes_later [] d e goes = goes
   goes_later (AskedOf moment command given manner ∷ exchanges) d e goes =
-      (goes.0, Follows-later d command moment given goes.0 goes.1, goes_later exchanges goes.0 e goes.2)
+      (goes.0, Follows-later d command moment given goes.0 goes.1, goes.2, goes.3, goes_later exchanges goes.2 e goes.4)
   goes_later (Refused moment fault ∷ exchanges) d e goes = goes_later exchanges d e goes
   goes_later (Wanted moment ∷ exchanges) d e goes = goes_later exchanges d e goes
 
   -- a session
   pub IsSession-later : (limit : ℕ) (how : How) (turns : List Turn) (old new : EndView) (d e : Known)
-      → IsSession (FollowsAsked asker final) limit how turns old new d e
-      → IsSession (FollowsAsked asker (final ++ more)) limit how turns old new d e
+      → IsSession (FollowsAsked asker final) WithoutBackup limit how turns old new d e
+      → IsSession (FollowsAsked asker (final ++ more)) WithoutBackup limit how turns old new d e
   IsSession-later limit how turns old new d e s = record {
     transcript = record {
       lines = s.transcript.lines;

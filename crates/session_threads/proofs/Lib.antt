@@ -11,6 +11,7 @@ mod PassLemmas
 mod RowLemmas
 mod SeatLemmas
 mod SendLemmas
+pub mod SyncLemmas
 mod TickLemmas
 mod TraceLemmas
 mod WholeLemmas

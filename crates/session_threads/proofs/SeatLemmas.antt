@@ -27,6 +27,7 @@ use Rattle.session_threads.specs.Noted.{caller_in, events_of, notes_of}
 use Rattle.session_threads.specs.Passes.{CallerPass, KnowsOwn, Waited, events_seen}
 use Rattle.session_threads.specs.Results.{SessionResult}
 use Rattle.session_threads.specs.Sessions.{CountsTurns, HasLeft, HasRun, IsWithin, RunsOne, RunsOver, ServesOne, StaysOut}
+use Rattle.session_threads.specs.Syncs.{WithoutBackup}
 use Rattle.session_threads.proofs.AskedLemmas.{asks_kept, counts_asked}
 use Rattle.session_threads.proofs.ListLemmas.{some_is}
 use Rattle.session_threads.proofs.PassLemmas.{WentOn-same, WentOn-then, WentOn-took, others_behind, own-took, seen-took}
@@ -66,18 +67,18 @@ module _ {E : Type 0} (view : E → EndView) (limit : ℕ) where
   -- a session ran over its pass and its reader
   pub RunsOne-ran : (old new gate gate' : GateView) (before after end : E) (how : How) (turns : List Turn) (bytes : ℕ)
       → before ≡ end → bytes ≡ limit → gate ≡ old → gate' ≡ record new { asks = gate'.asks } → new.asks ≡ old.asks
-      → KnowsOwn old.pass → IsSession FollowsIn bytes how turns (view before) (view after) gate gate'
+      → KnowsOwn old.pass → IsSession FollowsIn WithoutBackup bytes how turns (view before) (view after) gate gate'
       → RunsOne view limit old new (record { how = how; old = end; new = after; turns = turns })
   RunsOne-ran old new gate gate' before after end how turns bytes is_end is_limit began ended same own ran =
-      let of_end : IsSession FollowsIn limit how turns (view end) (view after) gate gate' =
-      subst (λ (e : E). IsSession FollowsIn limit how turns (view e) (view after) gate gate') is_end
-      (subst (λ n. IsSession FollowsIn n how turns (view before) (view after) gate gate') is_limit ran) in
+      let of_end : IsSession FollowsIn WithoutBackup limit how turns (view end) (view after) gate gate' =
+      subst (λ (e : E). IsSession FollowsIn WithoutBackup limit how turns (view e) (view after) gate gate') is_end
+      (subst (λ n. IsSession FollowsIn WithoutBackup n how turns (view before) (view after) gate gate') is_limit ran) in
       let kept : gate'.asks ≡ new.asks =
       asks_kept (of_end.transcript.asked ++ of_end.transcript.final) gate gate' of_end.transcript.turns.asked
       ∙ ap (λ (g : GateView). g.asks) began ∙ sym same in
-      let of_gate : IsSession FollowsIn limit how turns (view end) (view after) old new =
-      subst (λ (g : GateView). IsSession FollowsIn limit how turns (view end) (view after) g new) began
-      (subst (λ (g : GateView). IsSession FollowsIn limit how turns (view end) (view after) gate g)
+      let of_gate : IsSession FollowsIn WithoutBackup limit how turns (view end) (view after) old new =
+      subst (λ (g : GateView). IsSession FollowsIn WithoutBackup limit how turns (view end) (view after) g new) began
+      (subst (λ (g : GateView). IsSession FollowsIn WithoutBackup limit how turns (view end) (view after) gate g)
       (ended ∙ ap (λ (a : Option (List ℕ)). record new { asks = a }) kept) of_end) in
       let t = of_gate.transcript in
       record {
@@ -123,7 +124,7 @@ module _ {E : Type 0} (view : E → EndView) (limit : ℕ) where
               opening = opened first;
               caller = old.pass.caller;
               asks = a;
-            }) (events_seen new)) limit result.how result.turns (view result.old) (view result.new)
+            }) (events_seen new)) WithoutBackup limit result.how result.turns (view result.old) (view result.new)
                 (known_first (opened first) (events_seen old.pass)) after) asked known.1;
           }
 

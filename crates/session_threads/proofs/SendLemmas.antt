@@ -17,8 +17,10 @@ use Rattle.commit_ledger.proofs.ledger.Ledger.TheSendSync as ledger
 use Rattle.commit_ledger.specs.contracts.ledger.Ledger as Ledger
 use Rattle.config_core.proofs.core_state.Core.TheSendSync as core
 use Rattle.config_core.specs.contracts.core_state.Core as Core
+use Rattle.config_db.proofs.holding.Held.TheSendSync as held
 use Rattle.config_db.specs.contracts.database.Database as Database
 use Rattle.config_db.specs.contracts.database.Database.TheInside as DatabaseInside
+use Rattle.config_db.specs.contracts.holding.Held as Held
 use Rattle.disk_model.specs.declared.disk.Disk as disk
 use Rattle.session_history.proofs.history.Happened.TheSendSync as happened
 use Rattle.session_history.specs.contracts.history.Happened as Happened
@@ -54,6 +56,9 @@ turns_send = search (sendable, crosses, turn.the_send) depth 150 fits 40000
 core_send : IsSend Core.the_row
 core_send = search (sendable, crosses, core.the_send) depth 150 fits 40000
 
+held_send : IsSend Held.the_row
+held_send = search (sendable, crosses, held.the_send) depth 150 fits 40000
+
 pub waker_send : IsSend Waker.the_row
 waker_send = search (sendable, crosses) depth 150 fits 40000
 
@@ -88,7 +93,13 @@ module _ (D J : RattleType) (d : disk.Ghosts D.Denot) (j : naming.Ghosts J.Denot
               search (sendable, users_send) depth 20,
               (
                 search (sendable, events_send) depth 20,
-                (search (sendable, core_send) depth 20, (search sendable depth 20, (search sendable depth 20, tt))),
+                (
+                  search (sendable, core_send) depth 20,
+                  (
+                    search (sendable, held_send) depth 20,
+                    (search sendable depth 20, (search sendable depth 20, tt)),
+                  ),
+                ),
               ),
             ),
           ),

@@ -30,9 +30,11 @@ use Rattle.session_threads.specs.Gates.{TurnedIn, asker_in}
 use Rattle.session_threads.specs.History.{FollowsAsked, FollowsRefused, FollowsTurn, FollowsView, HasMissed, Known, known_first}
 use Rattle.session_threads.specs.Noted.{events_of}
 use Rattle.session_threads.specs.Passes.{CallerPass, WentOn, events_seen}
+use Rattle.session_threads.specs.Syncs.{WithoutBackup}
 use Rattle.session_threads.specs.Naming.{IsPrefix-same, IsPrefix-then, events_of-begins}
 use Rattle.session_threads.proofs.ListLemmas.{All-last}
 use Rattle.session_threads.proofs.PassLemmas.{WentOn-same, WentOn-then}
+use Rattle.session_threads.proofs.SyncLemmas.{goes_behind, synced_there}
 
 FollowsOn-front : (view : Kept) (one more : List Kept) → FollowsOn view (one ++ more) → FollowsOn view one
 FollowsOn-front view [] more follows = tt
@@ -83,19 +85,21 @@ reaches_start first reader starts = record {
   known = inl (subst (λ (r : ReaderView). IsPrefix (first.opening ∷ []) r.list) (sym starts) (IsPrefix-same (first.opening ∷ [])));
 }
 
-goes_on : (exchanges : List Exchange) (d e : GateView) → GoesBy FollowsIn exchanges d e → ReadsOn d.reader e.reader
+goes_on : (exchanges : List Exchange) (d e : GateView) → GoesBy FollowsIn WithoutBackup exchanges d e → ReadsOn d.reader e.reader
 goes_on [] d e goes = subst (λ (g : GateView). ReadsOn d.reader g.reader) (sym goes) (ReadsOn-same d.reader)
 goes_on (AskedOf moment command given manner ∷ exchanges) d e goes =
-    ReadsOn-then d.reader goes.0.reader e.reader goes.1.reads (goes_on exchanges goes.0 e goes.2)
+    ReadsOn-then d.reader goes.0.reader e.reader goes.1.reads
+    (goes_on exchanges goes.0 e (goes_behind FollowsIn manner goes.0 goes.2 e exchanges goes.3 goes.4))
 goes_on (Refused moment fault ∷ exchanges) d e goes = goes_on exchanges d e goes
 goes_on (Wanted moment ∷ exchanges) d e goes = goes_on exchanges d e goes
 
 -- a door's pass is the same one, and has seen more
 pub WentOn-asked : (exchanges : List Exchange) (start : CallerPass) (d e : GateView) → WentOn start d.pass
-    → GoesBy FollowsIn exchanges d e → WentOn start e.pass
+    → GoesBy FollowsIn WithoutBackup exchanges d e → WentOn start e.pass
 WentOn-asked [] start d e went goes = subst (λ (g : GateView). WentOn start g.pass) (sym goes) went
 WentOn-asked (AskedOf moment command given manner ∷ exchanges) start d e went goes =
-    WentOn-asked exchanges start goes.0 e (WentOn-then start d.pass goes.0.pass went goes.1.goes) goes.2
+    WentOn-asked exchanges start goes.0 e (WentOn-then start d.pass goes.0.pass went goes.1.goes)
+    (goes_behind FollowsIn manner goes.0 goes.2 e exchanges goes.3 goes.4)
 WentOn-asked (Refused moment fault ∷ exchanges) start d e went goes = WentOn-asked exchanges start d e went goes
 WentOn-asked (Wanted moment ∷ exchanges) start d e went goes = WentOn-asked exchanges start d e went goes
 
@@ -318,16 +322,17 @@ module _ (never_fall : (one two : List Kept) (view later : Kept) → AreViews tw
     -- all asks
     goes_known : (start : CallerPass) → start.fixed ≡ Some first → start.caller ≡ caller → (exchanges : List Exchange)
         (d e : GateView) (front : ℕ) → WentOn start d.pass → d.asks ≡ asks → IsPrefix e.reader.list list
-        → IsPrefix (events_seen e.pass) final → Reaches front d.reader → GoesBy FollowsIn exchanges d e
-        → (front' : ℕ) × GoesBy Knows exchanges (known d front) (known e front')
+        → IsPrefix (events_seen e.pass) final → Reaches front d.reader → GoesBy FollowsIn WithoutBackup exchanges d e
+        → (front' : ℕ) × GoesBy Knows WithoutBackup exchanges (known d front) (known e front')
     goes_known start fixed is_caller [] d e front went is_asks within begins reaches goes =
         (front, ap (λ (g : GateView). known g front) goes)
     goes_known start fixed is_caller (AskedOf moment command given manner ∷ exchanges) d e front went is_asks within begins reaches
         goes =
         let next : GateView = goes.0 in
-        let on : ReadsOn next.reader e.reader = goes_on exchanges next e goes.2 in
+        let rest : GoesBy FollowsIn WithoutBackup exchanges next e = goes_behind FollowsIn manner next goes.2 e exchanges goes.3 goes.4 in
+        let on : ReadsOn next.reader e.reader = goes_on exchanges next e rest in
         let later : WentOn next.pass e.pass =
-        WentOn-asked exchanges next.pass next e (WentOn-same next.pass goes.1.goes.own) goes.2 in
+        WentOn-asked exchanges next.pass next e (WentOn-same next.pass goes.1.goes.own) rest in
         let there : IsPrefix (events_seen next.pass) final =
         IsPrefix-then (events_seen next.pass) (events_seen e.pass) final
         (events_of later.later.0, events_of-begins next.pass.seen e.pass.seen later.later) begins in
@@ -335,8 +340,8 @@ module _ (never_fall : (one two : List Kept) (view later : Kept) → AreViews tw
         (asker_same first d caller asks (went.caller ∙ is_caller) is_asks)
         (IsPrefix-then next.reader.list e.reader.list list on.later within) there reaches given goes.1 in
         let more = goes_known start fixed is_caller exchanges next e one.0 (WentOn-then start d.pass next.pass went goes.1.goes)
-        (goes.1.same_asks ∙ is_asks) within begins one.2 goes.2 in
-        (more.0, (known next one.0, one.1, more.1))
+        (goes.1.same_asks ∙ is_asks) within begins one.2 rest in
+        (more.0, (known next one.0, one.1, known next one.0, synced_there manner next goes.2 (known next one.0) goes.3, more.1))
     goes_known start fixed is_caller (Refused moment fault ∷ exchanges) d e front went is_asks within begins reaches goes =
         goes_known start fixed is_caller exchanges d e front went is_asks within begins reaches goes
     goes_known start fixed is_caller (Wanted moment ∷ exchanges) d e front went is_asks within begins reaches goes =
@@ -345,8 +350,8 @@ module _ (never_fall : (one two : List Kept) (view later : Kept) → AreViews tw
   -- a session over a pass and its reader is one over what its caller knows
   pub IsSession-known : (limit : ℕ) (how : How) (turns : List Turn) (old new : EndView) (d e : GateView)
       → d.pass.fixed ≡ Some first → WentOn d.pass d.pass → StartsReading first d.reader → IsPrefix e.reader.list list
-      → IsPrefix (events_seen e.pass) final → IsSession FollowsIn limit how turns old new d e
-      → (front : ℕ) × IsSession (FollowsAsked (asker_in first d) final) limit how turns old new
+      → IsPrefix (events_seen e.pass) final → IsSession FollowsIn WithoutBackup limit how turns old new d e
+      → (front : ℕ) × IsSession (FollowsAsked (asker_in first d) final) WithoutBackup limit how turns old new
       (known_first (opened first) (events_seen d.pass)) (record { events = events_seen e.pass; front = front })
   IsSession-known limit how turns old new d e fixed same starts within begins s =
       let t = s.transcript in

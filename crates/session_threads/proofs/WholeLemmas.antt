@@ -37,6 +37,7 @@ use Rattle.session_threads.specs.Rows.{AreLeft, IsSeatOf, NoneServed, Pairs, Pai
 use Rattle.session_threads.specs.Served.{AreServed, EachFrom, HasReaders, IsUnderway, ServedView}
 use Rattle.session_threads.specs.Passes.{CallerPass, IsReady, KnowsOwn}
 use Rattle.session_threads.specs.Sessions.{HasRun, IsSeated, ServesOne, ServesSeat, StaysOut}
+use Rattle.session_threads.specs.Syncs.{WithoutBackup}
 use Rattle.session_threads.specs.Passes.{WentOn, events_seen}
 use Rattle.session_threads.specs.Ticks.{IsTickersPass, TicksOn}
 use Rattle.session_threads.proofs.CountLemmas.{few_notes, notes_by, notes_from, rose_fewer}
@@ -206,9 +207,9 @@ module _ (J : Type 0) {S K C : Type 0} (view : End S K C → EndView) (limit : �
       none_later = All-append (λ (event : Happened). event.caller ≢ caller) run.later (events_of known.1.0) run.none_later
           (others_after seat.pass caller history known.1 goes.caller goes.own
           (subst (λ k. entries_by caller_in k history ≡ seat.pass.own) goes.caller known.0));
-      session = subst (λ (l : List Noted). IsSession (FollowsAsked (asker_for caller end) (events_of history)) limit seat.how seat.turns
-          (view end) (view seat.end) (known_first (opened first) (events_of l)) run.after) fresh
-          (subst (λ l. IsSession (FollowsAsked (asker_for caller end) l) limit seat.how seat.turns (view end) (view seat.end)
+      session = subst (λ (l : List Noted). IsSession (FollowsAsked (asker_for caller end) (events_of history)) WithoutBackup limit seat.how
+          seat.turns (view end) (view seat.end) (known_first (opened first) (events_of l)) run.after) fresh
+          (subst (λ l. IsSession (FollowsAsked (asker_for caller end) l) WithoutBackup limit seat.how seat.turns (view end) (view seat.end)
           (known_first (opened first) (events_seen start)) run.after) (events_of-begins seat.pass.seen history known.1)
           (IsSession-later (asker_for caller end) (events_seen seat.pass) (events_of known.1.0) limit seat.how seat.turns (view end)
           (view seat.end) (known_first (opened first) (events_seen start)) run.after run.session));

@@ -22,6 +22,7 @@ use Rattle.session_shell.specs.declared.turn.Turn.{Turn}
 use Rattle.session_shell.specs.Shows.{IsActiveShow}
 use Rattle.session_shell.specs.Transcript.{EndView, IsSession}
 use Rattle.session_threads.specs.Access.{Asker, IsAllowed, IsAllowedAt, IsDenied, IsDeniedBehind, IsUnreadyBehind}
+use Rattle.session_threads.specs.Syncs.{WithoutBackup}
 
 -- what a caller knows of a run: the events up to its last turn, and how many entries the newest list of commits had that it was
 -- answered from
@@ -186,4 +187,4 @@ pub record HasSession (asker : Asker) (limit : ℕ) (events : List Happened) (ho
   pub begins : events ≡ after.events ++ later
   pub others_first : AllByRecursion (λ event. event.caller ≢ asker.caller) before
   pub none_later : AllByRecursion (λ event. event.caller ≢ asker.caller) later
-  pub session : IsSession (FollowsAsked asker events) limit how turns old new (known_first asker.opening before) after
+  pub session : IsSession (FollowsAsked asker events) WithoutBackup limit how turns old new (known_first asker.opening before) after

@@ -13,4 +13,5 @@ pub mod Results
 pub mod Rows
 pub mod Served
 pub mod Sessions
+pub mod Syncs
 pub mod Ticks

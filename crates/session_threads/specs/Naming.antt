@@ -10,6 +10,7 @@ use Rattle.session_history.specs.declared.history.Happened.{Happened}
 use Rattle.session_history.proofs.EventLemmas.{IsAsked-append}
 use Rattle.session_shell.specs.declared.door.Given0.{Given0}
 use Rattle.session_shell.specs.declared.door.Given0.TheVariants.{Kept as KeptAt, Seen, Denied, Unready, NoMemory}
+use Rattle.session_shell.specs.declared.door.SyncedTurn.{SyncedTurn}
 use Rattle.session_shell.specs.Shows.{PrintsWhole, SeesShow}
 use Rattle.session_threads.specs.declared.noted.Noted.{Noted}
 use Rattle.session_threads.specs.declared.noted.Noted.TheVariants.{Event, Unready}
@@ -17,6 +18,7 @@ use Rattle.session_threads.specs.Gates.{FollowsIn, GateView, NamesIn}
 use Rattle.session_threads.specs.History.{HasEvent}
 use Rattle.session_threads.specs.Noted.{events_of}
 use Rattle.session_threads.specs.Passes.{events_seen}
+use Rattle.session_threads.specs.Syncs.{WithoutBackup}
 
 -- a list begins with itself
 pub IsPrefix-same : {A : Type 0} (xs : List A) → IsPrefix xs xs
@@ -76,6 +78,10 @@ keeps_names d e command answer given goes asked when (Seen front reply) named = 
 keeps_names d e command answer given goes asked when (Denied front right) named = tt
 keeps_names d e command answer given goes asked when (Unready front) named = tt
 keeps_names d e command answer given goes asked when NoMemory named = tt
+
+pub keeps_synced : (d e : GateView) (synced : SyncedTurn) → WithoutBackup d synced e → (asked : Command) (when : ℕ) (was : Given0)
+    → NamesIn d asked when was → NamesIn e asked when was
+keeps_synced d e synced syncs asked when was named = subst (λ (g : GateView). NamesIn g asked when was) (sym syncs.1) named
 
 pub shows_given : (d e : GateView) (command : Command) (answer : ℕ) (given : Given0)
     → FollowsIn d command answer given e → SeesShow command given

@@ -19,6 +19,7 @@ use Rattle.session_threads.specs.History.{FollowsAsked, Known, known_first}
 use Rattle.session_threads.specs.Noted.{notes_of}
 use Rattle.session_threads.specs.Passes.{CallerPass, IsReady, Waited, WentOn, events_seen}
 use Rattle.session_threads.specs.Results.{SessionResult}
+use Rattle.session_threads.specs.Syncs.{WithoutBackup}
 
 -- no session began
 pub record StaysOut {E : Type 0} (old new : CallerPass) (result : SessionResult E) : Type 0 where
@@ -30,7 +31,7 @@ pub record StaysOut {E : Type 0} (old new : CallerPass) (result : SessionResult 
 -- the session ran over its pass and its reader
 abbrev pub RunsOver : {E : Type 0} → (E → EndView) → ℕ → GateView → GateView → SessionResult E → Type 0
 RunsOver view limit old new result =
-    IsSession FollowsIn limit result.how result.turns (view result.old) (view result.new) old new
+    IsSession FollowsIn WithoutBackup limit result.how result.turns (view result.old) (view result.new) old new
 
 -- the pass has a note for each turn of a session that found a disk not ready
 abbrev pub CountsTurns : CallerPass → CallerPass → List Turn → Type 0
@@ -64,8 +65,8 @@ pub record HasRun {E : Type 0} (view : E → EndView) (limit : ℕ) (access : Bo
   pub later : List Happened
   pub begins : events_seen new ≡ after.events ++ later
   pub none_later : AllByRecursion (λ event. event.caller ≢ old.caller) later
-  pub session : IsSession (FollowsAsked (asker_of first old access (view result.old)) (events_seen new)) limit result.how result.turns
-      (view result.old) (view result.new) (known_first (opened first) (events_seen old)) after
+  pub session : IsSession (FollowsAsked (asker_of first old access (view result.old)) (events_seen new)) WithoutBackup limit result.how
+      result.turns (view result.old) (view result.new) (known_first (opened first) (events_seen old)) after
 
 -- the session of a pass's caller was served
 pub record ServesOne {E : Type 0} (view : E → EndView) (limit : ℕ) (access : Bool) (first : DatabaseView) (old new : CallerPass)

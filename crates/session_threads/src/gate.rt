@@ -1,6 +1,6 @@
 //! The lock with the pass and the reader of the caller that asks: the door of that caller's session. A show of the active
 //! configuration or of the commits is answered from the reader, without a turn. Where rights are asked, a show is allowed by the
-//! view that it is read from, and any other command in its turn.
+//! view that it is read from, and any other command in its turn. There is no backup: a commit that is to be synchronized is told so.
 
 ghost use Rattle.std.specs.Prelude.{◌≡◌, false, true, IfOk, IfSome};
 ghost use Rattle.std.specs.Arc.{arc_value};
@@ -13,8 +13,9 @@ ghost use Rattle.session_shell.specs.Shows.{IsActiveShow, PrintsWhole, SaysWhole
 ghost use Rattle.session_threads.specs.Found.{KnowsRights};
 ghost use Rattle.session_threads.specs.Gates.{FollowsIn, GivesView, HadNoMore, Held, Learns, LooksIn, NamesIn, ReadsShow, TookIn};
 ghost use Rattle.session_threads.specs.History.{ShowsKept};
-ghost use Rattle.session_threads.specs.Naming.{keeps_names, names_given, prints_given, shows_given};
+ghost use Rattle.session_threads.specs.Naming.{keeps_names, keeps_synced, names_given, prints_given, shows_given};
 ghost use Rattle.session_threads.specs.Passes.{IsReady};
+ghost use Rattle.session_threads.specs.Syncs.{WithoutBackup};
 
 use crate::begun::Begun;
 use crate::deeds::{Ask, Asked};
@@ -26,9 +27,10 @@ use active_snapshot::{Naming, Read, Shown, SnapNote, SnapReader};
 use cfg_base::{Moment, NoMemory, UserName};
 use cfg_tree::Tree;
 use commands::Command;
+use commit_ledger::Synced;
 use config_core::{Reply, show_active};
 use disk_model::Disk;
-use session_shell::{Door, Given0};
+use session_shell::{Door, Given0, SyncedTurn};
 use std::alloc::Global;
 use std::marker::Model;
 use std::sync::{Arc, Wait};
@@ -263,6 +265,8 @@ impl<'a, D: Disk, J: Naming> Door for Gate<'a, D, J> {
 
     ghost follows = { FollowsIn };
 
+    ghost syncs = { WithoutBackup };
+
     fn ask<R: Wait>(&mut self, rt: &R, moment: Moment, command: Command) -> Given0 {
         match self.look(moment, &command) {
             Some(given) => {
@@ -273,9 +277,15 @@ impl<'a, D: Disk, J: Naming> Door for Gate<'a, D, J> {
         }
     }
 
+    fn synchronize<R: Wait>(&mut self, _rt: &R) -> SyncedTurn {
+        SyncedTurn::Synced(Synced::Alone)
+    }
+
     ghost named = { names_given };
 
     ghost keeps = { keeps_names };
+
+    ghost keeps_synced = { keeps_synced };
 
     ghost shows = { shows_given };
 
