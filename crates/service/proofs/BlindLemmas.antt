@@ -17,8 +17,9 @@ use Rattle.session_history.specs.declared.history.Happened.{Happened}
 use Rattle.session_history.specs.Events.{IsAt, Leads}
 use Rattle.session_shell.specs.declared.door.Given0.{Given0}
 use Rattle.session_shell.specs.declared.door.Given0.TheVariants.{Kept as KeptAt, Seen, Denied, Unready, NoMemory}
+use Rattle.session_shell.specs.declared.door.SyncedTurn.{SyncedTurn}
 use Rattle.session_shell.specs.declared.json_show.Manner.{Manner}
-use Rattle.session_shell.specs.declared.json_show.Manner.TheVariants.{Plain, Json, Dry, NoJson}
+use Rattle.session_shell.specs.declared.json_show.Manner.TheVariants.{Plain, Json, Dry, NoJson, Synchronized, NoCommit}
 use Rattle.session_shell.specs.declared.reading.Item.{Item}
 use Rattle.session_shell.specs.declared.reading.Item.TheVariants.{Ask}
 use Rattle.session_shell.specs.declared.reading.Reading.{Reading}
@@ -29,8 +30,10 @@ use Rattle.session_shell.specs.Exchange.{Exchange, Asked, Refused, Snapshot, Wan
 use Rattle.session_shell.specs.Items.{Continues, ReadsThrough}
 use Rattle.session_shell.specs.Json.{MayBeWritten}
 use Rattle.session_shell.specs.Law.{SeeAlike, is_wanting}
-use Rattle.session_shell.specs.Transcript.{GoesBy, LogsOut, SessionView, Texts, WroteTexts}
-use Rattle.session_shell.proofs.LawLemmas.{AllWere, Once, Peels, asked_is, command_once, fault_is, item_wrong, not_dry, same_front, turn_rests}
+use Rattle.session_shell.specs.Transcript.{GoesBy, LogsOut, SessionView, SyncsBy, Texts, WroteTexts}
+use Rattle.session_shell.proofs.LawLemmas.{AllWere, Once, Peels, asked_is, command_once, fault_is, item_wrong, not_dry, same_front, sync_given, turn_rests}
+use Rattle.session_threads.specs.Syncs.{WithoutBackup}
+use Rattle.session_threads.proofs.SyncLemmas.{stays_synced}
 use Rattle.service.proofs.AloneLemmas.{FollowsPlain, turns_once}
 
 -- what was given, but for what a view said
@@ -47,6 +50,8 @@ unsaid Plain = Plain
 unsaid (Json text) = NoJson
 unsaid Dry = Dry
 unsaid NoJson = NoJson
+unsaid (Synchronized synced) = Synchronized synced
+unsaid NoCommit = NoCommit
 
 abbrev pub blind_manner : Given0 → Manner → Manner
 blind_manner (KeptAt place reply) manner = manner
@@ -74,12 +79,48 @@ unsaid_item Plain command = refl
 unsaid_item (Json text) command = refl
 unsaid_item Dry command = refl
 unsaid_item NoJson command = refl
+unsaid_item (Synchronized synced) command = refl
+unsaid_item NoCommit command = refl
 
 unsaid_dry : (manner : Manner) → is_dry (unsaid manner) ≡ is_dry manner
 unsaid_dry Plain = refl
 unsaid_dry (Json text) = refl
 unsaid_dry Dry = refl
 unsaid_dry NoJson = refl
+unsaid_dry (Synchronized synced) = refl
+unsaid_dry NoCommit = refl
+
+unsaid_syncs : (manner : Manner) → sync_given (unsaid manner) ≡ sync_given manner
+unsaid_syncs Plain = refl
+unsaid_syncs (Json text) = refl
+unsaid_syncs Dry = refl
+unsaid_syncs NoJson = refl
+unsaid_syncs (Synchronized synced) = refl
+unsaid_syncs NoCommit = refl
+
+-- nor whether it was synchronized
+pub blind_syncs : (given : Given0) (manner : Manner) → sync_given (blind_manner given manner) ≡ sync_given manner
+blind_syncs (KeptAt place reply) manner = refl
+blind_syncs (Seen front reply) manner = unsaid_syncs manner
+blind_syncs (Denied front right) manner = refl
+blind_syncs (Unready front) manner = refl
+blind_syncs NoMemory manner = refl
+
+-- what a door without a backup said is what it says to this
+unsaid_stays : {A : Type 0} (manner : Manner) (known : A) → SyncsBy WithoutBackup manner known known → SyncsBy WithoutBackup (unsaid manner) known known
+unsaid_stays Plain known syncs = refl
+unsaid_stays (Json text) known syncs = refl
+unsaid_stays Dry known syncs = refl
+unsaid_stays NoJson known syncs = refl
+unsaid_stays (Synchronized synced) known syncs = syncs
+unsaid_stays NoCommit known syncs = refl
+
+pub blind_stays : {A : Type 0} (given : Given0) (manner : Manner) (known : A) → SyncsBy WithoutBackup manner known known → SyncsBy WithoutBackup (blind_manner given manner) known known
+blind_stays (KeptAt place reply) manner known syncs = syncs
+blind_stays (Seen front reply) manner known syncs = unsaid_stays manner known syncs
+blind_stays (Denied front right) manner known syncs = syncs
+blind_stays (Unready front) manner known syncs = syncs
+blind_stays NoMemory manner known syncs = syncs
 
 -- what a view said changes nothing else of an item
 pub blind_item : (exchange : Exchange) → item_asked (blind exchange) ≡ item_asked exchange
@@ -120,6 +161,8 @@ unsaid_written command front moment reply Plain written want = tt
 unsaid_written command front moment reply (Json text) written want = (written.0, refl)
 unsaid_written command front moment reply Dry written want = absurd (false≢true (sym want))
 unsaid_written command front moment reply NoJson written want = (written.0, refl)
+unsaid_written command front moment reply (Synchronized synced) written want = written
+unsaid_written command front moment reply NoCommit written want = written
 
 blind_written : (exchange : Exchange) → IsWrittenIn exchange → is_wanting (turn_taken exchange) ≡ false → IsWrittenIn (blind exchange)
 blind_written (Asked moment command (KeptAt place reply) manner) written want = written
@@ -189,36 +232,59 @@ texts_of how asked final old view empty ended = by_how ended
 -- two such histories that began alike, and went on by what was asked; the same items were answered from views of as many entries
 pub record BeganAlike (opening : State) (caller : ℕ) (e e' : List Happened) (xs ys : List Exchange) : Type 0 where
   pub start : List Happened
-  pub went : GoesBy (FollowsBlind opening caller) xs start e
-  pub went' : GoesBy (FollowsBlind opening caller) ys start e'
+  pub went : GoesBy (FollowsBlind opening caller) WithoutBackup xs start e
+  pub went' : GoesBy (FollowsBlind opening caller) WithoutBackup ys start e'
   pub seen : SeeAlike (map turn_taken xs) (map turn_taken ys)
   pub written : AllByRecursion IsWrittenIn xs
   pub written' : AllByRecursion IsWrittenIn ys
+
+-- without a backup the same item, for which the same was given, is synchronized in one way
+synced_alike : (manner manner' : Manner) (command command' : Command) (given : Given0) (d last d' last' : List Happened) → asked_item manner command ≡ asked_item manner' command' → MayBeWritten command given manner → MayBeWritten command' given manner' →
+    SyncsBy WithoutBackup manner d last → SyncsBy WithoutBackup manner' d' last' → sync_given manner ≡ sync_given manner'
+synced_alike (Synchronized synced) (Synchronized synced') command command' given d last d' last' item w w' went went' = ap (λ (s : SyncedTurn). s ∷ []) (went.0 ∙ sym went'.0)
+synced_alike (Synchronized synced) NoCommit command command' given d last d' last' item w w' went went' = absurd (false≢true (sym w' ∙ w))
+synced_alike NoCommit (Synchronized synced') command command' given d last d' last' item w w' went went' = absurd (false≢true (sym w ∙ w'))
+synced_alike (Synchronized synced) manner' command command' given d last d' last' item w w' went went' = absurd cc
+synced_alike manner (Synchronized synced') command command' given d last d' last' item w w' went went' = absurd cc
+synced_alike manner manner' command command' given d last d' last' item w w' went went' = refl
+
+-- what is asked behind it is asked of the same
+behind_alike : (manner manner' : Manner) (d last d' last' : List Happened) → SyncsBy WithoutBackup manner d last → SyncsBy WithoutBackup manner' d' last' → d ≡ d' → last ≡ last'
+behind_alike manner manner' d last d' last' went went' same = stays_synced manner d last went ∙ same ∙ sym (stays_synced manner' d' last' went')
 
 module _ (once : Once) (opening : State) (caller : ℕ) (e e' : List Happened)
     (leads_once : (events : List Happened) (one other : State) → Leads opening events one → Leads opening events other → one ≡ other)
     (at_once : (events : List Happened) (place : ℕ) (before again : State) (event same : Happened) (one other : Reply) → IsAt opening events place before event one → IsAt opening events place again same other → (event ≡ same) × (before ≡ again) × (one ≡ other)) where
   -- so the first items came to the same
+  same_asked : (moment moment' : ℕ) (command command' : Command) (given given' : Given0) (manner manner' : Manner) (xs ys : List Exchange) → asked_item manner command ≡ asked_item manner' command' → moment ≡ moment' →
+      is_wanting (turn_taken (Asked moment command given manner)) ≡ false → is_wanting (turn_taken (Asked moment' command' given' manner')) ≡ false → given ≡ given' →
+      (from : BeganAlike opening caller e e' (Asked moment command given manner ∷ xs) (Asked moment' command' given' manner' ∷ ys)) → from.went.0 ≡ from.went'.0 →
+      (Asked moment command given manner ≡ Asked moment' command' given' manner') × BeganAlike opening caller e e' xs ys
+  same_asked moment moment' command command' given given' manner manner' xs ys item when want want' gave from same = (
+    asked_is once moment moment' command command' given given' manner manner' when item gave from.written.0 from.written'.0
+        (not_dry manner command moment given from.written.0 want) (not_dry manner' command' moment' given' from.written'.0 want')
+        (synced_alike manner manner' command command' given' from.went.0 from.went.2 from.went'.0 from.went'.2 item (subst (λ g. MayBeWritten command g manner) gave from.written.0) from.written'.0 from.went.3 from.went'.3),
+    record {
+      start = from.went'.2;
+      went = subst (λ x. GoesBy (FollowsBlind opening caller) WithoutBackup xs x e) (behind_alike manner manner' from.went.0 from.went.2 from.went'.0 from.went'.2 from.went.3 from.went'.3 same) from.went.4;
+      went' = from.went'.4;
+      seen = λ number. from.seen (suc number);
+      written = from.written.1;
+      written' = from.written'.1;
+    },
+  )
+
   pub blind_peels : Peels (BeganAlike opening caller e e')
   blind_peels (Asked moment command (KeptAt place reply) manner) (Asked moment' command' (KeptAt place' reply') manner') xs ys item when want want' from =
       let which : command ≡ command' = command_once manner manner' command command' (KeptAt place reply) (KeptAt place' reply') item from.written.0 from.written'.0 in
       let did : FollowsPlain opening caller from.start command moment (DoneAt place' reply') from.went'.0 =
       subst (λ m. FollowsPlain opening caller from.start command m (DoneAt place' reply') from.went'.0) (sym when) (subst (λ c. FollowsPlain opening caller from.start c moment' (DoneAt place' reply') from.went'.0) (sym which) from.went'.1) in
-      let same : (place ≡ place') × (reply ≡ reply') × (from.went.0 ≡ from.went'.0) = turns_once opening caller leads_once at_once from.start from.went.0 from.went'.0 command moment place place' reply reply' from.went.1 did in (
-        asked_is once moment moment' command command' (KeptAt place reply) (KeptAt place' reply') manner manner' when item (ap (λ p. KeptAt p reply) same.0 ∙ ap (KeptAt place') same.1) from.written.0 from.written'.0
-            (not_dry manner command moment (KeptAt place reply) from.written.0 want)
-            (not_dry manner' command' moment' (KeptAt place' reply') from.written'.0 want'),
-        record { start = from.went'.0; went = subst (λ x. GoesBy (FollowsBlind opening caller) xs x e) same.2 from.went.2; went' = from.went'.2; seen = λ number. from.seen (suc number); written = from.written.1; written' = from.written'.1 },
-      )
+      let same : (place ≡ place') × (reply ≡ reply') × (from.went.0 ≡ from.went'.0) = turns_once opening caller leads_once at_once from.start from.went.0 from.went'.0 command moment place place' reply reply' from.went.1 did in
+      same_asked moment moment' command command' (KeptAt place reply) (KeptAt place' reply') manner manner' xs ys item when want want' (ap (λ p. KeptAt p reply) same.0 ∙ ap (KeptAt place') same.1) from same.2
   blind_peels (Asked moment command (Seen front reply) manner) (Asked moment' command' (Seen front' reply') manner') xs ys item when want want' from =
       let fronts : front ≡ front' = same_front front front'
       (sym (turn_rests manner moment (Seen front reply)) ∙ from.seen 0 ∙ turn_rests manner' moment' (Seen front' reply')) in
-      let same : from.went.0 ≡ from.went'.0 = from.went.1.0 ∙ sym from.went'.1.0 in (
-        asked_is once moment moment' command command' (Seen front reply) (Seen front' reply') manner manner' when item (ap (λ f. Seen f reply) fronts ∙ ap (Seen front') (from.went.1.1 ∙ sym from.went'.1.1)) from.written.0 from.written'.0
-            (not_dry manner command moment (Seen front reply) from.written.0 want)
-            (not_dry manner' command' moment' (Seen front' reply') from.written'.0 want'),
-        record { start = from.went'.0; went = subst (λ x. GoesBy (FollowsBlind opening caller) xs x e) same from.went.2; went' = from.went'.2; seen = λ number. from.seen (suc number); written = from.written.1; written' = from.written'.1 },
-      )
+      same_asked moment moment' command command' (Seen front reply) (Seen front' reply') manner manner' xs ys item when want want' (ap (λ f. Seen f reply) fronts ∙ ap (Seen front') (from.went.1.1 ∙ sym from.went'.1.1)) from (from.went.1.0 ∙ sym from.went'.1.0)
   blind_peels (Asked moment command (KeptAt place reply) manner) (Asked moment' command' (Seen front' reply') manner') xs ys item when want want' from =
       absurd (none-some (Snapshot front') (sym (turn_rests manner moment (KeptAt place reply)) ∙ from.seen 0 ∙ turn_rests manner' moment' (Seen front' reply')))
   blind_peels (Asked moment command (Seen front reply) manner) (Asked moment' command' (KeptAt place' reply') manner') xs ys item when want want' from =

@@ -19,13 +19,15 @@ use Rattle.session_shell.specs.declared.reading.Reading.TheVariants.{Operational
 use Rattle.session_shell.specs.declared.json_show.Manner.{Manner}
 use Rattle.session_shell.specs.Exchange.{Exchange, Asked, Failure, Lack, Refused, Wanted, IsWrittenIn, item_asked, asked_item, turn_taken}
 use Rattle.session_shell.specs.Law.{Agree, SeeAlike, Undisturbed, basis_at, is_wanting}
-use Rattle.session_shell.specs.Transcript.{Following, GoesBy, SessionView, TakesAnswers, TakesTurns}
-use Rattle.session_shell.proofs.LawLemmas.{AllWere, Once, all_same, asked_is, not_dry, outcome_same, same_front}
+use Rattle.session_shell.specs.Transcript.{Following, GoesBy, SessionView, SyncsBy, TakesAnswers, TakesTurns}
+use Rattle.session_shell.proofs.LawLemmas.{AllWere, Once, all_same, asked_is, not_dry, outcome_same, same_front, sync_given}
 use Rattle.session_threads.specs.History.{FollowsAsked, FollowsDenied, FollowsTurn, FollowsUnready, HasEvent, HasView, IsTurn, Known, Names, ShowsKept, known_first, places_answered}
+use Rattle.session_threads.specs.Syncs.{WithoutBackup}
 use Rattle.session_threads.proofs.ListLemmas.{all_back, some_is}
+use Rattle.session_threads.proofs.SyncLemmas.{goes_behind, synced_there}
 use Rattle.service.specs.Alone.{AreAlike, IsAlone, IsCalm, unasked, uncounted}
 use Rattle.service.proofs.AloneLemmas.{FollowsPlain, IsPlain, Leads-split}
-use Rattle.service.proofs.BlindLemmas.{BeganAlike, FollowsBlind, all_written, blind, blind_given, blind_item, blind_logs_out, blind_manner, blind_moments, blind_peels, blind_reads, blind_turns, texts_of, view_of}
+use Rattle.service.proofs.BlindLemmas.{BeganAlike, FollowsBlind, all_written, blind, blind_given, blind_item, blind_logs_out, blind_manner, blind_moments, blind_peels, blind_reads, blind_stays, blind_syncs, blind_turns, texts_of, view_of}
 use Rattle.service.proofs.GrowthLemmas.{more_events}
 use Rattle.service.proofs.ListLemmas.{All-map, all_front, slice_get-map}
 
@@ -145,14 +147,14 @@ none_unready : (opening : State) (caller : ℕ) (final : List Happened) (d e : K
 none_unready opening caller final d e command answer front follows = follows.1.needs
 
 -- each of these items that was answered from a view
-pub all_viewed : (opening : State) (caller : ℕ) (final : List Happened) (exchanges : List Exchange) (d e : Known) → GoesBy (FollowsAsked (unasked opening caller) final) exchanges d e → AllByRecursion (IsViewed opening (plain final)) exchanges
+pub all_viewed : (opening : State) (caller : ℕ) (final : List Happened) (exchanges : List Exchange) (d e : Known) → GoesBy (FollowsAsked (unasked opening caller) final) WithoutBackup exchanges d e → AllByRecursion (IsViewed opening (plain final)) exchanges
 all_viewed opening caller final [] d e goes = tt
-all_viewed opening caller final (Asked moment command (KeptAt place reply) manner ∷ exchanges) d e goes = (tt, all_viewed opening caller final exchanges goes.0 e goes.2)
+all_viewed opening caller final (Asked moment command (KeptAt place reply) manner ∷ exchanges) d e goes = (tt, all_viewed opening caller final exchanges goes.2 e goes.4)
 all_viewed opening caller final (Asked moment command (Seen front reply) manner ∷ exchanges) d e goes =
-    (plain_view opening final command front reply (record { kept = goes.1.view.kept; was_kept = goes.1.view.was_kept; shows = goes.1.shows }), all_viewed opening caller final exchanges goes.0 e goes.2)
+    (plain_view opening final command front reply (record { kept = goes.1.view.kept; was_kept = goes.1.view.was_kept; shows = goes.1.shows }), all_viewed opening caller final exchanges goes.2 e goes.4)
 all_viewed opening caller final (Asked moment command (Denied front right) manner ∷ exchanges) d e goes = absurd (none_denied opening caller final d goes.0 command moment front right goes.1)
 all_viewed opening caller final (Asked moment command (Unready front) manner ∷ exchanges) d e goes = absurd (none_unready opening caller final d goes.0 command moment front goes.1)
-all_viewed opening caller final (Asked moment command NoMemory manner ∷ exchanges) d e goes = (tt, all_viewed opening caller final exchanges goes.0 e goes.2)
+all_viewed opening caller final (Asked moment command NoMemory manner ∷ exchanges) d e goes = (tt, all_viewed opening caller final exchanges goes.2 e goes.4)
 all_viewed opening caller final (Refused moment fault ∷ exchanges) d e goes = (tt, all_viewed opening caller final exchanges d e goes)
 all_viewed opening caller final (Wanted moment ∷ exchanges) d e goes = (tt, all_viewed opening caller final exchanges d e goes)
 
@@ -171,25 +173,56 @@ module _ (opening : State) (caller : ℕ) where
       }
 
   module _ (final : List Happened) where
-    alone_before : (exchanges : List Exchange) (d e : Known) → GoesBy (FollowsAsked (unasked opening caller) final) exchanges d e → IsAlone opening caller e.events → IsAlone opening caller d.events
+    abbrev Goes : List Exchange → Known → Known → Type 0
+    Goes exchanges d e = GoesBy (FollowsAsked (unasked opening caller) final) WithoutBackup exchanges d e
+
+    abbrev GoesBlind : List Exchange → List Happened → List Happened → Type 0
+    GoesBlind exchanges events events' = GoesBy (FollowsBlind opening caller) WithoutBackup exchanges events events'
+
+    alone_before : (exchanges : List Exchange) (d e : Known) → Goes exchanges d e → IsAlone opening caller e.events → IsAlone opening caller d.events
     alone_before exchanges d e goes alone =
         let more = more_events (unasked opening caller) final exchanges d e goes in alone_front opening caller d.events more.0 (subst (IsAlone opening caller) more.1 alone)
 
-    goes_blind : (exchanges : List Exchange) (d e : Known) → IsAlone opening caller e.events → GoesBy (FollowsAsked (unasked opening caller) final) exchanges d e → GoesBy (FollowsBlind opening caller) (map blind exchanges) (plain d.events) (plain e.events)
+    -- what is asked behind one item, of a door that stands as it did
+    behind : (manner : Manner) (exchanges : List Exchange) (d last e : Known) → SyncsBy WithoutBackup manner d last → Goes exchanges last e → Goes exchanges d e
+    behind manner exchanges d last e = goes_behind (FollowsAsked (unasked opening caller) final) manner d last e exchanges
+
+    blind_there : (given : Given0) (manner : Manner) (d last : Known) → SyncsBy WithoutBackup manner d last → SyncsBy WithoutBackup (blind_manner given manner) (plain d.events) (plain d.events)
+    blind_there given manner d last syncs = blind_stays given manner (plain d.events) (synced_there manner d last (plain d.events) syncs)
+
+    goes_blind : (exchanges : List Exchange) (d e : Known) → IsAlone opening caller e.events → Goes exchanges d e → GoesBlind (map blind exchanges) (plain d.events) (plain e.events)
     goes_blind [] d e alone goes = ap (λ (k : Known). plain k.events) goes
     goes_blind (Asked moment command (KeptAt place reply) manner ∷ exchanges) d e alone goes =
-        (plain goes.0.events, follows_alone d.events command moment (DoneAt place reply) goes.0.events (alone_before exchanges goes.0 e goes.2 alone) goes.1.turn, goes_blind exchanges goes.0 e alone goes.2)
+        let rest : Goes exchanges goes.0 e = behind manner exchanges goes.0 goes.2 e goes.3 goes.4 in (
+          plain goes.0.events,
+          follows_alone d.events command moment (DoneAt place reply) goes.0.events (alone_before exchanges goes.0 e rest alone) goes.1.turn,
+          plain goes.0.events,
+          blind_there (KeptAt place reply) manner goes.0 goes.2 goes.3,
+          goes_blind exchanges goes.0 e alone rest,
+        )
     goes_blind (Asked moment command (Seen front reply) manner ∷ exchanges) d e alone goes =
-        (plain goes.0.events, (ap plain goes.1.view.same, refl), goes_blind exchanges goes.0 e alone goes.2)
+        let rest : Goes exchanges goes.0 e = behind manner exchanges goes.0 goes.2 e goes.3 goes.4 in (
+          plain goes.0.events,
+          (ap plain goes.1.view.same, refl),
+          plain goes.0.events,
+          blind_there (Seen front reply) manner goes.0 goes.2 goes.3,
+          goes_blind exchanges goes.0 e alone rest,
+        )
     goes_blind (Asked moment command (Denied front right) manner ∷ exchanges) d e alone goes = absurd (none_denied opening caller final d goes.0 command moment front right goes.1)
     goes_blind (Asked moment command (Unready front) manner ∷ exchanges) d e alone goes = absurd (none_unready opening caller final d goes.0 command moment front goes.1)
     goes_blind (Asked moment command NoMemory manner ∷ exchanges) d e alone goes =
-        (plain goes.0.events, follows_alone d.events command moment Wanting goes.0.events (alone_before exchanges goes.0 e goes.2 alone) goes.1.turn, goes_blind exchanges goes.0 e alone goes.2)
+        let rest : Goes exchanges goes.0 e = behind manner exchanges goes.0 goes.2 e goes.3 goes.4 in (
+          plain goes.0.events,
+          follows_alone d.events command moment Wanting goes.0.events (alone_before exchanges goes.0 e rest alone) goes.1.turn,
+          plain goes.0.events,
+          blind_there NoMemory manner goes.0 goes.2 goes.3,
+          goes_blind exchanges goes.0 e alone rest,
+        )
     goes_blind (Refused moment fault ∷ exchanges) d e alone goes = goes_blind exchanges d e alone goes
     goes_blind (Wanted moment ∷ exchanges) d e alone goes = goes_blind exchanges d e alone goes
 
   module _ (limit : ℕ) (bytes : List ℕ) (coming : ℕ → ℕ) (after : Known) (view : SessionView)
-      (quiet : Undisturbed (FollowsAsked (unasked opening caller) after.events) limit bytes coming (known_first opening []) after view)
+      (quiet : Undisturbed (FollowsAsked (unasked opening caller) after.events) WithoutBackup limit bytes coming (known_first opening []) after view)
       (alone : IsAlone opening caller after.events) where
     abbrev pub blind_view : SessionView
     blind_view = view_of (map blind quiet.session.asked) (map blind quiet.session.final) view
@@ -200,7 +233,7 @@ module _ (opening : State) (caller : ℕ) where
     abbrev all : List Exchange
     all = quiet.session.asked ++ quiet.session.final
 
-    pub whole_turns : TakesTurns (FollowsBlind opening caller) (map blind all) [] (plain after.events) old blind_view
+    pub whole_turns : TakesTurns (FollowsBlind opening caller) WithoutBackup (map blind all) [] (plain after.events) old blind_view
     whole_turns = record {
       moments = subst (λ l. TakesAnswers (Some coming) l view.coming) (sym (blind_moments all)) quiet.session.turns.moments;
       turned = quiet.session.turns.turned ∙ sym (blind_turns all);
@@ -209,7 +242,7 @@ module _ (opening : State) (caller : ℕ) where
     }
 
     -- a session that nothing disturbs, without what views said
-    abbrev pub undisturbed_blind : Undisturbed (FollowsBlind opening caller) limit bytes coming [] (plain after.events) blind_view
+    abbrev pub undisturbed_blind : Undisturbed (FollowsBlind opening caller) WithoutBackup limit bytes coming [] (plain after.events) blind_view
     undisturbed_blind = record {
       how = quiet.how;
       source = quiet.source;
@@ -222,7 +255,7 @@ module _ (opening : State) (caller : ℕ) where
         reads = blind_reads quiet.session.lines Operational quiet.session.reading quiet.session.asked quiet.session.reads;
         input = quiet.session.input;
         logs_out = blind_logs_out quiet.session.reading quiet.session.final quiet.session.logs_out;
-        turns = subst (λ l. TakesTurns (FollowsBlind opening caller) l [] (plain after.events) old blind_view) (map-append blind quiet.session.asked quiet.session.final) whole_turns;
+        turns = subst (λ l. TakesTurns (FollowsBlind opening caller) WithoutBackup l [] (plain after.events) old blind_view) (map-append blind quiet.session.asked quiet.session.final) whole_turns;
         texts = texts_of quiet.how (map blind quiet.session.asked) (map blind quiet.session.final) old view refl quiet.ended;
       };
       ended = quiet.ended;
@@ -234,13 +267,13 @@ module _ (opening : State) (caller : ℕ) where
 abbrev pub FollowsAny : Known → Command → ℕ → Given0 → Known → Type 0
 FollowsAny d command answer given e = Unit {0}
 
-goes_any : (follows : Following Known) (exchanges : List Exchange) (d e : Known) → GoesBy follows exchanges d e → GoesBy FollowsAny exchanges d e
+goes_any : (follows : Following Known) (exchanges : List Exchange) (d e : Known) → GoesBy follows WithoutBackup exchanges d e → GoesBy FollowsAny WithoutBackup exchanges d e
 goes_any follows [] d e goes = goes
-goes_any follows (Asked moment command given manner ∷ exchanges) d e goes = (goes.0, tt, goes_any follows exchanges goes.0 e goes.2)
+goes_any follows (Asked moment command given manner ∷ exchanges) d e goes = (goes.0, tt, goes.2, goes.3, goes_any follows exchanges goes.2 e goes.4)
 goes_any follows (Refused moment fault ∷ exchanges) d e goes = goes_any follows exchanges d e goes
 goes_any follows (Wanted moment ∷ exchanges) d e goes = goes_any follows exchanges d e goes
 
-abbrev of_any : (follows : Following Known) (limit : ℕ) (bytes : List ℕ) (coming : ℕ → ℕ) (d e : Known) (view : SessionView) → Undisturbed follows limit bytes coming d e view → Undisturbed FollowsAny limit bytes coming d e view
+abbrev of_any : (follows : Following Known) (limit : ℕ) (bytes : List ℕ) (coming : ℕ → ℕ) (d e : Known) (view : SessionView) → Undisturbed follows WithoutBackup limit bytes coming d e view → Undisturbed FollowsAny WithoutBackup limit bytes coming d e view
 of_any follows limit bytes coming d e view quiet = record {
   how = quiet.how;
   source = quiet.source;
@@ -270,8 +303,8 @@ cons_is : {A : Type 0} {x y : A} {xs ys : List A} → x ∷ xs ≡ y ∷ ys → 
 cons_is is = (cc, cc)
 
 -- what an item is but for what a view said of it
-moments_are : (moment moment' : ℕ) (command command' : Command) (given given' : Given0) (manner manner' : Manner) → Asked moment command given manner ≡ Asked moment' command' given' manner' → (moment ≡ moment') × (command ≡ command') × (given ≡ given')
-moments_are moment moment' command command' given given' manner manner' is = (cc, cc, cc)
+moments_are : (moment moment' : ℕ) (command command' : Command) (given given' : Given0) (manner manner' : Manner) → Asked moment command given manner ≡ Asked moment' command' given' manner' → (moment ≡ moment') × (command ≡ command') × (given ≡ given') × (manner ≡ manner')
+moments_are moment moment' command command' given given' manner manner' is = (cc, cc, cc, cc)
 
 -- a view said something
 abbrev is_viewed : Given0 → Bool
@@ -320,6 +353,7 @@ module _ (opening : State) (kept_once : (events : List Happened) (one other : Ke
       sym (blind_item (Asked moment command given manner)) ∙ ap item_asked is ∙ blind_item (Asked moment' command' given' manner') in
       asked_is once moment moment' command command' given given' manner manner' are.0 item
       (seen_given events command' given given' are.2 (subst (λ c. IsViewGiven opening events c given) are.1 v) v') w w' (not_dry manner command moment given w want) (not_dry manner' command' moment' given' w' want')
+      (sym (blind_syncs given manner) ∙ ap sync_given are.3 ∙ blind_syncs given' manner')
   seen_one once events (Refused moment fault) (Refused moment' fault') is v v' w w' want want' = is
   seen_one once events (Wanted moment) (Wanted moment') is v v' w w' want want' = is
   seen_one once events (Asked moment command given manner) (Refused moment' fault') is v v' w w' want want' = cc
@@ -375,8 +409,8 @@ module _ (opening : State) (kept_once : (events : List Happened) (one other : Ke
       (leads_once : (events : List Happened) (one other : State) → Leads opening events one → Leads opening events other → one ≡ other)
       (at_once : (events : List Happened) (place : ℕ) (before again : State) (event same : Happened) (one other : Reply) → IsAt opening events place before event one → IsAt opening events place again same other → (event ≡ same) × (before ≡ again) × (one ≡ other))
       (limit : ℕ) (bytes : List ℕ) (coming : ℕ → ℕ) (after after' : Known) (one other : SessionView)
-      (first : Undisturbed (FollowsAsked (unasked opening caller) after.events) limit bytes coming (known_first opening []) after one) (alone : IsAlone opening caller after.events)
-      (second : Undisturbed (FollowsAsked (unasked opening caller) after'.events) limit bytes coming (known_first opening []) after' other) (alone' : IsAlone opening caller after'.events)
+      (first : Undisturbed (FollowsAsked (unasked opening caller) after.events) WithoutBackup limit bytes coming (known_first opening []) after one) (alone : IsAlone opening caller after.events)
+      (second : Undisturbed (FollowsAsked (unasked opening caller) after'.events) WithoutBackup limit bytes coming (known_first opening []) after' other) (alone' : IsAlone opening caller after'.events)
       (seen : SeeAlike one.turns other.turns) where
     abbrev xs : List Exchange
     xs = first.session.asked ++ first.session.final
@@ -384,10 +418,10 @@ module _ (opening : State) (kept_once : (events : List Happened) (one other : Ke
     abbrev ys : List Exchange
     ys = second.session.asked ++ second.session.final
 
-    abbrev one_blind : Undisturbed (FollowsBlind opening caller) limit bytes coming [] (plain after.events) (blind_view opening caller limit bytes coming after one first alone)
+    abbrev one_blind : Undisturbed (FollowsBlind opening caller) WithoutBackup limit bytes coming [] (plain after.events) (blind_view opening caller limit bytes coming after one first alone)
     one_blind = undisturbed_blind opening caller limit bytes coming after one first alone
 
-    abbrev other_blind : Undisturbed (FollowsBlind opening caller) limit bytes coming [] (plain after'.events) (blind_view opening caller limit bytes coming after' other second alone')
+    abbrev other_blind : Undisturbed (FollowsBlind opening caller) WithoutBackup limit bytes coming [] (plain after'.events) (blind_view opening caller limit bytes coming after' other second alone')
     other_blind = undisturbed_blind opening caller limit bytes coming after' other second alone'
 
     began : BeganAlike opening caller (plain after.events) (plain after'.events) (map blind first.session.asked ++ map blind first.session.final) (map blind second.session.asked ++ map blind second.session.final)
@@ -401,7 +435,7 @@ module _ (opening : State) (kept_once : (events : List Happened) (one other : Ke
     }
 
     but_for_views : (map blind first.session.asked ++ map blind first.session.final ≡ map blind second.session.asked ++ map blind second.session.final) × BeganAlike opening caller (plain after.events) (plain after'.events) [] []
-    but_for_views = all_same (FollowsBlind opening caller) once limit bytes coming [] (plain after.events) [] (plain after'.events)
+    but_for_views = all_same (FollowsBlind opening caller) WithoutBackup once limit bytes coming [] (plain after.events) [] (plain after'.events)
         (blind_view opening caller limit bytes coming after one first alone) (blind_view opening caller limit bytes coming after' other second alone') one_blind other_blind
         (BeganAlike opening caller (plain after.events) (plain after'.events)) (blind_peels once opening caller (plain after.events) (plain after'.events) leads_once at_once) began
 
@@ -418,7 +452,7 @@ module _ (opening : State) (kept_once : (events : List Happened) (one other : Ke
     -- two sessions that nothing disturbs, and that were answered from views of as many entries, are one
     pub one_text : (one.turns ≡ other.turns) × (one.held ≡ other.held) × AreAlike after.events after'.events
     one_text =
-        let out = outcome_same FollowsAny once limit bytes coming (known_first opening []) after (known_first opening []) after' one other
+        let out = outcome_same FollowsAny WithoutBackup once limit bytes coming (known_first opening []) after (known_first opening []) after' one other
         (of_any (FollowsAsked (unasked opening caller) after.events) limit bytes coming (known_first opening []) after one first)
         (of_any (FollowsAsked (unasked opening caller) after'.events) limit bytes coming (known_first opening []) after' other second) all_one in
         (out.0, out.1, alike)

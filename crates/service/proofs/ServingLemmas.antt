@@ -36,6 +36,7 @@ use Rattle.session_threads.specs.Adding.{AddsUp, unready_in}
 use Rattle.session_threads.specs.Looks.{HasTicked}
 use Rattle.session_threads.specs.Results.{IsResult, status_of_all}
 use Rattle.session_threads.specs.Served.{AreServed}
+use Rattle.session_threads.specs.Syncs.{SaysAlone}
 use Rattle.session_threads.proofs.ListLemmas.{All-weaker}
 use Rattle.io_edge.proofs.RoseLemmas.{rose_since}
 use Rattle.session_threads.proofs.LogLemmas.{AddsUp-then, rose_on}
@@ -44,7 +45,7 @@ use Rattle.service.specs.ServedOver.{IsServedOver, status_over}
 use Rattle.service.specs.Running.{IsServeRun}
 use Rattle.service.specs.Serving.{HaveSessions, HaveNoFault, AreStored, AreTheirs, FrontsGo, HasHappened, HaveCauses, IsEnded, IsServed, status_at_end}
 use Rattle.service.specs.World.{Told, Views, World}
-use Rattle.service.proofs.GrowthLemmas.{each_turns, result_fronts}
+use Rattle.service.proofs.GrowthLemmas.{each_turns, result_fronts, result_synced}
 use Rattle.service.proofs.ListLemmas.{slice_get-map}
 use Rattle.service.proofs.ModeLemmas.{refused_is_not_1}
 use Rattle.service.proofs.RunLemmas.{quiet, quiet_status, status_is_not_1}
@@ -216,6 +217,11 @@ module _ {E T D : Type 0} (see : Views E T D) (asked : Asked) (before after : Wo
         result_fronts see.end asked.limits.input asked.access opening told.history.events.items last.state.kept.count
         (λ kept was. WasKept-last_count opening (one_state first.opening asked.users) told.history.events.items last.state kept leads_last was) (k + 1) result (sessions.each k result is)))
 
+    -- no session has a backup
+    synced : AllByRecursion (AllByRecursion SaysAlone) told.turns
+    synced = subst (AllByRecursion (AllByRecursion SaysAlone)) sessions.turned (each_turns (AllByRecursion SaysAlone) sessions.results (λ k result is.
+        result_synced see.end asked.limits.input asked.access opening told.history.events.items (k + 1) result (sessions.each k result is)))
+
     tells_a : back.a.tells ≡ given.a.tells
     tells_a = ap (λ (d : DiskPair). d.a.tells) handed.disks_are ∙ whole.goes.tells_a ∙ begun.opened.tells_a
 
@@ -322,6 +328,7 @@ module _ {E T D : Type 0} (see : Views E T D) (asked : Asked) (before after : Wo
       sessions = sessions;
       happened = happened;
       fronts = fronts;
+      synced = synced;
       stored = stored;
       causes = causes;
       ended = is_ended;

@@ -24,7 +24,8 @@ use Rattle.session_history.specs.declared.history.History.{History}
 use Rattle.session_history.specs.Events.{Leads, StaysAccepted, IsEventOf}
 use Rattle.session_shell.specs.declared.turn.How.{How}
 use Rattle.session_shell.specs.declared.turn.Turn.{Turn}
-use Rattle.session_shell.specs.declared.turn.Turn.TheVariants.{Kept as KeptAt, KeptDry, Seen, SeenDry, Denied, Unready, Local, NoMemory}
+use Rattle.session_shell.specs.declared.turn.Turn.TheVariants.{Kept as KeptAt, KeptDry, KeptSynced}
+use Rattle.session_shell.specs.declared.turn.Turn.TheVariants.{Seen, SeenDry, Denied, Unready, Local, NoMemory}
 use Rattle.session_shell.specs.Transcript.{EndView}
 use Rattle.stored_ledger.specs.declared.why.StartWhy.{StartWhy}
 use Rattle.stored_ledger.specs.Starting.{IsFound, IsNotFound}
@@ -32,6 +33,7 @@ use Rattle.stored_ledger.specs.Stored.{HoldsKept, SpellsKept}
 use Rattle.session_threads.specs.Adding.{unready_in}
 use Rattle.session_threads.specs.Looks.{HasTicked, TickerView}
 use Rattle.session_threads.specs.Results.{IsResult, SessionResult, status_of_all}
+use Rattle.session_threads.specs.Syncs.{SaysAlone}
 use Rattle.service.specs.Run.{NothingHappened}
 use Rattle.service.specs.World.{Told, Views, World}
 
@@ -64,6 +66,7 @@ abbrev pub FrontsGo : ℕ → ℕ → List Turn → Type 0
 FrontsGo least most [] = Unit {0}
 FrontsGo least most (KeptAt place ∷ turns) = FrontsGo least most turns
 FrontsGo least most (KeptDry place ∷ turns) = FrontsGo least most turns
+FrontsGo least most (KeptSynced place synced ∷ turns) = FrontsGo least most turns
 FrontsGo least most (Seen front moment ∷ turns) = (least ≤ front) × (front ≤ most) × FrontsGo front most turns
 FrontsGo least most (SeenDry front moment ∷ turns) = (least ≤ front) × (front ≤ most) × FrontsGo front most turns
 FrontsGo least most (Denied front right moment ∷ turns) = (least ≤ front) × (front ≤ most) × FrontsGo front most turns
@@ -139,6 +142,8 @@ pub record IsServed {E T D : Type 0} (see : Views E T D) (asked : Asked) (before
   pub happened : HasHappened kept asked.users (see.ticker before.ticker) (see.ticker after.ticker) told.history
   -- what each session was shown has no fewer entries than the list at the opening, and no more than that at the end
   pub fronts : AllByRecursion (FrontsGo kept.count happened.last.kept.count) told.turns
+  -- each commit that was to be synchronized, and was made, is answered so: there is no backup
+  pub synced : AllByRecursion (AllByRecursion SaysAlone) told.turns
   pub stored : AreStored (see.disks before.a before.b) start (opening_of kept asked.users) happened.last told.history
       (see.disks after.a after.b)
   pub causes : HaveCauses (see.disks before.a before.b) (see.disks after.a after.b) told.history.events.items told.turns

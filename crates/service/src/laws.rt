@@ -11,6 +11,7 @@ ghost use Rattle.session_history.specs.declared.history.History.{History};
 ghost use Rattle.session_shell.specs.Law.{Agree, SeeAlike, Undisturbed};
 ghost use Rattle.session_shell.specs.Transcript.{SessionView};
 ghost use Rattle.session_threads.specs.History.{FollowsAsked, IsKeptThen, Known, Names, ShowsKept, known_first};
+ghost use Rattle.session_threads.specs.Syncs.{WithoutBackup};
 ghost use Rattle.service.specs.Alone.{AreAlike, IsAlone, unasked};
 ghost use Rattle.service.specs.Generating.{IsGenerated};
 
@@ -29,10 +30,10 @@ use shell_words::lines_are_read_in_one_way;
 pub fn sessions_have_one_text()
     ensures alone { (kept : Kept) (users : List (List ℕ)) (caller limit : ℕ) (bytes : List ℕ) (coming : ℕ → ℕ)
         (after after' : Known) (one other : SessionView)
-        → Undisturbed (FollowsAsked (unasked (opening_of kept users) caller) after.events) limit bytes coming
+        → Undisturbed (FollowsAsked (unasked (opening_of kept users) caller) after.events) WithoutBackup limit bytes coming
         (known_first (opening_of kept users) []) after one
         → IsAlone (opening_of kept users) caller after.events
-        → Undisturbed (FollowsAsked (unasked (opening_of kept users) caller) after'.events) limit bytes coming
+        → Undisturbed (FollowsAsked (unasked (opening_of kept users) caller) after'.events) WithoutBackup limit bytes coming
         (known_first (opening_of kept users) []) after' other
         → IsAlone (opening_of kept users) caller after'.events
         → SeeAlike one.turns other.turns
