@@ -65,7 +65,7 @@ pub(crate) fn ask_rights(
 /// What a line asks of the machine; a load without its text.
 fn command_of(asked: Words0, alloc: Global) -> Command {
     match asked {
-        Words0::Whole(command) => command,
+        Words0::Whole(command) | Words0::Synchronize(command) => command,
         Words0::ShowJson => Command::ShowActive {
             words: Words::new(alloc),
             form: Form::Curly,

@@ -3,11 +3,12 @@
 use crate::asking::say_command;
 use crate::runs::say_session;
 use cfg_base::Moment;
+use commit_ledger::Synced;
 use config_core::{Event, Outcome};
 use reply_text::ShellFault;
 use script_lines::{Text, say, say_bytes, say_counted};
 use session_history::{Happened, History};
-use session_shell::{Turn, TurnList};
+use session_shell::{SyncedTurn, Turn, TurnList};
 
 fn say_seen(out: &mut Text, name: &str, front: u64, moment: Moment) {
     out.put("= turn ");
@@ -22,6 +23,31 @@ fn say_seen(out: &mut Text, name: &str, front: u64, moment: Moment) {
 fn say_denied(out: &mut Text, front: u64, right: &[u8], moment: Moment) {
     say_seen(out, "denied", front, moment);
     say_bytes(out, "lacking", right);
+}
+
+/// So many of so many entries are known to be in the backup's list.
+fn say_behind(out: &mut Text, acknowledged: u64, count: u64) {
+    out.put("= behind ");
+    out.put_number(acknowledged);
+    out.put(" of ");
+    out.put_number(count);
+    out.put("\n");
+}
+
+/// The event of a commit that was to be synchronized, and what is known of the backup's list.
+fn say_synced(out: &mut Text, place: u64, synced: SyncedTurn) {
+    say_counted(out, "turn synchronize event", place);
+    match synced {
+        SyncedTurn::Synced(Synced::All { count }) => say_counted(out, "all", count),
+        SyncedTurn::Synced(
+            Synced::Behind {
+                acknowledged,
+                count,
+            },
+        ) => say_behind(out, acknowledged, count),
+        SyncedTurn::Synced(Synced::Alone) => say(out, "alone"),
+        SyncedTurn::NoMemory => say(out, "no memory"),
+    }
 }
 
 fn say_local(out: &mut Text, fault: &ShellFault) {
@@ -39,6 +65,7 @@ fn say_turn(out: &mut Text, turn: &Turn) {
     match turn {
         Turn::Kept(place) => say_counted(out, "turn event", *place),
         Turn::KeptDry(place) => say_counted(out, "turn dry event", *place),
+        Turn::KeptSynced { place, synced } => say_synced(out, *place, *synced),
         Turn::Seen { front, moment } => say_seen(out, "seen", *front, *moment),
         Turn::SeenDry { front, moment } => say_seen(out, "dry seen", *front, *moment),
         Turn::Denied {

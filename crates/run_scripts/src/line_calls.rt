@@ -23,6 +23,10 @@ fn say_read(alloc: Global, configuring: bool, line: &[u8], out: &mut Text) {
     match read_line(alloc, configuring, line) {
         Ok(None) => say(out, "nothing"),
         Ok(Some(Words0::Whole(command))) => say_command(out, &command),
+        Ok(Some(Words0::Synchronize(command))) => {
+            say(out, "synchronize");
+            say_command(out, &command);
+        }
         Ok(Some(Words0::ShowJson)) => say(out, "show active json"),
         Ok(Some(Words0::NeedsText(way))) => say(out, load_as(way)),
         Ok(Some(Words0::NeedsJson(way))) => say(out, load_json_as(way)),

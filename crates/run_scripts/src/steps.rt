@@ -354,7 +354,7 @@ fn command_of(
     ensures { IfOk result IsSound }
 {
     match read_line(alloc, configuring, line) {
-        Ok(Some(Words0::Whole(command))) => Ok(command),
+        Ok(Some(Words0::Whole(command) | Words0::Synchronize(command))) => Ok(command),
         Ok(Some(Words0::NeedsText(way))) => Ok(Command::Load {
             way,
             text: Bytes::from(kept.take(alloc)),
