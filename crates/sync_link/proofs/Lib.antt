@@ -1,1 +1,6 @@
 mod PairLemmas
+mod ValueLemmas
+mod BackedLemmas
+mod StepLemmas
+mod TakeLemmas
+pub mod LineLemmas
